@@ -1,0 +1,1 @@
+// The numbered lines of a run, as bytes.

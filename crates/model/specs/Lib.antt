@@ -1,0 +1,4 @@
+pub mod State
+pub mod Tests
+pub mod Effects
+pub mod Machine

@@ -1,0 +1,92 @@
+-- The records of a model: what a part holds.
+use mathlib.Core.Bool.{Bool, cond}
+use mathlib.Core.List.{List}
+use Prim.Native.Nat.{ℕ}
+use lib.ListN.{getD, length}
+use lib.Dec.{eqb, ltb}
+use Rattle.numbers.specs.Values.{duration, durationAt, valueAt}
+use Rattle.records.specs.declared.Notation.the-variants as notations
+use Rattle.records.specs.Format.{recordSize, operandAt}
+use Rattle.model_format.specs.declared.Head.{Head}
+use Rattle.model_format.specs.declared.Thread.{Thread}
+use Rattle.model_format.specs.declared.Local.{Local}
+use Rattle.model_format.specs.declared.Connection.{Connection}
+use Rattle.model_format.specs.declared.ModeTransition.{ModeTransition}
+use Rattle.model_format.specs.declared.Transition.{Transition}
+use Rattle.model_format.specs.declared.Atom.{Atom}
+use Rattle.model_format.specs.declared.Assignment.{Assignment}
+use Rattle.model_format.specs.declared.Record.{Record}
+use Rattle.model_format.specs.declared.Record.the-variants.{HeadRecord, ThreadRecord, InputRecord, OutputRecord, LocalRecord, ConnectionRecord, ModeRecord, TransitionRecord, AtomRecord, AssignmentRecord, Cut, Unknown}
+
+-- "01 head: mode count, initial mode, u8 each"
+unfoldable pub headOf : List ℕ → Head
+headOf x = record { modes = getD x 1 0; initial = getD x 2 0 }
+
+-- "02 thread: Period, Deadline, Min, Max as u32; mask, critical, first behaviour state, u8 each"
+unfoldable pub threadOf : List ℕ → Thread
+threadOf x = record {
+  period = durationAt x 1;
+  deadline = durationAt x 5;
+  bcet = durationAt x 9;
+  wcet = durationAt x 13;
+  modes = getD x 17 0;
+  critical = getD x 18 0;
+  first = getD x 19 0;
+}
+
+-- "05 local: owner u8, start i32"
+unfoldable pub localOf : List ℕ → Local
+localOf x = record { owner = getD x 1 0; start = valueAt x 2 }
+
+-- "06 connection: type u8, output port u8, input port u8, mask"
+unfoldable pub connectionOf : List ℕ → Connection
+connectionOf x = record { kind = getD x 1 0; source = getD x 2 0; target = getD x 3 0; modes = getD x 4 0 }
+
+-- "07 mode transition: from, to, u8"; its hyperperiods are set when it is accepted.
+unfoldable pub switchOf : List ℕ → ModeTransition
+switchOf x = record { from = getD x 1 0; to = getD x 2 0; h1 = duration 1; h2 = duration 1 }
+
+-- "08 behaviour transition: thread, from, to, u8"
+unfoldable pub transitionOf : List ℕ → Transition
+transitionOf x = record { thread = getD x 1 0; from = getD x 2 0; to = getD x 3 0; atoms = 0; assignments = 0 }
+
+-- "09 guard atom: op u8, left tag and number u8, right operand"
+unfoldable pub atomOf : List ℕ → Atom
+atomOf x = record { op = getD x 1 0; tag = getD x 2 0; number = getD x 3 0; right = operandAt x 4 }
+
+-- "0A assignment: target tag and number u8, op u8, two operands"
+unfoldable pub assignmentOf : List ℕ → Assignment
+assignmentOf x = record { tag = getD x 1 0; number = getD x 2 0; op = getD x 3 0; first = operandAt x 4; second = operandAt x 9 }
+
+abbrev pub recordOfWhole : ℕ → List ℕ → Record
+recordOfWhole k x =
+    cond (eqb k 1) (HeadRecord (headOf x))
+    (cond (eqb k 2) (ThreadRecord (threadOf x))
+    (cond (eqb k 3) (InputRecord (getD x 1 0))
+    (cond (eqb k 4) (OutputRecord (getD x 1 0))
+    (cond (eqb k 5) (LocalRecord (localOf x))
+    (cond (eqb k 6) (ConnectionRecord (connectionOf x))
+    (cond (eqb k 7) (ModeRecord (switchOf x))
+    (cond (eqb k 8) (TransitionRecord (transitionOf x))
+    (cond (eqb k 9) (AtomRecord (atomOf x)) (AssignmentRecord (assignmentOf x))))))))))
+
+-- the record that a part holds
+unfoldable pub recordOf : List ℕ → Record
+recordOf x =
+    let m = recordSize notations.Model (getD x 0 0) in
+    cond (eqb m 0) Unknown (cond (ltb (length x) m) Cut (recordOfWhole (getD x 0 0) x))
+
+-- the kind byte of a record; 0 for one that has none of its own
+unfoldable pub kindOf : Record → ℕ
+kindOf (HeadRecord x) = 1
+kindOf (ThreadRecord x) = 2
+kindOf (InputRecord o) = 3
+kindOf (OutputRecord o) = 4
+kindOf (LocalRecord x) = 5
+kindOf (ConnectionRecord x) = 6
+kindOf (ModeRecord x) = 7
+kindOf (TransitionRecord x) = 8
+kindOf (AtomRecord x) = 9
+kindOf (AssignmentRecord x) = 10
+kindOf Cut = 0
+kindOf Unknown = 0

@@ -1,0 +1,4 @@
+pub mod Format
+pub mod Model
+pub mod Reading
+pub mod WellFormed

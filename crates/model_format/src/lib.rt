@@ -1,0 +1,145 @@
+// A timing model as bytes: its records, and reading it into a struct.
+
+use numbers::Duration;
+use numbers::Value;
+use records::Operand;
+use records::Refusal;
+
+// Kind 01. Modes are numbered from 0.
+pub struct Head {
+    pub modes: u8,
+    pub initial: u8,
+}
+
+// Kind 02. `bcet` and `wcet` are Min and Max, `modes` the mask of the modes in which the thread is active, `first` its first behaviour
+// state.
+pub struct Thread {
+    pub period: Duration,
+    pub deadline: Duration,
+    pub bcet: Duration,
+    pub wcet: Duration,
+    pub modes: u8,
+    pub critical: u8,
+    pub first: u8,
+}
+
+// Kind 05.
+pub struct Local {
+    pub owner: u8,
+    pub start: Value,
+}
+
+// Kind 06, from output port `source` to input port `target`. `kind` is 0 immediate or 1 delayed.
+pub struct Connection {
+    pub kind: u8,
+    pub source: u16,
+    pub target: u16,
+    pub modes: u8,
+}
+
+// Kind 07, with its two hyperperiods: `h1` of the threads critical in the old mode, `h2` of those critical in both.
+pub struct ModeTransition {
+    pub from: u8,
+    pub to: u8,
+    pub h1: Duration,
+    pub h2: Duration,
+}
+
+// Kind 08, with how many atoms and assignments it has.
+pub struct Transition {
+    pub thread: u8,
+    pub from: u8,
+    pub to: u8,
+    pub atoms: u8,
+    pub assignments: u8,
+}
+
+// Kind 09. The left side is a tag (1 input port, 2 local) and a number.
+pub struct Atom {
+    pub op: u8,
+    pub tag: u8,
+    pub number: u16,
+    pub right: Operand,
+}
+
+// Kind 0A. The target is a tag (2 local, 3 output port) and a number.
+pub struct Assignment {
+    pub tag: u8,
+    pub number: u16,
+    pub op: u8,
+    pub first: Operand,
+    pub second: Operand,
+}
+
+// One record of a model. `Cut`: its body runs past the end. `Unknown`: its kind is no model kind.
+pub enum Record {
+    HeadRecord(Head),
+    ThreadRecord(Thread),
+    InputRecord(u8),
+    OutputRecord(u8),
+    LocalRecord(Local),
+    ConnectionRecord(Connection),
+    ModeRecord(ModeTransition),
+    TransitionRecord(Transition),
+    AtomRecord(Atom),
+    AssignmentRecord(Assignment),
+    Cut,
+    Unknown,
+}
+
+// What the clock, the modes and the connections need of a model. `threads` is how many there are, and `thread` has them; likewise the
+// others. `input` and `output` are the ports' owners.
+pub struct Timing {
+    pub modes: u8,
+    pub initial: u8,
+    pub threads: usize,
+    pub thread: [Thread; 16],
+    pub inputs: usize,
+    pub input: [u8; 32],
+    pub outputs: usize,
+    pub output: [u8; 32],
+    pub locals: usize,
+    pub local: [Local; 32],
+    pub connections: usize,
+    pub connection: [Connection; 32],
+    pub switches: usize,
+    pub switch: [ModeTransition; 16],
+}
+
+// The behaviours. Transition k has the atoms and assignments from 4 k on.
+pub struct Behavior {
+    pub transitions: usize,
+    pub transition: [Transition; 64],
+    pub atom: [Atom; 256],
+    pub assignment: [Assignment; 256],
+}
+
+pub struct Model {
+    pub timing: Timing,
+    pub behavior: Behavior,
+}
+
+// Where a reader stands: the kind of the last record, 0 before the first, and the model so far.
+pub struct Reading {
+    pub last: u8,
+    pub model: Model,
+}
+
+// What is wrong with a record, by cause. `names`, `times` and `ranges` are the faults of single fields: a number that names nothing, a
+// faulty time, any other.
+pub struct Faults {
+    pub order: bool,
+    pub excess: bool,
+    pub names: bool,
+    pub times: bool,
+    pub ranges: bool,
+    pub owner: bool,
+    pub twice: bool,
+    pub hyperperiod: bool,
+}
+
+// What reading gives: the model where nothing is refused, else the empty model.
+pub struct ModelRead {
+    pub refusal: Refusal,
+    pub model: Model,
+}

@@ -1,0 +1,5 @@
+pub mod Lists
+pub mod ListLaws
+pub mod Values
+pub mod ValueLaws
+pub mod Multiples

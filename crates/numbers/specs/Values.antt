@@ -1,0 +1,79 @@
+-- Durations and values: bytes least first, the two readings of 32 bits, sums of VALUEs.
+use mathlib.Core.Bool.{Bool, cond, not}
+use mathlib.Core.List.{List, [], _∷_}
+use Prim.Native.Nat.{ℕ, _+_, _-_, _*_, _/_, _%_, _^_}
+use lib.ListN.{getD}
+use lib.Dec.{eqb, ltb}
+use lib.IntN.{ℤ, pos}
+use lib.Signed.{ltZ}
+use mir.Syntax.{w32}
+use mir.Val.{toZ, ofZ}
+use Rattle.numbers.specs.declared.Duration.{Duration}
+use Rattle.numbers.specs.declared.Value.{Value}
+
+abbrev pub duration : ℕ → Duration
+duration n = record { 0 = n }
+
+abbrev pub value : ℤ → Value
+value z = record { 0 = z }
+
+-- "Integers are least byte first": the numbers at place p
+abbrev pub u16At : List ℕ → ℕ → ℕ
+u16At s p = getD s p 0 + 256 * getD s (p + 1) 0
+
+abbrev pub u32At : List ℕ → ℕ → ℕ
+u32At s p = getD s p 0 + 256 * getD s (p + 1) 0 + 65536 * getD s (p + 2) 0 + 16777216 * getD s (p + 3) 0
+
+-- and their bytes, before the bytes r
+abbrev pub u16To : ℕ → List ℕ → List ℕ
+u16To n r = n % 256 ∷ n / 256 % 256 ∷ r
+
+abbrev pub u32To : ℕ → List ℕ → List ℕ
+u32To n r = n % 256 ∷ n / 256 % 256 ∷ n / 256 / 256 % 256 ∷ n / 256 / 256 / 256 % 256 ∷ r
+
+-- an i32 is held as 32 bits: the number that bits stand for, and the bits of a number
+abbrev pub signed : ℕ → ℤ
+signed n = toZ w32 n
+
+abbrev pub bitsOf : ℤ → ℕ
+bitsOf z = ofZ w32 z
+
+abbrev pub durationAt : List ℕ → ℕ → Duration
+durationAt s p = duration (u32At s p)
+
+abbrev pub valueAt : List ℕ → ℕ → Value
+valueAt s p = value (signed (u32At s p))
+
+-- a natural number as a value
+abbrev pub natural : ℕ → Value
+natural n = value (pos n)
+
+-- "Sums of VALUEs wrap at 32 bits"
+unfoldable pub plus : Value → Value → Value
+plus a b = value (signed ((bitsOf (a .0) + bitsOf (b .0)) % 2 ^ 32))
+
+unfoldable pub minus : Value → Value → Value
+minus a b = value (signed ((bitsOf (a .0) + (2 ^ 32 - bitsOf (b .0))) % 2 ^ 32))
+
+-- "op u8 (0 copy the first, 1 add, 2 subtract)", of model assignments and table updates
+unfoldable pub combine : ℕ → Value → Value → Value
+combine op a b = cond (eqb op 0) a (cond (eqb op 1) (plus a b) (minus a b))
+
+abbrev pub sameValue : Value → Value → Bool
+sameValue a b = eqb (bitsOf (a .0)) (bitsOf (b .0))
+
+abbrev pub lessValue : Value → Value → Bool
+lessValue a b = ltZ (a .0) (b .0)
+
+-- "Guard ops: 0 =, 1 ≠, 2 <, 3 ≥, 4 >, 5 ≤"
+unfoldable pub compares : ℕ → Value → Value → Bool
+compares op a b =
+    cond (eqb op 0) (sameValue a b)
+    (cond (eqb op 1) (not (sameValue a b))
+    (cond (eqb op 2) (lessValue a b)
+    (cond (eqb op 3) (not (lessValue a b))
+    (cond (eqb op 4) (lessValue b a) (not (lessValue b a))))))
+
+-- one more; a counter of 32 bits stays at its last number, which no run from the start reaches
+unfoldable pub oneMore : ℕ → ℕ
+oneMore n = cond (ltb n 4294967295) (n + 1) n

@@ -1,0 +1,49 @@
+-- The refusals: their numbers, and the part that each hands back.
+use mathlib.Core.Bool.{Bool, cond}
+use mathlib.Core.List.{List}
+use Prim.Native.Nat.{ℕ, _-_}
+use lib.ListN.{take, drop}
+use lib.Dec.{eqb}
+use Rattle.records.specs.declared.Cause.{Cause}
+use Rattle.records.specs.declared.Cause.the-variants.{None, CutRecord, WrongKind, TooMany, WrongField, OtherThread, SetTwice, LongHyperperiod, ShortOutput, BrokenEvent, NotEnabled, LastClock, ConflictingRules, InconsistentUpdates}
+use Rattle.records.specs.declared.Holder.{Holder}
+use Rattle.records.specs.declared.Holder.the-variants as holders
+use Rattle.records.specs.declared.Refusal.{Refusal}
+
+-- "Refused records": the number of each cause; 0 where nothing is refused
+unfoldable pub numberOf : Cause → ℕ
+numberOf None = 0
+numberOf CutRecord = 1
+numberOf WrongKind = 2
+numberOf TooMany = 3
+numberOf WrongField = 4
+numberOf OtherThread = 5
+numberOf SetTwice = 6
+numberOf LongHyperperiod = 7
+numberOf ShortOutput = 8
+numberOf BrokenEvent = 9
+numberOf NotEnabled = 10
+numberOf LastClock = 11
+numberOf ConflictingRules = 12
+numberOf InconsistentUpdates = 13
+
+-- nothing is refused
+abbrev pub isNone : Cause → Bool
+isNone c = eqb (numberOf c) 0
+
+abbrev pub inModel : Cause → ℕ → ℕ → Refusal
+inModel c p q = record { cause = c; holder = holders.Model; start = p; end = q }
+
+abbrev pub inScript : Cause → ℕ → ℕ → Refusal
+inScript c p q = record { cause = c; holder = holders.Script; start = p; end = q }
+
+abbrev pub noRefusal : Refusal
+noRefusal = inModel None 0 0
+
+-- "The part refused is handed back from the model or the script, whichever holds it"
+abbrev pub chosenSlice : Holder → List ℕ → List ℕ → List ℕ
+chosenSlice holders.Model m s = m
+chosenSlice holders.Script m s = s
+
+unfoldable pub partOf : Refusal → List ℕ → List ℕ → List ℕ
+partOf r m s = take (r .end - r .start) (drop (r .start) (chosenSlice (r .holder) m s))

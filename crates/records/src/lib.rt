@@ -1,0 +1,288 @@
+// What models, tables and event lists share: the record grammar, the refusals, and events.
+
+use numbers::Value;
+ghost use mathlib.Core.Path.{_≡_};
+ghost use Prim.Native.Nat.{_-_, _≤_, _<_, min};
+ghost use lib.ListN.{take, drop};
+ghost use Rattle.records.specs.declared.Notation.the-variants as notations;
+ghost use Rattle.records.specs.Format.{recordSize, partLength, partLengthAt, isWhole, operandAt};
+ghost use Rattle.records.specs.Refusals.{numberOf, isNone, partOf};
+ghost use Rattle.records.specs.Events.{eventOf, figureOf, isBroken};
+
+// The three languages of records: each has kinds of its own.
+pub enum Notation {
+    Model,
+    Table,
+    Script,
+}
+
+// Why a record or an event is refused; `None` where it is not.
+pub enum Cause {
+    None,
+    CutRecord,
+    WrongKind,
+    TooMany,
+    WrongField,
+    OtherThread,
+    SetTwice,
+    LongHyperperiod,
+    ShortOutput,
+    BrokenEvent,
+    NotEnabled,
+    LastClock,
+    ConflictingRules,
+    InconsistentUpdates,
+}
+
+// Which of the two lent slices holds the part handed back. A table stands for its model.
+pub enum Holder {
+    Model,
+    Script,
+}
+
+// A refusal and its part, `start` up to `end` of the slice that `holder` names.
+pub struct Refusal {
+    pub cause: Cause,
+    pub holder: Holder,
+    pub start: usize,
+    pub end: usize,
+}
+
+// An operand of a model's atom or assignment, or of a table's atom or update.
+pub struct Operand {
+    pub tag: u8,
+    pub value: Value,
+}
+
+// One event: its kind, the thread or mode transition that it names, and START's length or TICK's n.
+pub struct Event {
+    pub kind: u8,
+    pub id: u8,
+    pub amount: u32,
+}
+
+// Record sizes with the kind byte, 0 for an unknown kind.
+fn model_size(k: u8) -> usize
+    ensures { λ r. ⌜ r ≡ recordSize notations.Model k ⌝ }
+{
+    match k {
+        1 => 3,
+        2 => 20,
+        3 => 2,
+        4 => 2,
+        5 => 6,
+        6 => 5,
+        7 => 3,
+        8 => 4,
+        9 => 9,
+        10 => 14,
+        _ => 0,
+    }
+}
+
+fn table_size(k: u8) -> usize
+    ensures { λ r. ⌜ r ≡ recordSize notations.Table k ⌝ }
+{
+    match k {
+        32 => 7,
+        33 => 11,
+        34 => 1,
+        35 => 9,
+        36 => 17,
+        _ => 0,
+    }
+}
+
+fn script_size(k: u8) -> usize
+    ensures { λ r. ⌜ r ≡ recordSize notations.Script k ⌝ }
+{
+    match k {
+        1 => 2,
+        2 => 2,
+        3 => 2,
+        4 => 6,
+        5 => 2,
+        6 => 2,
+        7 => 2,
+        8 => 2,
+        9 => 2,
+        10 => 2,
+        11 => 3,
+        _ => 0,
+    }
+}
+
+pub fn record_size(w: Notation, k: u8) -> usize
+    ensures { λ r. ⌜ r ≡ recordSize w k ⌝ }
+{
+    match w {
+        Notation::Model => model_size(k),
+        Notation::Table => table_size(k),
+        Notation::Script => script_size(k),
+    }
+}
+
+// How many of the n bytes that are left belong to the record whose kind is k.
+pub fn part_length(w: Notation, k: u8, n: usize) -> usize
+    ensures { λ r. ⌜ r ≡ partLength w k n ⌝ }
+{
+    let m = record_size(w, k);
+    if m == 0 { n } else { if n < m { n } else { m } }
+}
+
+// The length of the part that begins at a place; 0 past the end.
+pub fn part_at(w: Notation, s: &[u8], at: usize) -> usize
+    ensures { λ r. ⌜ r ≡ partLengthAt w (now (s .entry)) at ⌝ }
+{
+    if at < s.len() {
+        let k = s[at];
+        part_length(w, k, s.len() - at)
+    } else {
+        0
+    }
+}
+
+pub fn is_whole(w: Notation, x: &[u8]) -> bool
+    ensures { λ r. ⌜ r ≡ isWhole w (now (x .entry)) ⌝ }
+{
+    let k = numbers::byte_at(x, 0);
+    let m = record_size(w, k);
+    if m == 0 { false } else { x.len() == m }
+}
+
+pub fn operand_at(s: &[u8], at: usize) -> Operand
+    ensures { λ r. ⌜ r ≡ operandAt (now (s .entry)) at ⌝ }
+{
+    if at < s.len() {
+        let t = s[at];
+        let v = numbers::value_at(s, at + 1);
+        Operand { tag: t, value: v }
+    } else {
+        let v = numbers::value_of(0);
+        Operand { tag: 0, value: v }
+    }
+}
+
+// The documents' number of a cause.
+pub fn number_of(c: Cause) -> u8
+    ensures { λ r. ⌜ r ≡ numberOf c ⌝ }
+{
+    match c {
+        Cause::None => 0,
+        Cause::CutRecord => 1,
+        Cause::WrongKind => 2,
+        Cause::TooMany => 3,
+        Cause::WrongField => 4,
+        Cause::OtherThread => 5,
+        Cause::SetTwice => 6,
+        Cause::LongHyperperiod => 7,
+        Cause::ShortOutput => 8,
+        Cause::BrokenEvent => 9,
+        Cause::NotEnabled => 10,
+        Cause::LastClock => 11,
+        Cause::ConflictingRules => 12,
+        Cause::InconsistentUpdates => 13,
+    }
+}
+
+pub fn is_none(c: Cause) -> bool
+    ensures { λ r. ⌜ r ≡ isNone c ⌝ }
+{
+    number_of(c) == 0
+}
+
+fn smaller(a: usize, b: usize) -> usize
+    ensures { λ r. ⌜ r ≡ min a b ⌝ }
+{
+    if a < b { a } else { b }
+}
+
+// Bytes a up to e, as far as the slice has them: both places are drawn in before the part is made.
+fn part_between(s: &[u8], a: usize, e: usize) -> &[u8]
+    ensures { λ p. ⌜ now p ≡ take (e - a) (drop a (now (s .entry))) ⌝ }
+{
+    let n = s.len();
+    let end = smaller(e, n);
+    let start = smaller(a, end);
+    &s[start..end]
+}
+
+// The part refused, from the slice that holds it.
+pub fn part_of<'a>(m: &'a [u8], s: &'a [u8], r: Refusal) -> &'a [u8]
+    ensures { λ p. ⌜ now p ≡ partOf r (now (m .entry)) (now (s .entry)) ⌝ }
+{
+    let a = r.start;
+    let e = r.end;
+    let h = r.holder;
+    match h {
+        Holder::Model => part_between(m, a, e),
+        Holder::Script => part_between(s, a, e),
+    }
+}
+
+fn wide16(n: u16) -> u32
+    ensures { λ r. ⌜ r ≡ n ⌝ }
+{
+    n as u32
+}
+
+// The event that a part holds; one of kind 0 where the part is no whole record.
+pub fn event_of(x: &[u8]) -> Event
+    ensures { λ r. ⌜ r ≡ eventOf (now (x .entry)) ⌝ }
+{
+    let w = Notation::Script;
+    if !is_whole(w, x) {
+        return Event {
+            kind: 0,
+            id: 0,
+            amount: 0,
+        };
+    }
+    let k = numbers::byte_at(x, 0);
+    if k == 11 {
+        let n = wide16(numbers::u16_at(x, 1));
+        return Event {
+            kind: k,
+            id: 0,
+            amount: n,
+        };
+    }
+    let i = numbers::byte_at(x, 1);
+    if k == 4 {
+        let n = numbers::u32_at(x, 2);
+        return Event {
+            kind: k,
+            id: i,
+            amount: n,
+        };
+    }
+    Event {
+        kind: k,
+        id: i,
+        amount: 0,
+    }
+}
+
+// The last figure of an event's line: the id, or TICK's n.
+pub fn figure_of(e: Event) -> u32
+    ensures { λ r. ⌜ r ≡ figureOf e ⌝ }
+{
+    let k = e.kind;
+    if k == 11 {
+        e.amount
+    } else {
+        let i = e.id;
+        i as u32
+    }
+}
+
+// Cut, of an unknown kind, or a TICK of none.
+pub fn is_broken(e: Event) -> bool
+    ensures { λ r. ⌜ r ≡ isBroken e ⌝ }
+{
+    let k = e.kind;
+    let n = e.amount;
+    let w = Notation::Script;
+    let m = record_size(w, k);
+    (m == 0) | ((k == 11) & (n == 0))
+}

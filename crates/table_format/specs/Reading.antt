@@ -1,0 +1,103 @@
+-- Reading a table: causes 1 to 4, at the first bad record.
+use mathlib.Core.Bool.{Bool, true, false, cond, _&&_, _||_}
+use mathlib.Core.List.{List, [], _∷_}
+use Prim.Native.Nat.{ℕ, _+_}
+use lib.ListN.{length}
+use lib.Dec.{eqb, ltb, leb}
+use lib.IntN.{ℤ, pos}
+use lib.Signed.{ltZ, leZ}
+use Rattle.numbers.specs.declared.Value.{Value}
+use Rattle.records.specs.declared.Notation.the-variants as notations
+use Rattle.records.specs.declared.Operand.{Operand}
+use Rattle.records.specs.declared.Cause.{Cause}
+use Rattle.records.specs.declared.Cause.the-variants.{None, CutRecord, WrongKind, TooMany, WrongField}
+use Rattle.records.specs.declared.Refusal.{Refusal}
+use Rattle.records.specs.Format.{parts}
+use Rattle.records.specs.Refusals.{isNone, inModel, noRefusal}
+use Rattle.records.specs.Events.{startKind}
+use Rattle.table_format.specs.declared.InitialValue.{InitialValue}
+use Rattle.table_format.specs.declared.RuleHead.{RuleHead}
+use Rattle.table_format.specs.declared.Atom.{Atom}
+use Rattle.table_format.specs.declared.Update.{Update}
+use Rattle.table_format.specs.declared.Context.{Context}
+use Rattle.table_format.specs.declared.Record.{Record}
+use Rattle.table_format.specs.declared.Record.the-variants.{Initial, Head, Clause, Atomic, Change, Cut, Unknown}
+use Rattle.table_format.specs.Variables.{isVariable, variables, noVariable}
+use Rattle.table_format.specs.Format.{recordOf}
+
+-- ---- fields
+-- the number of a variable that is there
+abbrev pub namesVariable : ℤ → Bool
+namesVariable z = leZ (pos 0) z && ltZ z (pos variables)
+
+-- "Operands, checked likewise, have tag 0 constant, 1 variable, 2 chosen length (only in updates of START rules)"; the number behind
+-- the chosen length is free.
+unfoldable pub operandFits : Bool → Operand → Bool
+operandFits mayChoose o = cond (eqb (o .tag) 0) true (cond (eqb (o .tag) 1) (namesVariable (o .value .0)) (mayChoose && eqb (o .tag) 2))
+
+-- "variables rising (else 4)", "Variable 0 is neither started nor updated."
+unfoldable pub initialFits : ℕ → InitialValue → Bool
+initialFits least x = leb least (x .variable) && isVariable (x .variable)
+
+-- "event kind (01 to 0A)", "low, high u32 (0 but for START; low ≤ high ≤ 1,000,000)"
+unfoldable pub headFits : RuleHead → Bool
+headFits h =
+    leb 1 (h .kind) && (leb (h .kind) 10 && (leb (h .low) (h .high) && leb (h .high) (cond (eqb (h .kind) startKind) 1000000 0)))
+
+-- "Ops 6 and 7: (not) a multiple of a constant above 0."
+unfoldable pub atomFits : Atom → Bool
+atomFits a =
+    ltb (a .op) 8 && (isVariable (a .variable) &&
+    cond (ltb (a .op) 6) (operandFits false (a .right)) (eqb (a .right .tag) 0 && ltZ (pos 0) (a .right .value .0)))
+
+-- "condition variable u16 (65,535 none)", "op u8 as in 0A"; kind is the event kind of the rule.
+unfoldable pub updateFits : ℕ → Update → Bool
+updateFits kind u =
+    (eqb (u .condition) noVariable || isVariable (u .condition)) &&
+    (ltb 0 (u .target) && (isVariable (u .target) && (ltb (u .op) 3 &&
+    (operandFits (eqb kind startKind) (u .first) && operandFits (eqb kind startKind) (u .second)))))
+
+-- ---- order
+abbrev pub begin : Context
+begin = record { place = 0; least = 1; kind = 0 }
+
+-- "kind unknown or out of order" before "other field outside its range"
+abbrev pub judged : Bool → Bool → Cause
+judged inOrder fits = cond inOrder (cond fits None WrongField) WrongKind
+
+-- "all before rules"; "A rule is 21, clauses with their atoms, updates."
+unfoldable pub causeOf : Context → Record → Cause
+causeOf c (Initial x) = judged (eqb (c .place) 0) (initialFits (c .least) x)
+causeOf c (Head h) = judged true (headFits h)
+causeOf c Clause = judged (eqb (c .place) 1 || eqb (c .place) 2) true
+causeOf c (Atomic a) = judged (eqb (c .place) 2) (atomFits a)
+causeOf c (Change u) = judged (ltb 0 (c .place)) (updateFits (c .kind) u)
+causeOf c Cut = CutRecord
+causeOf c Unknown = WrongKind
+
+unfoldable pub nextContext : Context → Record → Context
+nextContext c (Initial x) = record { place = 0; least = x .variable + 1; kind = c .kind }
+nextContext c (Head h) = record { place = 1; least = c .least; kind = h .kind }
+nextContext c Clause = record { place = 2; least = c .least; kind = c .kind }
+nextContext c (Atomic a) = record { place = 2; least = c .least; kind = c .kind }
+nextContext c (Change u) = record { place = 3; least = c .least; kind = c .kind }
+nextContext c Cut = c
+nextContext c Unknown = c
+
+-- "The first bad record decides": the parts from place p on
+unfoldable pub readFrom : Context → ℕ → List (List ℕ) → Refusal
+readFrom c p [] = noRefusal
+readFrom c p (x ∷ l) =
+    let k = causeOf c (recordOf x) in
+    let r = readFrom (nextContext c (recordOf x)) (p + length x) l in
+    cond (isNone k) r (inModel k p (p + length x))
+
+-- "A table is at most 1,000,000 bytes."
+abbrev pub longestTable : ℕ
+longestTable = 1000000
+
+-- "A table too long hands back its whole, before any record is read."
+unfoldable pub readTable : List ℕ → Refusal
+readTable s =
+    let r = readFrom begin 0 (parts notations.Table s) in
+    cond (ltb longestTable (length s)) (inModel TooMany 0 (length s)) r

@@ -1,0 +1,4 @@
+pub mod Shown
+pub mod Parts
+pub mod Rules
+pub mod Translate

@@ -1,0 +1,30 @@
+//! A plain implementation of document 01, "Pad timing models and their rule
+//! tables".
+//!
+//! It reads a timing model from bytes, runs event lists on it, translates it
+//! into a rule table, reads rule tables from bytes and runs event lists on
+//! them. It is written from document 01 alone, sentence by sentence, and seeks
+//! neither speed nor elegance: each function does what one sentence says, and
+//! its comment names that sentence in other words. Another implementation can
+//! be tested against it, since the two share no line.
+//!
+//! * [`bytes`]: readers of integers, least byte first, and the extent of a record
+//! * [`refusal`]: the numbers of the causes, and the part handed back
+//! * [`script`]: reading events, and runs that stop at or go on after refusals
+//! * [`model`]: reading a model, and the model's machine
+//! * [`table`]: reading and writing a table, and the table's machine
+//! * [`translate`]: the table made from a model
+//! * [`listing`]: the lines that the programs `steps` and `rules` print
+//! * [`show`]: a state of the model written as the table's variables
+//!
+//! Reading is total: any bytes at all give either an accepted model, table or
+//! event, or a refusal.
+
+pub mod bytes;
+pub mod listing;
+pub mod model;
+pub mod refusal;
+pub mod script;
+pub mod show;
+pub mod table;
+pub mod translate;

@@ -1,0 +1,468 @@
+//! Reading a model from bytes.
+
+use super::{
+    holds_mode, Assignment, BehaviorTransition, Connection, Duration, GuardAtom, Local,
+    ModeTransition, Model, Operand, Port, Target, Thread, Timing, Value,
+};
+use crate::bytes::{extent, i32_at, operand_at, u32_at, u8_at, Extent};
+use crate::refusal::{Refusal, CUT, HYPERPERIOD, ORDER, OWNER, RANGE, TOO_MANY, TWICE};
+use crate::script::LAST_NOW;
+
+const HEAD: u8 = 0x01;
+const THREAD: u8 = 0x02;
+const INPUT_PORT: u8 = 0x03;
+const OUTPUT_PORT: u8 = 0x04;
+const LOCAL: u8 = 0x05;
+const CONNECTION: u8 = 0x06;
+const MODE_TRANSITION: u8 = 0x07;
+const BEHAVIOR_TRANSITION: u8 = 0x08;
+const GUARD_ATOM: u8 = 0x09;
+const ASSIGNMENT: u8 = 0x0A;
+
+/// The tag of a local, as an operand, a left side or a target.
+const TAG_LOCAL: u8 = 2;
+/// The tag of an output port as a target.
+const TAG_OUTPUT_PORT: u8 = 3;
+
+/// The greatest figure of Period, Deadline, Min and Max.
+const LONGEST: u32 = 1_000_000;
+
+/// The body length of each model kind.
+fn body_length(kind: u8) -> Option<usize> {
+    match kind {
+        HEAD => Some(2),
+        THREAD => Some(19),
+        INPUT_PORT | OUTPUT_PORT => Some(1),
+        LOCAL => Some(5),
+        CONNECTION => Some(4),
+        MODE_TRANSITION => Some(2),
+        BEHAVIOR_TRANSITION => Some(3),
+        GUARD_ATOM => Some(8),
+        ASSIGNMENT => Some(13),
+        _ => None,
+    }
+}
+
+/// Reads a model up to its end or to a record with a cause against it. With no
+/// record at all there is no head, and the part is empty.
+pub fn read(bytes: &[u8]) -> Result<Model, Refusal> {
+    if bytes.is_empty() {
+        return Err(Refusal {
+            number: ORDER,
+            start: 0,
+            end: 0,
+        });
+    }
+    let mut model = Model::default();
+    let mut previous = None;
+    let mut start = 0;
+    while start < bytes.len() {
+        let kind = bytes[start];
+        let end = match extent(bytes, start, body_length(kind)) {
+            Extent::Whole(end) => end,
+            Extent::Cut => {
+                return Err(Refusal {
+                    number: CUT,
+                    start,
+                    end: bytes.len(),
+                })
+            }
+            Extent::Unknown => {
+                return Err(Refusal {
+                    number: ORDER,
+                    start,
+                    end: bytes.len(),
+                })
+            }
+        };
+        let body = &bytes[start + 1..end];
+        if let Some(number) = cause(&model, previous, kind, body) {
+            return Err(Refusal { number, start, end });
+        }
+        add(&mut model, kind, body);
+        previous = Some(kind);
+        start = end;
+    }
+    Ok(model)
+}
+
+/// The first cause, in the order of the table of refusals, against a whole
+/// record that would follow what was read so far.
+fn cause(model: &Model, previous: Option<u8>, kind: u8, body: &[u8]) -> Option<u8> {
+    if !in_order(previous, kind) {
+        Some(ORDER)
+    } else if one_too_many(model, kind) {
+        Some(TOO_MANY)
+    } else if !in_range(model, kind, body) {
+        Some(RANGE)
+    } else if of_another_thread(model, kind, body) {
+        Some(OWNER)
+    } else if twice(model, kind, body) {
+        Some(TWICE)
+    } else if hyperperiod_too_long(model, kind, body) {
+        Some(HYPERPERIOD)
+    } else {
+        None
+    }
+}
+
+/// One head, first; kinds up to 08 never fall; atoms and assignments stand
+/// behind a behaviour transition, the atoms before the assignments.
+fn in_order(previous: Option<u8>, kind: u8) -> bool {
+    match (previous, kind) {
+        (None, _) => kind == HEAD,
+        (Some(_), HEAD) => false,
+        (Some(previous), GUARD_ATOM) => matches!(previous, BEHAVIOR_TRANSITION | GUARD_ATOM),
+        (Some(previous), ASSIGNMENT) => {
+            matches!(previous, BEHAVIOR_TRANSITION | GUARD_ATOM | ASSIGNMENT)
+        }
+        (Some(GUARD_ATOM | ASSIGNMENT), _) => kind == BEHAVIOR_TRANSITION,
+        (Some(previous), _) => kind >= previous,
+    }
+}
+
+/// Whether the greatest count of this kind was reached before.
+fn one_too_many(model: &Model, kind: u8) -> bool {
+    let last = model.behavior_transitions.last();
+    match kind {
+        THREAD => model.threads.len() == 16,
+        INPUT_PORT => model.input_ports.len() == 32,
+        OUTPUT_PORT => model.output_ports.len() == 32,
+        LOCAL => model.locals.len() == 32,
+        CONNECTION => model.connections.len() == 32,
+        MODE_TRANSITION => model.mode_transitions.len() == 16,
+        BEHAVIOR_TRANSITION => model.behavior_transitions.len() == 64,
+        GUARD_ATOM => last.is_some_and(|transition| transition.guard.len() == 4),
+        ASSIGNMENT => last.is_some_and(|transition| transition.assignments.len() == 4),
+        _ => false,
+    }
+}
+
+/// Whether every field lies in its range and names something.
+fn in_range(model: &Model, kind: u8, body: &[u8]) -> bool {
+    match kind {
+        HEAD => head_in_range(body),
+        THREAD => thread_in_range(model, body),
+        INPUT_PORT | OUTPUT_PORT | LOCAL => names_thread(model, u8_at(body, 0)),
+        CONNECTION => connection_in_range(model, body),
+        MODE_TRANSITION => names_mode(model, u8_at(body, 0)) && names_mode(model, u8_at(body, 1)),
+        BEHAVIOR_TRANSITION => {
+            names_thread(model, u8_at(body, 0)) && u8_at(body, 1) <= 7 && u8_at(body, 2) <= 7
+        }
+        GUARD_ATOM => guard_atom_in_range(model, body),
+        ASSIGNMENT => assignment_in_range(model, body),
+        _ => false,
+    }
+}
+
+/// One to eight modes, the initial one among them.
+fn head_in_range(body: &[u8]) -> bool {
+    let (mode_count, initial_mode) = (u8_at(body, 0), u8_at(body, 1));
+    (1..=8).contains(&mode_count) && initial_mode < mode_count
+}
+
+/// The two chains of bounds on the four figures, the mask, the critical mark
+/// and the first behaviour state.
+fn thread_in_range(model: &Model, body: &[u8]) -> bool {
+    let (period, deadline) = (u32_at(body, 0), u32_at(body, 4));
+    let (bcet, wcet) = (u32_at(body, 8), u32_at(body, 12));
+    let (mode_mask, critical, state) = (u8_at(body, 16), u8_at(body, 17), u8_at(body, 18));
+    1 <= deadline
+        && deadline <= period
+        && period <= LONGEST
+        && 1 <= bcet
+        && bcet <= wcet
+        && wcet <= LONGEST
+        && names_modes(model, mode_mask)
+        && critical <= 1
+        && state <= 7
+}
+
+fn connection_in_range(model: &Model, body: &[u8]) -> bool {
+    u8_at(body, 0) <= 1
+        && usize::from(u8_at(body, 1)) < model.output_ports.len()
+        && usize::from(u8_at(body, 2)) < model.input_ports.len()
+        && names_modes(model, u8_at(body, 3))
+}
+
+fn guard_atom_in_range(model: &Model, body: &[u8]) -> bool {
+    let (left_tag, left_number) = left_side_at(body, 1);
+    u8_at(body, 0) <= 5
+        && left_tag != 0
+        && operand_in_range(model, left_tag, left_number)
+        && operand_at_in_range(model, body, 3)
+}
+
+fn assignment_in_range(model: &Model, body: &[u8]) -> bool {
+    let (target_tag, target_number) = (u8_at(body, 0), usize::from(u8_at(body, 1)));
+    let target_named = match target_tag {
+        TAG_LOCAL => target_number < model.locals.len(),
+        TAG_OUTPUT_PORT => target_number < model.output_ports.len(),
+        _ => false,
+    };
+    target_named
+        && u8_at(body, 2) <= 2
+        && operand_at_in_range(model, body, 3)
+        && operand_at_in_range(model, body, 8)
+}
+
+fn names_thread(model: &Model, number: u8) -> bool {
+    usize::from(number) < model.threads.len()
+}
+
+fn names_mode(model: &Model, mode: u8) -> bool {
+    mode < model.mode_count
+}
+
+/// Whether each mode of a mask exists; an empty mask is fine.
+fn names_modes(model: &Model, mode_mask: u8) -> bool {
+    (0..8).all(|mode| !holds_mode(mode_mask, mode) || names_mode(model, mode))
+}
+
+/// The left side of an atom: a tag and a number of one byte each.
+fn left_side_at(body: &[u8], at: usize) -> (u8, i32) {
+    (u8_at(body, at), i32::from(u8_at(body, at + 1)))
+}
+
+/// An operand is checked whether it is used or not.
+fn operand_at_in_range(model: &Model, body: &[u8], at: usize) -> bool {
+    let (tag, number) = operand_at(body, at);
+    operand_in_range(model, tag, number)
+}
+
+fn operand_in_range(model: &Model, tag: u8, number: i32) -> bool {
+    match tag {
+        0 => true,
+        1 => names_item(number, model.input_ports.len()),
+        TAG_LOCAL => names_item(number, model.locals.len()),
+        _ => false,
+    }
+}
+
+fn names_item(number: i32, count: usize) -> bool {
+    usize::try_from(number).is_ok_and(|number| number < count)
+}
+
+/// Whether an atom or assignment, all its fields in range, names a port or
+/// local that its transition's thread does not own.
+fn of_another_thread(model: &Model, kind: u8, body: &[u8]) -> bool {
+    let thread = match model.behavior_transitions.last() {
+        Some(transition) => transition.thread,
+        None => return false,
+    };
+    let foreign = |operand| operand_owner(model, operand).is_some_and(|owner| owner != thread);
+    match kind {
+        GUARD_ATOM => {
+            let atom = guard_atom(body);
+            foreign(atom.left) || foreign(atom.right)
+        }
+        ASSIGNMENT => {
+            let assignment = assignment(body);
+            target_owner(model, assignment.target) != thread
+                || foreign(assignment.first)
+                || foreign(assignment.second)
+        }
+        _ => false,
+    }
+}
+
+fn operand_owner(model: &Model, operand: Operand) -> Option<usize> {
+    match operand {
+        Operand::Constant(_) => None,
+        Operand::InputPort(number) => Some(model.input_ports[number].owner),
+        Operand::Local(number) => Some(model.locals[number].owner),
+    }
+}
+
+fn target_owner(model: &Model, target: Target) -> usize {
+    match target {
+        Target::Local(number) => model.locals[number].owner,
+        Target::OutputPort(number) => model.output_ports[number].owner,
+    }
+}
+
+/// Whether a connection meets an input port again, whatever the masks, or an
+/// assignment a target of its transition again.
+fn twice(model: &Model, kind: u8, body: &[u8]) -> bool {
+    match (kind, model.behavior_transitions.last()) {
+        (CONNECTION, _) => {
+            let input_port = connection(body).input_port;
+            model
+                .connections
+                .iter()
+                .any(|earlier| earlier.input_port == input_port)
+        }
+        (ASSIGNMENT, Some(transition)) => {
+            let target = assignment(body).target;
+            transition
+                .assignments
+                .iter()
+                .any(|earlier| earlier.target == target)
+        }
+        _ => false,
+    }
+}
+
+/// Whether H1 or H2 of a mode transition lies over the last clock.
+fn hyperperiod_too_long(model: &Model, kind: u8, body: &[u8]) -> bool {
+    let (from, to) = (u8_at(body, 0), u8_at(body, 1));
+    kind == MODE_TRANSITION
+        && (hyperperiod_old(model, from).is_none() || hyperperiod_common(model, from, to).is_none())
+}
+
+/// H1: over the critical threads that the old mode has.
+fn hyperperiod_old(model: &Model, from: u8) -> Option<Duration> {
+    hyperperiod(&model.threads, |thread| holds_mode(thread.mode_mask, from))
+}
+
+/// H2: over the critical threads that both modes have.
+fn hyperperiod_common(model: &Model, from: u8, to: u8) -> Option<Duration> {
+    hyperperiod(&model.threads, |thread| {
+        holds_mode(thread.mode_mask, from) && holds_mode(thread.mode_mask, to)
+    })
+}
+
+/// The hyperperiod of the chosen critical threads: their periods' least common
+/// multiple, so 1 without any; `None` where it lies over the last clock.
+pub fn hyperperiod(threads: &[Thread], chosen: impl Fn(&Thread) -> bool) -> Option<Duration> {
+    let mut multiple = 1;
+    for thread in threads {
+        if thread.critical && chosen(thread) {
+            multiple = least_common_multiple(multiple, thread.period.0);
+            if multiple > u64::from(LAST_NOW) {
+                return None;
+            }
+        }
+    }
+    Some(Duration(multiple))
+}
+
+fn least_common_multiple(a: u64, b: u64) -> u64 {
+    a / greatest_common_divisor(a, b) * b
+}
+
+fn greatest_common_divisor(a: u64, b: u64) -> u64 {
+    if b == 0 {
+        a
+    } else {
+        greatest_common_divisor(b, a % b)
+    }
+}
+
+/// Puts a record with no cause against it into the model.
+fn add(model: &mut Model, kind: u8, body: &[u8]) {
+    match kind {
+        HEAD => {
+            model.mode_count = u8_at(body, 0);
+            model.initial_mode = u8_at(body, 1);
+        }
+        THREAD => model.threads.push(thread(body)),
+        INPUT_PORT => model.input_ports.push(Port {
+            owner: usize::from(u8_at(body, 0)),
+        }),
+        OUTPUT_PORT => model.output_ports.push(Port {
+            owner: usize::from(u8_at(body, 0)),
+        }),
+        LOCAL => model.locals.push(local(body)),
+        CONNECTION => model.connections.push(connection(body)),
+        MODE_TRANSITION => {
+            let mode_transition = mode_transition(model, body);
+            model.mode_transitions.push(mode_transition);
+        }
+        BEHAVIOR_TRANSITION => model.behavior_transitions.push(behavior_transition(body)),
+        GUARD_ATOM => {
+            if let Some(transition) = model.behavior_transitions.last_mut() {
+                transition.guard.push(guard_atom(body));
+            }
+        }
+        ASSIGNMENT => {
+            if let Some(transition) = model.behavior_transitions.last_mut() {
+                transition.assignments.push(assignment(body));
+            }
+        }
+        _ => {}
+    }
+}
+
+fn thread(body: &[u8]) -> Thread {
+    let figure = |at| Duration(u64::from(u32_at(body, at)));
+    Thread {
+        period: figure(0),
+        deadline: figure(4),
+        bcet: figure(8),
+        wcet: figure(12),
+        mode_mask: u8_at(body, 16),
+        critical: u8_at(body, 17) == 1,
+        first_behavior_state: u8_at(body, 18),
+    }
+}
+
+fn local(body: &[u8]) -> Local {
+    Local {
+        owner: usize::from(u8_at(body, 0)),
+        start: Value(i32_at(body, 1)),
+    }
+}
+
+fn connection(body: &[u8]) -> Connection {
+    Connection {
+        timing: if u8_at(body, 0) == 0 {
+            Timing::Immediate
+        } else {
+            Timing::Delayed
+        },
+        output_port: usize::from(u8_at(body, 1)),
+        input_port: usize::from(u8_at(body, 2)),
+        mode_mask: u8_at(body, 3),
+    }
+}
+
+fn mode_transition(model: &Model, body: &[u8]) -> ModeTransition {
+    let (from, to) = (u8_at(body, 0), u8_at(body, 1));
+    ModeTransition {
+        from,
+        to,
+        hyperperiod_old: hyperperiod_old(model, from).unwrap_or(Duration(1)),
+        hyperperiod_common: hyperperiod_common(model, from, to).unwrap_or(Duration(1)),
+    }
+}
+
+fn behavior_transition(body: &[u8]) -> BehaviorTransition {
+    BehaviorTransition {
+        thread: usize::from(u8_at(body, 0)),
+        from: u8_at(body, 1),
+        to: u8_at(body, 2),
+        guard: Vec::new(),
+        assignments: Vec::new(),
+    }
+}
+
+fn guard_atom(body: &[u8]) -> GuardAtom {
+    GuardAtom {
+        op: u8_at(body, 0),
+        left: operand(left_side_at(body, 1)),
+        right: operand(operand_at(body, 3)),
+    }
+}
+
+fn assignment(body: &[u8]) -> Assignment {
+    let number = usize::from(u8_at(body, 1));
+    Assignment {
+        target: match u8_at(body, 0) {
+            TAG_LOCAL => Target::Local(number),
+            _ => Target::OutputPort(number),
+        },
+        op: u8_at(body, 2),
+        first: operand(operand_at(body, 3)),
+        second: operand(operand_at(body, 8)),
+    }
+}
+
+/// An operand that is known to be in range.
+fn operand((tag, number): (u8, i32)) -> Operand {
+    match tag {
+        0 => Operand::Constant(Value(number)),
+        1 => Operand::InputPort(number as usize),
+        _ => Operand::Local(number as usize),
+    }
+}

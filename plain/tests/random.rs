@@ -1,0 +1,444 @@
+//! Random models and event lists with a fixed seed: a model and its table give
+//! the same answers, parts and variables all along, and reading never fails
+//! otherwise than by a refusal.
+
+mod common;
+
+use common::simulation;
+use plain::model::{self, Model, State};
+use plain::script::{
+    read_event, run_on, Event, ACTIVATE, COMPLETE, DEACTIVATE, DEADLINE, DISPATCH, ENTER, LEAVE,
+    MISS, REQUEST, START, TICK,
+};
+use plain::table::{self, LONGEST_TABLE};
+use plain::translate::translate;
+
+/// Marsaglia's xorshift generator of 64 bits.
+struct Random(u64);
+
+impl Random {
+    fn next(&mut self) -> u64 {
+        self.0 ^= self.0 << 13;
+        self.0 ^= self.0 >> 7;
+        self.0 ^= self.0 << 17;
+        self.0
+    }
+
+    /// A number below `bound`, which is above 0.
+    fn below(&mut self, bound: usize) -> usize {
+        ((self.next() >> 33) % bound as u64) as usize
+    }
+
+    /// A number from `low` to `high`.
+    fn within(&mut self, low: usize, high: usize) -> usize {
+        low + self.below(high - low + 1)
+    }
+
+    /// True in `percent` of all calls.
+    fn chance(&mut self, percent: usize) -> bool {
+        self.below(100) < percent
+    }
+
+    fn one_of<T: Copy>(&mut self, choices: &[T]) -> T {
+        choices[self.below(choices.len())]
+    }
+}
+
+// Random models
+
+/// What is drawn of a model before its behaviour.
+struct Draft {
+    modes: usize,
+    threads: usize,
+    input_owners: Vec<usize>,
+    output_owners: Vec<usize>,
+    local_owners: Vec<usize>,
+    bytes: Vec<u8>,
+}
+
+fn random_model(random: &mut Random) -> Vec<u8> {
+    let mut draft = random_items(random);
+    random_connections(random, &mut draft);
+    if random.chance(75) {
+        for _ in 0..random.within(1, 6) {
+            let (from, to) = (random.below(draft.modes), random.below(draft.modes));
+            draft.bytes.extend([0x07, from as u8, to as u8]);
+        }
+    }
+    for _ in 0..random.below(9) {
+        random_behavior_transition(random, &mut draft);
+    }
+    draft.bytes
+}
+
+/// Head, threads, ports and locals.
+fn random_items(random: &mut Random) -> Draft {
+    let modes = random.one_of(&[1, 2, 2, 2, 3, 8]);
+    let threads = random.within(1, 4);
+    let mut bytes = vec![0x01, modes as u8, random.below(modes) as u8];
+    for _ in 0..threads {
+        random_thread(random, modes, &mut bytes);
+    }
+    let mut owners = |most: usize| -> Vec<usize> {
+        (0..random.below(most + 1))
+            .map(|_| random.below(threads))
+            .collect()
+    };
+    let (input_owners, output_owners, local_owners) = (owners(6), owners(5), owners(4));
+    bytes.extend(input_owners.iter().flat_map(|&owner| [0x03, owner as u8]));
+    bytes.extend(output_owners.iter().flat_map(|&owner| [0x04, owner as u8]));
+    for &owner in &local_owners {
+        bytes.extend([0x05, owner as u8]);
+        bytes.extend(random_value(random).to_le_bytes());
+    }
+    Draft {
+        modes,
+        threads,
+        input_owners,
+        output_owners,
+        local_owners,
+        bytes,
+    }
+}
+
+fn random_thread(random: &mut Random, modes: usize, bytes: &mut Vec<u8>) {
+    let period = random.one_of(&[1, 2, 2, 3, 4, 4, 6, 8]);
+    let deadline = if random.chance(40) {
+        period
+    } else {
+        random.within(1, period)
+    };
+    let bcet = random.within(1, 2);
+    let wcet = bcet + random.below(3);
+    bytes.push(0x02);
+    for figure in [period, deadline, bcet, wcet] {
+        bytes.extend((figure as u32).to_le_bytes());
+    }
+    bytes.extend([
+        random_mask(random, modes),
+        random.below(2) as u8,
+        random.below(3) as u8,
+    ]);
+}
+
+/// Masks hold many modes, so that something happens.
+fn random_mask(random: &mut Random, modes: usize) -> u8 {
+    (0..modes)
+        .filter(|_| random.chance(65))
+        .map(|mode| 1 << mode)
+        .sum()
+}
+
+fn random_value(random: &mut Random) -> i32 {
+    random.one_of(&[0, 1, 2, 3, -1, -2, 255, i32::MAX, i32::MIN])
+}
+
+/// Most input ports are fed by some output port, by no more than one.
+fn random_connections(random: &mut Random, draft: &mut Draft) {
+    for input_port in 0..draft.input_owners.len() {
+        if !draft.output_owners.is_empty() && random.chance(80) {
+            let output_port = random.below(draft.output_owners.len());
+            let timing = random.below(2) as u8;
+            let mode_mask = random_mask(random, draft.modes);
+            draft
+                .bytes
+                .extend([0x06, timing, output_port as u8, input_port as u8, mode_mask]);
+        }
+    }
+}
+
+fn random_behavior_transition(random: &mut Random, draft: &mut Draft) {
+    let thread = random.below(draft.threads);
+    let (from, to) = (random.below(3) as u8, random.below(3) as u8);
+    draft.bytes.extend([0x08, thread as u8, from, to]);
+    let readable = readable_of(draft, thread);
+    if !readable.is_empty() {
+        for _ in 0..random.below(3) {
+            let (tag, number) = random.one_of(&readable);
+            draft
+                .bytes
+                .extend([0x09, random.below(6) as u8, tag, number]);
+            random_operand(random, &readable, &mut draft.bytes);
+        }
+    }
+    let mut targets = targets_of(draft, thread);
+    for _ in 0..random.below(4) {
+        if targets.is_empty() {
+            break;
+        }
+        let (tag, number) = targets.swap_remove(random.below(targets.len()));
+        draft
+            .bytes
+            .extend([0x0A, tag, number, random.below(3) as u8]);
+        random_operand(random, &readable, &mut draft.bytes);
+        random_operand(random, &readable, &mut draft.bytes);
+    }
+}
+
+/// The thread's input ports and locals, as tags and numbers.
+fn readable_of(draft: &Draft, thread: usize) -> Vec<(u8, u8)> {
+    let mut items = owned(1, &draft.input_owners, thread);
+    items.extend(owned(2, &draft.local_owners, thread));
+    items
+}
+
+/// The thread's locals and output ports, as tags and numbers.
+fn targets_of(draft: &Draft, thread: usize) -> Vec<(u8, u8)> {
+    let mut items = owned(2, &draft.local_owners, thread);
+    items.extend(owned(3, &draft.output_owners, thread));
+    items
+}
+
+fn owned(tag: u8, owners: &[usize], thread: usize) -> Vec<(u8, u8)> {
+    (0..owners.len())
+        .filter(|&item| owners[item] == thread)
+        .map(|item| (tag, item as u8))
+        .collect()
+}
+
+fn random_operand(random: &mut Random, readable: &[(u8, u8)], bytes: &mut Vec<u8>) {
+    if readable.is_empty() || random.chance(40) {
+        bytes.push(0);
+        bytes.extend(random_value(random).to_le_bytes());
+    } else {
+        let (tag, number) = random.one_of(readable);
+        bytes.extend([tag, number, 0, 0, 0]);
+    }
+}
+
+// Random event lists
+
+/// Mostly events that the model takes, others among them; the state is that of
+/// a run that goes on after refusals.
+fn random_script(random: &mut Random, model: &Model) -> Vec<u8> {
+    let mut script = Vec::new();
+    let mut state = model::start_state(model);
+    for _ in 0..random.within(20, 80) {
+        let event = random_event(random, model, &state);
+        if let Ok((event, _)) = read_event(&event, 0) {
+            if let Ok(next) = model::step(model, &state, &event) {
+                state = next;
+            }
+        }
+        script.extend(event);
+    }
+    if random.chance(10) {
+        // Cut, or of unknown kind.
+        script.extend(random.one_of(&[&[0x04, 0, 1, 0][..], &[0x0B, 1], &[0x0C, 1, 0], &[0x00]]));
+    }
+    script
+}
+
+fn random_event(random: &mut Random, model: &Model, state: &State) -> Vec<u8> {
+    let choice = random.below(100);
+    let urgent = enabled_events(model, state);
+    if choice < 5 {
+        any_event(random)
+    } else if choice < 15 {
+        vec![REQUEST, random_request(random, model, state)]
+    } else if choice < 16 {
+        vec![TICK, 0, 0]
+    } else if choice < 24 {
+        tempting_event(random, model, state)
+    } else if choice < 28 || urgent.is_empty() {
+        vec![TICK, random.one_of(&[1, 1, 1, 1, 2, 3, 9]), 0]
+    } else {
+        let (kind, id) = random.one_of(&urgent);
+        event_bytes(random, model, kind, id)
+    }
+}
+
+/// Mostly a mode transition that leaves the present mode; else any number, and
+/// now and then one too great.
+fn random_request(random: &mut Random, model: &Model, state: &State) -> u8 {
+    let transitions = &model.mode_transitions;
+    let leaving: Vec<usize> = (0..transitions.len())
+        .filter(|&number| transitions[number].from == state.mode)
+        .collect();
+    if leaving.is_empty() || random.chance(30) {
+        random.below(transitions.len() + 1) as u8
+    } else {
+        random.one_of(&leaving) as u8
+    }
+}
+
+/// Any kind, with an id that may name nothing and a length that may not be
+/// allowed.
+fn any_event(random: &mut Random) -> Vec<u8> {
+    let (kind, id) = (random.within(1, 10) as u8, random.below(5) as u8);
+    let mut bytes = vec![kind, id];
+    if kind == START {
+        let length: u32 = random.one_of(&[0, 1, 2, 3, 4, 5, u32::MAX]);
+        bytes.extend(length.to_le_bytes());
+    }
+    bytes
+}
+
+/// An event that fits a thread's code, whatever else may hold it back.
+fn tempting_event(random: &mut Random, model: &Model, state: &State) -> Vec<u8> {
+    let thread = random.below(model.threads.len().max(1));
+    let code = state.threads.get(thread).map_or(0, |own| own.code);
+    let kind = match code {
+        0 => ACTIVATE,
+        1 => random.one_of(&[DEACTIVATE, DISPATCH, DISPATCH]),
+        2 => random.one_of(&[START, START, MISS]),
+        3 => random.one_of(&[COMPLETE, MISS]),
+        _ => DEADLINE,
+    };
+    event_bytes(random, model, kind, thread as u8)
+}
+
+fn event_bytes(random: &mut Random, model: &Model, kind: u8, id: u8) -> Vec<u8> {
+    let mut bytes = vec![kind, id];
+    if kind == START {
+        let thread = &model.threads[usize::from(id)];
+        // Now and then one below Min or above Max.
+        let low = thread.bcet.0 as usize - usize::from(random.chance(10));
+        let high = thread.wcet.0 as usize + usize::from(random.chance(10));
+        bytes.extend((random.within(low, high) as u32).to_le_bytes());
+    }
+    bytes
+}
+
+fn enabled_events(model: &Model, state: &State) -> Vec<(u8, u8)> {
+    let kinds = (ACTIVATE..=MISS).chain(ENTER..=LEAVE);
+    kinds
+        .flat_map(|kind| (0..16).map(move |id| (kind, id)))
+        .filter(|&(kind, id)| model::enabled(model, state, kind, id))
+        .collect()
+}
+
+// The tests
+
+#[test]
+fn model_and_table_agree() {
+    let mut random = Random(0x9E37_79B9_7F4A_7C15);
+    let mut taken_of_kind = [0; 12];
+    let mut refused_of_kind = [0; 12];
+    for case in 0..3000 {
+        let model_bytes = random_model(&mut random);
+        let model = model::read(&model_bytes)
+            .unwrap_or_else(|refusal| panic!("case {case}: {refusal:?} of {model_bytes:02x?}"));
+        let script = random_script(&mut random, &model);
+        let answers = simulation(&model_bytes, &script).unwrap_or_else(|difference| {
+            panic!("case {case}: {difference}\n{model_bytes:02x?}\n{script:02x?}")
+        });
+        for answer in answers {
+            if let Some(Event { kind, .. }) = answer.event {
+                let counts = if answer.number == 0 {
+                    &mut taken_of_kind
+                } else {
+                    &mut refused_of_kind
+                };
+                counts[usize::from(kind)] += 1;
+            }
+        }
+    }
+    // Each kind of event was taken often, and refused too.
+    for kind in 1..=11 {
+        assert!(
+            taken_of_kind[kind] > 100,
+            "kind {kind} taken: {taken_of_kind:?}"
+        );
+        assert!(
+            refused_of_kind[kind] > 50,
+            "kind {kind} refused: {refused_of_kind:?}"
+        );
+    }
+}
+
+/// Changes, drops or adds a few bytes.
+fn damage(random: &mut Random, bytes: &mut Vec<u8>) {
+    for _ in 0..random.within(1, 2) {
+        let byte = random.one_of(&[0, 1, 1, 2, 2, 3, 3, 4, 5, 6, 7, 8, 9, 10, 16, 32, 36, 255]);
+        let at = random.below(bytes.len() + 1);
+        match random.below(12) {
+            0 => bytes.insert(at, byte),
+            1 if at < bytes.len() => {
+                bytes.remove(at);
+            }
+            _ if at < bytes.len() => bytes[at] = byte,
+            _ => bytes.truncate(at.saturating_sub(1)),
+        }
+    }
+}
+
+#[test]
+fn damaged_models_are_refused_or_agree() {
+    let mut random = Random(0xD1B5_4A32_D192_ED03);
+    let (mut accepted, mut refused) = (0, [0; 8]);
+    for case in 0..4000 {
+        let mut model_bytes = random_model(&mut random);
+        damage(&mut random, &mut model_bytes);
+        match model::read(&model_bytes) {
+            Err(refusal) => {
+                assert!(refusal.start <= refusal.end && refusal.end <= model_bytes.len());
+                refused[usize::from(refusal.number)] += 1;
+            }
+            Ok(model) => {
+                let script = random_script(&mut random, &model);
+                accepted += 1;
+                if let Err(difference) = simulation(&model_bytes, &script) {
+                    panic!("case {case}: {difference}\n{model_bytes:02x?}\n{script:02x?}");
+                }
+            }
+        }
+    }
+    assert!(accepted > 200, "accepted: {accepted}");
+    for number in [1, 2, 4, 5, 6] {
+        assert!(refused[number] > 10, "refused: {refused:?}");
+    }
+}
+
+#[test]
+fn damaged_tables_are_refused_or_run() {
+    let mut random = Random(0x2545_F491_4F6C_DD1D);
+    let (mut accepted, mut refused) = (0, 0);
+    for _ in 0..3000 {
+        let model_bytes = random_model(&mut random);
+        let model = model::read(&model_bytes).expect("an accepted model");
+        let mut bytes = translate(&model_bytes, LONGEST_TABLE).expect("a table");
+        damage(&mut random, &mut bytes);
+        match table::read(&bytes) {
+            Err(refusal) => {
+                assert!(matches!(refusal.number, 1 | 2 | 4));
+                assert!(refusal.start <= refusal.end && refusal.end <= bytes.len());
+                refused += 1;
+            }
+            Ok(table) => {
+                let script = random_script(&mut random, &model);
+                let mut variables = table::start_state(&table);
+                run_on(
+                    &script,
+                    &mut variables,
+                    |variables, event| table::step(&table, variables, event),
+                    |answer, _| assert!(matches!(answer.number, 0 | 9..=13)),
+                );
+                accepted += 1;
+            }
+        }
+    }
+    assert!(
+        accepted > 200 && refused > 200,
+        "accepted {accepted}, refused {refused}"
+    );
+}
+
+#[test]
+fn any_bytes_are_read() {
+    let mut random = Random(0x0123_4567_89AB_CDEF);
+    for _ in 0..20_000 {
+        let bytes: Vec<u8> = (0..random.below(60))
+            .map(|_| (random.next() >> 40) as u8 % 48)
+            .collect();
+        for refusal in [model::read(&bytes).err(), table::read(&bytes).err()]
+            .into_iter()
+            .flatten()
+        {
+            assert!(refusal.start <= refusal.end && refusal.end <= bytes.len());
+        }
+        if let Ok((_, end)) = read_event(&bytes, 0) {
+            assert!(0 < end && end <= bytes.len());
+        }
+    }
+}
