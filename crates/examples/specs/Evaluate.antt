@@ -32,7 +32,7 @@ use Rattle.translate.specs.Rules as translate-rules
 use Rattle.translate.specs.Shown as translate-shown
 use Rattle.translate.specs.Translate as translate-translate
 use Rattle.listing.specs.Listing as listing
-use Rattle.listing.specs.Programs as programs
+use Rattle.programs.specs.Programs as programs
 
 -- all that a model's run rests on
 unfoldable pub openModel : ℕ → ℕ

@@ -1,2 +1,4 @@
 pub mod Listing
-pub mod Programs
+pub mod Lines
+pub mod LineLaws
+pub mod RunLaws

@@ -2,3 +2,11 @@ pub mod Format
 pub mod Model
 pub mod Reading
 pub mod WellFormed
+pub mod Laws
+pub mod Arrays
+pub mod Hyperperiods
+pub mod Faultless
+pub mod Sound
+pub mod TimingSteps
+pub mod BehaviorSteps
+pub mod Accepted

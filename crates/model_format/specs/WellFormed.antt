@@ -85,7 +85,7 @@ pub record GoodBehavior (m : Timing) (b : Behavior) : Type 0 where
   pub assignment : (k j : ℕ) → k < b .transitions → j < transitionAt b k .assignments → GoodAssignment m (assignmentAt b k j)
   -- no target is assigned twice in a transition
   pub single : (k i j : ℕ) → k < b .transitions → i < j → j < transitionAt b k .assignments →
-    (assignmentAt b k i .tag ≡ assignmentAt b k j .tag) × (assignmentAt b k i .number ≡ assignmentAt b k j .number) → ⊥
+      (assignmentAt b k i .tag ≡ assignmentAt b k j .tag) × (assignmentAt b k i .number ≡ assignmentAt b k j .number) → ⊥
 
 pub record WellFormed (m : Model) : Type 0 where
   pub timing : GoodTiming (m .timing)

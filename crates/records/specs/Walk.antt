@@ -16,7 +16,7 @@ use Rattle.records.specs.declared.Event.{Event}
 use Rattle.records.specs.Format.{recordSize, partLength, partLengthAt, partsFrom, parts}
 use Rattle.records.specs.Refusals.{isNone, inScript, noRefusal}
 use Rattle.records.specs.Events.{eventOf}
-use Rattle.records.specs.Run.{Machine, runFrom, stagesFrom}
+use Rattle.records.specs.Run.{Machine, runFrom, stagesFrom, tallyFrom}
 use Rattle.records.specs.Laws.{length-at}
 
 -- bytes to be passed over, passed over at once
@@ -45,6 +45,10 @@ part-bounds w k n h = go (eqb m 0) (ltb n m) refl refl
 pub parts-end : (w : Notation) (s : List ℕ) (p : ℕ) → length s ≤ p → parts w (drop p s) ≡ []
 unfolding partsFrom
 parts-end w s p h = rw (drop-of-length-le s h)
+
+-- the code's &s[p..p + m]
+pub slice-part : (s : List ℕ) (p m : ℕ) → take (p + m - p) (drop p s) ≡ take m (drop p s)
+slice-part s p m = let e : p + m - p ≡ m = omega arith in rw e
 
 -- ---- the part at p, m bytes long
 module _ (w : Notation) (s : List ℕ) (p m : ℕ) (h : p < length s) (e : m ≡ partLengthAt w s p) where
@@ -105,11 +109,25 @@ module _ {S : Type 0} (mac : Machine S) (s : List ℕ) (p : ℕ) (a : S) where
   unfolding stagesFrom
   stages-end h = rw (parts-end Script s p h)
 
+  pub tally-end : (k r : ℕ) → length s ≤ p → record { taken = k; refused = r; state = a } ≡ tallyFrom mac a k r (parts Script (drop p s))
+  unfolding tallyFrom
+  tally-end k r h = rw (parts-end Script s p h)
+
   module _ (m : ℕ) (v : Event) (h : p < length s) (e : m ≡ partLengthAt Script s p) (f : v ≡ eventOf (take m (drop p s))) where
-    pub run-on : (k : ℕ) (b : S) → b ≡ mac .after a v → isNone (mac .answer a v) ≡ true →
+    pub tally-taken : (k r : ℕ) (c : Cause) (b : S) → c ≡ mac .answer a v → b ≡ mac .after a v → isNone c ≡ true →
+        tallyFrom mac b (k + 1) r (parts Script (drop (p + m) s)) ≡ tallyFrom mac a k r (parts Script (drop p s))
+    unfolding tallyFrom
+    tally-taken k r c b g w n = rw (parts-at Script s p m h e, ← f, ← g, n, w)
+
+    pub tally-refused : (k r : ℕ) (c : Cause) (b : S) → c ≡ mac .answer a v → b ≡ mac .after a v → isNone c ≡ false →
+        tallyFrom mac b k (r + 1) (parts Script (drop (p + m) s)) ≡ tallyFrom mac a k r (parts Script (drop p s))
+    unfolding tallyFrom
+    tally-refused k r c b g w n = rw (parts-at Script s p m h e, ← f, ← g, n, w)
+
+    pub run-on : (k : ℕ) (c : Cause) (b : S) → c ≡ mac .answer a v → b ≡ mac .after a v → isNone c ≡ true →
         runFrom mac b (k + 1) (p + m) (parts Script (drop (p + m) s)) ≡ runFrom mac a k p (parts Script (drop p s))
     unfolding runFrom
-    run-on k b g n = rw (parts-at Script s p m h e, ← f, n, part-size Script s p m h e, g)
+    run-on k c b g i n = rw (parts-at Script s p m h e, ← f, ← g, n, part-size Script s p m h e, i)
 
     pub run-refused : (k : ℕ) (c : Cause) → c ≡ mac .answer a v → isNone c ≡ false →
         record { taken = k; refusal = inScript c p (p + m); state = a } ≡ runFrom mac a k p (parts Script (drop p s))

@@ -1,10 +1,10 @@
 -- The bytes of a table one after the other, and how many they are.
 use mathlib.Core.Path.{_≡_, refl, _∙_, ap}
 use mathlib.Core.List.{List, [], _∷_, _++_}
-use Prim.Native.Nat.{ℕ, zero, suc, _+_, _*_}
+use Prim.Native.Nat.{ℕ, _+_, _*_}
 use native.Mathlib.Omega.{arith}
 use lib.ListN.{length, length-append}
-use Rattle.numbers.specs.Lists.{foldBelow, joinBelow}
+use Rattle.numbers.specs.Lists.{joinBelow}
 use Rattle.records.specs.declared.Notation.the-variants as notations
 use Rattle.records.specs.Format.{recordSize}
 use Rattle.table_format.specs.declared.InitialValue.{InitialValue}
@@ -13,6 +13,7 @@ use Rattle.table_format.specs.declared.Update.{Update}
 use Rattle.table_format.specs.declared.Record.{Record}
 use Rattle.table_format.specs.declared.Record.the-variants.{Initial, Head, Clause, Atomic, Change, Cut, Unknown}
 use Rattle.table_format.specs.Format.{recordTo, bytesOf}
+use Rattle.table_format.specs.Sums.{sumBelow, size-join}
 use Rattle.table_format.specs.Table.{Rule, Table, atomsTo, clausesTo, updatesTo, rulesTo, initialTo, encode}
 
 -- ---- one after the other
@@ -144,16 +145,6 @@ length-table t =
     omega arith
 
 -- ---- sizes of lists that are made of lists
-abbrev pub sumBelow : ℕ → (ℕ → ℕ) → ℕ
-sumBelow n f = foldBelow n (λ i a. a + f i) 0
-
--- a size that adds up over two lists adds up over all
-module _ {ℓ} {A : Type ℓ} (size : List A → ℕ) (none : size [] ≡ 0) (both : (l r : List A) → size (l ++ r) ≡ size l + size r) where
-  pub size-join : (n : ℕ) (f : ℕ → List A) → size (joinBelow n f) ≡ sumBelow n (λ i. size (f i))
-  unfolding joinBelow foldBelow
-  size-join zero f = none
-  size-join (suc n) f = both (joinBelow n f) (f n) ∙ ap (λ (k : ℕ). k + size (f n)) (size-join n f)
-
 pub length-join {ℓ} : {A : Type ℓ} (n : ℕ) (f : ℕ → List A) → length (joinBelow n f) ≡ sumBelow n (λ i. length (f i))
 length-join n f = size-join length refl length-append n f
 

@@ -6,3 +6,5 @@ pub mod All
 pub mod WellFormed
 pub mod RoundTrip
 pub mod BytesLaws
+pub mod Laws
+pub mod Sums

@@ -1,8 +1,8 @@
 -- What a table has whose bytes are accepted and stand for it: each number in its range, and in the bytes that it has.
-use mathlib.Core.Path.{_≡_, refl}
+use mathlib.Core.Path.{_≡_, refl, sym, _∙_}
 use mathlib.Core.Bool.{Bool, true, false, cond, _&&_, _||_, false≢true}
-use mathlib.Core.List.{List, [], _∷_}
-use Prim.Native.Nat.{ℕ, _+_, _^_, _<_, _≤_}
+use mathlib.Core.List.{List, [], _∷_, _++_, append-nil}
+use Prim.Native.Nat.{ℕ, zero, suc, _+_, _^_, _<_, _≤_}
 use native.Mathlib.Omega.{arith}
 use lib.ListN.{length}
 use lib.Dec.{eqb, ltb, leb}
@@ -10,7 +10,9 @@ use lib.IntN.{pos}
 use lib.Signed.{ltZ}
 use mir.Syntax.{w32}
 use mir.Val.{SFits}
-use borrow.Author.Tests.{ltb-true, leb-true, eqb-true}
+use borrow.Author.Tests.{lt-ltb, le-leb, ltb-true, leb-true, eqb-true}
+use Rattle.numbers.specs.declared.Value.{Value}
+use Rattle.numbers.specs.Lists.{joinBelow, only}
 use Rattle.records.specs.declared.Operand.{Operand}
 use Rattle.records.specs.Events.{startKind}
 use Rattle.table_format.specs.declared.InitialValue.{InitialValue}
@@ -19,7 +21,7 @@ use Rattle.table_format.specs.declared.Atom.{Atom}
 use Rattle.table_format.specs.declared.Update.{Update}
 use Rattle.table_format.specs.declared.Record.{Record}
 use Rattle.table_format.specs.declared.Record.the-variants.{Initial, Head, Clause, Atomic, Change, Cut, Unknown}
-use Rattle.table_format.specs.All.{All}
+use Rattle.table_format.specs.All.{All, all-join, all-only}
 use Rattle.table_format.specs.Variables.{isVariable, variables, noVariable}
 use Rattle.table_format.specs.Table.{Rule, Table, encode}
 use Rattle.table_format.specs.Reading.{namesVariable, operandFits, initialFits, headFits, atomFits, updateFits, longestTable}
@@ -142,3 +144,31 @@ update-fits kind u g =
       (tag-small (eqb kind startKind) (u .first) e, g .first),
       (tag-small (eqb kind startKind) (u .second) f, g .second),
     )
+
+-- ---- initial values for the variables below n that a test picks
+rising-more : (l : List InitialValue) (least : ℕ) (x : InitialValue) → Rising least l → All (λ y. y .variable < x .variable) l → least ≤ x .variable →
+    x .variable < variables → SFits w32 (x .value .0) → Rising least (l ++ x ∷ [])
+unfolding initialFits isVariable
+rising-more [] least x h k l v f = (rw (le-leb least (x .variable) l, lt-ltb (x .variable) variables v), f, tt)
+rising-more (y ∷ l) least x h k i v f = (h .0, h .1, rising-more l (y .variable + 1) x (h .2) (k .1) (omega (arith, k .0)) v f)
+
+module _ (picked : ℕ → Bool) (value : ℕ → Value) (first : picked 0 ≡ false) (fits : (j : ℕ) → SFits w32 (value j .0)) where
+  pub rising-picked : (n : ℕ) → n ≤ variables → Rising 1 (joinBelow n (λ j. only (picked j) (record { variable = j; value = value j })))
+  unfolding joinBelow
+  rising-picked zero h = tt
+  rising-picked (suc n) h = go (picked n) refl (rising-picked n (omega arith))
+    where
+      before : List InitialValue
+      before = joinBelow n (λ j. only (picked j) (record { variable = j; value = value j }))
+
+      small : All (λ (y : InitialValue). y .variable < n) before
+      small = all-join (λ (y : InitialValue). y .variable < n) n (λ j. only (picked j) (record { variable = j; value = value j }))
+          (λ i l. all-only (λ (y : InitialValue). y .variable < n) (picked i) (record { variable = i; value = value i }) (λ e. l))
+
+      rest : (n : ℕ) → picked n ≡ true → 1 ≤ n
+      rest zero e = absurd (false≢true (sym first ∙ e))
+      rest (suc n) e = omega arith
+
+      go : (b : Bool) → picked n ≡ b → Rising 1 before → Rising 1 (before ++ only b (record { variable = n; value = value n }))
+      go true e r = rising-more before 1 (record { variable = n; value = value n }) r small (rest n e) (omega arith) (fits n)
+      go false e r = rw (append-nil before) r

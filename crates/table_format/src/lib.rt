@@ -2,7 +2,20 @@
 
 use numbers::Value;
 use records::Cause;
+use records::Holder;
+use records::Notation;
 use records::Operand;
+use records::Refusal;
+ghost use mathlib.Core.Path.{_≡_};
+ghost use mathlib.Core.Bool.{cond};
+ghost use lib.Dec.{eqb};
+ghost use lib.IntN.{pos};
+ghost use lib.Signed.{ltZ};
+ghost use Rattle.records.specs.Events.{startKind};
+ghost use Rattle.records.specs.Refusals.{inModel};
+ghost use Rattle.table_format.specs.Variables.{isVariable};
+ghost use Rattle.table_format.specs.Format.{initialOf, headOf, atomOf, updateOf, recordOf};
+ghost use Rattle.table_format.specs.Reading.{namesVariable, operandFits, initialFits, headFits, atomFits, updateFits, judged, causeOf, nextContext, readTable};
 
 // Kind 20, a start: the value with which an environment variable begins.
 pub struct InitialValue {
@@ -52,4 +65,300 @@ pub struct Context {
     pub place: u8,
     pub least: u32,
     pub kind: u8,
+}
+
+// The body of a start record, from a part that begins at its kind byte. A byte past the part's end reads 0, here and below.
+pub fn initial_of(x: &[u8]) -> InitialValue
+    ensures { λ r. ⌜ r ≡ initialOf (now (x .entry)) ⌝ }
+{
+    let n = numbers::u16_at(x, 1);
+    let v = numbers::value_at(x, 3);
+    InitialValue {
+        variable: n,
+        value: v,
+    }
+}
+
+pub fn head_of(x: &[u8]) -> RuleHead
+    ensures { λ r. ⌜ r ≡ headOf (now (x .entry)) ⌝ }
+{
+    let k = numbers::byte_at(x, 1);
+    let i = numbers::byte_at(x, 2);
+    let l = numbers::u32_at(x, 3);
+    let h = numbers::u32_at(x, 7);
+    RuleHead {
+        kind: k,
+        id: i,
+        low: l,
+        high: h,
+    }
+}
+
+pub fn atom_of(x: &[u8]) -> Atom
+    ensures { λ r. ⌜ r ≡ atomOf (now (x .entry)) ⌝ }
+{
+    let o = numbers::byte_at(x, 1);
+    let n = numbers::u16_at(x, 2);
+    let r = records::operand_at(x, 4);
+    Atom {
+        op: o,
+        variable: n,
+        right: r,
+    }
+}
+
+pub fn update_of(x: &[u8]) -> Update
+    ensures { λ r. ⌜ r ≡ updateOf (now (x .entry)) ⌝ }
+{
+    let c = numbers::u16_at(x, 1);
+    let w = numbers::byte_at(x, 3);
+    let t = numbers::u16_at(x, 4);
+    let o = numbers::byte_at(x, 6);
+    let a = records::operand_at(x, 7);
+    let b = records::operand_at(x, 12);
+    Update {
+        condition: c,
+        wanted: w,
+        target: t,
+        op: o,
+        first: a,
+        second: b,
+    }
+}
+
+// The record that a part holds, whatever its bytes.
+pub fn record_of(x: &[u8]) -> Record
+    ensures { λ r. ⌜ r ≡ recordOf (now (x .entry)) ⌝ }
+{
+    let k = numbers::byte_at(x, 0);
+    let w = Notation::Table;
+    let m = records::record_size(w, k);
+    if m == 0 {
+        return Record::Unknown;
+    }
+    if x.len() < m {
+        return Record::Cut;
+    }
+    match k {
+        32 => {
+            let y = initial_of(x);
+            Record::Initial(y)
+        }
+        33 => {
+            let y = head_of(x);
+            Record::Head(y)
+        }
+        34 => Record::Clause,
+        35 => {
+            let y = atom_of(x);
+            Record::Atomic(y)
+        }
+        _ => {
+            let y = update_of(x);
+            Record::Change(y)
+        }
+    }
+}
+
+// ---- fields
+fn is_variable(n: u16) -> bool
+    ensures { λ r. ⌜ r ≡ isVariable n ⌝ }
+{
+    n < 288
+}
+
+// The number of a variable that is there.
+fn names_variable(v: Value) -> bool
+    ensures { λ r. ⌜ r ≡ namesVariable (v .0) ⌝ }
+{
+    let z = v.0;
+    (0 <= z) & (z < 288)
+}
+
+// `may_choose`: the operand may be the chosen length.
+pub fn operand_fits(may_choose: bool, o: Operand) -> bool
+    ensures { λ r. ⌜ r ≡ operandFits «may_choose» o ⌝ }
+{
+    let t = o.tag;
+    if t == 0 {
+        return true;
+    }
+    if t == 1 {
+        let v = o.value;
+        return names_variable(v);
+    }
+    may_choose & (t == 2)
+}
+
+pub fn initial_fits(least: u32, x: InitialValue) -> bool
+    ensures { λ r. ⌜ r ≡ initialFits least x ⌝ }
+{
+    let n = x.variable;
+    let b = is_variable(n);
+    (least <= (n as u32)) & b
+}
+
+// The greatest length that a rule of a kind may allow.
+fn longest(kind: u8) -> u32
+    ensures { λ r. ⌜ r ≡ cond (eqb kind startKind) 1000000 0 ⌝ }
+{
+    if kind == 4 { 1000000 } else { 0 }
+}
+
+pub fn head_fits(h: RuleHead) -> bool
+    ensures { λ r. ⌜ r ≡ headFits h ⌝ }
+{
+    let k = h.kind;
+    let l = h.low;
+    let m = h.high;
+    let n = longest(k);
+    (1 <= k) & ((k <= 10) & ((l <= m) & (m <= n)))
+}
+
+fn above_zero(v: Value) -> bool
+    ensures { λ r. ⌜ r ≡ ltZ (pos 0) (v .0) ⌝ }
+{
+    let z = v.0;
+    0 < z
+}
+
+pub fn atom_fits(a: Atom) -> bool
+    ensures { λ r. ⌜ r ≡ atomFits a ⌝ }
+{
+    let o = a.op;
+    let n = a.variable;
+    let y = a.right;
+    let b = is_variable(n);
+    if o < 6 {
+        let r = operand_fits(false, y);
+        return (o < 8) & (b & r);
+    }
+    let t = y.tag;
+    let v = y.value;
+    let r = above_zero(v);
+    (o < 8) & (b & ((t == 0) & r))
+}
+
+pub fn update_fits(kind: u8, u: Update) -> bool
+    ensures { λ r. ⌜ r ≡ updateFits kind u ⌝ }
+{
+    let c = u.condition;
+    let t = u.target;
+    let o = u.op;
+    let x = u.first;
+    let y = u.second;
+    let b = is_variable(c);
+    let d = is_variable(t);
+    let f = operand_fits(kind == 4, x);
+    let g = operand_fits(kind == 4, y);
+    ((c == 65535) | b) & ((0 < t) & (d & ((o < 3) & (f & g))))
+}
+
+// ---- order
+fn judged(in_order: bool, fits: bool) -> Cause
+    ensures { λ r. ⌜ r ≡ judged «in_order» fits ⌝ }
+{
+    if in_order {
+        if fits {
+            return Cause::None;
+        }
+        return Cause::WrongField;
+    }
+    Cause::WrongKind
+}
+
+pub fn cause_of(c: Context, x: Record) -> Cause
+    ensures { λ r. ⌜ r ≡ causeOf c x ⌝ }
+{
+    let p = c.place;
+    match x {
+        Record::Initial(y) => {
+            let fits = initial_fits(c.least, y);
+            judged(p == 0, fits)
+        }
+        Record::Head(h) => {
+            let fits = head_fits(h);
+            judged(true, fits)
+        }
+        Record::Clause => judged((p == 1) | (p == 2), true),
+        Record::Atomic(a) => {
+            let fits = atom_fits(a);
+            judged(p == 2, fits)
+        }
+        Record::Change(u) => {
+            let fits = update_fits(c.kind, u);
+            judged(0 < p, fits)
+        }
+        Record::Cut => Cause::CutRecord,
+        Record::Unknown => Cause::WrongKind,
+    }
+}
+
+fn placed(place: u8, least: u32, kind: u8) -> Context
+    ensures { λ r. ⌜ r ≡ record { place = place; least = least; kind = kind } ⌝ }
+{
+    Context {
+        place: place,
+        least: least,
+        kind: kind,
+    }
+}
+
+// Where the reader stands after a record.
+pub fn next_context(c: Context, x: Record) -> Context
+    ensures { λ r. ⌜ r ≡ nextContext c x ⌝ }
+{
+    match x {
+        Record::Initial(y) => {
+            let n = y.variable;
+            placed(0, (n as u32) + 1, c.kind)
+        }
+        Record::Head(h) => {
+            let k = h.kind;
+            placed(1, c.least, k)
+        }
+        Record::Clause => placed(2, c.least, c.kind),
+        Record::Atomic(_) => placed(2, c.least, c.kind),
+        Record::Change(_) => placed(3, c.least, c.kind),
+        Record::Cut => c,
+        Record::Unknown => c,
+    }
+}
+
+fn refusal(cause: Cause, start: usize, end: usize) -> Refusal
+    ensures { λ r. ⌜ r ≡ inModel cause start end ⌝ }
+{
+    let h = Holder::Model;
+    Refusal {
+        cause: cause,
+        holder: h,
+        start: start,
+        end: end,
+    }
+}
+
+// The first refused record of a table, and its part; a table that is too long is refused as a whole, before any record is read.
+pub fn read_table(s: &[u8]) -> Refusal
+    ensures { λ r. ⌜ r ≡ readTable (now (s .entry)) ⌝ }
+{
+    if 1000000 < s.len() {
+        let long = Cause::TooMany;
+        return refusal(long, 0, s.len());
+    }
+    let mut c = placed(0, 1, 0);
+    let mut at: usize = 0;
+    while at < s.len() {
+        let w = Notation::Table;
+        let n = records::part_at(w, s, at);
+        let next = at + n;
+        let x = record_of(&s[at..next]);
+        let k = cause_of(c, x);
+        if !records::is_none(k) {
+            return refusal(k, at, next);
+        }
+        c = next_context(c, x);
+        at = next;
+    }
+    let none = Cause::None;
+    refusal(none, 0, 0)
 }

@@ -2,3 +2,7 @@ pub mod Shown
 pub mod Parts
 pub mod Rules
 pub mod Translate
+pub mod GoodParts
+pub mod GoodRules
+pub mod WellFormed
+pub mod TableLength

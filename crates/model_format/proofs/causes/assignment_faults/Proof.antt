@@ -1,0 +1,56 @@
+use borrow.Author.Needs.{needs}
+use Rattle.model_format.proofs.causes.assignment_faults.Statement.{statement}
+use Rattle.model_format.proofs.causes.assignment_faults.Tie as tie
+
+target-tag-requires : tie.Need-target-tag-requires
+target-tag-requires c κs = search needs
+
+operand-tag-requires : tie.Need-operand-tag-requires
+operand-tag-requires c κs = search needs
+
+operand-tag-requires-2 : tie.Need-operand-tag-requires-2
+operand-tag-requires-2 c κs = search needs
+
+allowed-names-requires : tie.Need-allowed-names-requires
+allowed-names-requires c κs = search needs
+
+operand-names-requires : tie.Need-operand-names-requires
+operand-names-requires c κs = search needs
+
+operand-names-requires-2 : tie.Need-operand-names-requires-2
+operand-names-requires-2 c κs = search needs
+
+wide-requires : tie.Need-wide-requires
+wide-requires c κs = search needs
+
+is-owned-by-requires : tie.Need-is-owned-by-requires
+is-owned-by-requires c κs = search needs
+
+operand-owned-requires : tie.Need-operand-owned-requires
+operand-owned-requires c κs = search needs
+
+operand-owned-requires-2 : tie.Need-operand-owned-requires-2
+operand-owned-requires-2 c κs = search needs
+
+is-assigned-requires : tie.Need-is-assigned-requires
+is-assigned-requires c κs = search needs
+
+returns : tie.Need-returns
+returns c = cc
+
+pub assignment-faults-spec : {M : Type 1} → statement M
+assignment-faults-spec =
+    tie.close
+    (tie.spec
+    target-tag-requires
+    operand-tag-requires
+    operand-tag-requires-2
+    allowed-names-requires
+    operand-names-requires
+    operand-names-requires-2
+    wide-requires
+    is-owned-by-requires
+    operand-owned-requires
+    operand-owned-requires-2
+    is-assigned-requires
+    returns)

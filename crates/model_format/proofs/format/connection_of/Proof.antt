@@ -1,0 +1,38 @@
+use Rattle.model_format.specs.Format as format
+use borrow.Author.Needs.{needs}
+use Rattle.model_format.proofs.format.connection_of.Statement.{statement}
+use Rattle.model_format.proofs.format.connection_of.Tie as tie
+
+byte-at-requires : tie.Need-byte-at-requires
+byte-at-requires c κs = search needs
+
+byte-at-requires-2 : tie.Need-byte-at-requires-2
+byte-at-requires-2 c κs = search needs
+
+wide-requires : tie.Need-wide-requires
+wide-requires c κs = search needs
+
+byte-at-requires-3 : tie.Need-byte-at-requires-3
+byte-at-requires-3 c κs = search needs
+
+wide-requires-2 : tie.Need-wide-requires-2
+wide-requires-2 c κs = search needs
+
+byte-at-requires-4 : tie.Need-byte-at-requires-4
+byte-at-requires-4 c κs = search needs
+
+returns : tie.Need-returns
+unfolding format.connectionOf
+returns c = cc
+
+pub connection-of-spec : {M : Type 1} → statement M
+connection-of-spec =
+    tie.close
+    (tie.spec
+    byte-at-requires
+    byte-at-requires-2
+    wide-requires
+    byte-at-requires-3
+    wide-requires-2
+    byte-at-requires-4
+    returns)

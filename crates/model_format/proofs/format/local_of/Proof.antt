@@ -1,0 +1,17 @@
+use Rattle.model_format.specs.Format as format
+use borrow.Author.Needs.{needs}
+use Rattle.model_format.proofs.format.local_of.Statement.{statement}
+use Rattle.model_format.proofs.format.local_of.Tie as tie
+
+byte-at-requires : tie.Need-byte-at-requires
+byte-at-requires c κs = search needs
+
+value-at-requires : tie.Need-value-at-requires
+value-at-requires c κs = search needs
+
+returns : tie.Need-returns
+unfolding format.localOf
+returns c = cc
+
+pub local-of-spec : {M : Type 1} → statement M
+local-of-spec = tie.close (tie.spec byte-at-requires value-at-requires returns)

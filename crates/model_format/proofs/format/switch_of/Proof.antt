@@ -1,0 +1,17 @@
+use Rattle.model_format.specs.Format as format
+use borrow.Author.Needs.{needs}
+use Rattle.model_format.proofs.format.switch_of.Statement.{statement}
+use Rattle.model_format.proofs.format.switch_of.Tie as tie
+
+byte-at-requires : tie.Need-byte-at-requires
+byte-at-requires c κs = search needs
+
+byte-at-requires-2 : tie.Need-byte-at-requires-2
+byte-at-requires-2 c κs = search needs
+
+returns : tie.Need-returns
+unfolding format.switchOf
+returns c = cc
+
+pub switch-of-spec : {M : Type 1} → statement M
+switch-of-spec = tie.close (tie.spec byte-at-requires byte-at-requires-2 returns)

@@ -1,0 +1,42 @@
+use Rattle.model_format.specs.Format as format
+use borrow.Author.Needs.{needs}
+use Rattle.model_format.proofs.format.thread_of.Statement.{statement}
+use Rattle.model_format.proofs.format.thread_of.Tie as tie
+
+duration-at-requires : tie.Need-duration-at-requires
+duration-at-requires c κs = search needs
+
+duration-at-requires-2 : tie.Need-duration-at-requires-2
+duration-at-requires-2 c κs = search needs
+
+duration-at-requires-3 : tie.Need-duration-at-requires-3
+duration-at-requires-3 c κs = search needs
+
+duration-at-requires-4 : tie.Need-duration-at-requires-4
+duration-at-requires-4 c κs = search needs
+
+byte-at-requires : tie.Need-byte-at-requires
+byte-at-requires c κs = search needs
+
+byte-at-requires-2 : tie.Need-byte-at-requires-2
+byte-at-requires-2 c κs = search needs
+
+byte-at-requires-3 : tie.Need-byte-at-requires-3
+byte-at-requires-3 c κs = search needs
+
+returns : tie.Need-returns
+unfolding format.threadOf
+returns c = cc
+
+pub thread-of-spec : {M : Type 1} → statement M
+thread-of-spec =
+    tie.close
+    (tie.spec
+    duration-at-requires
+    duration-at-requires-2
+    duration-at-requires-3
+    duration-at-requires-4
+    byte-at-requires
+    byte-at-requires-2
+    byte-at-requires-3
+    returns)

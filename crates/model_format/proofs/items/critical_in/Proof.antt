@@ -1,0 +1,14 @@
+use Rattle.model_format.specs.Model as model
+use borrow.Author.Needs.{needs}
+use Rattle.model_format.proofs.items.critical_in.Statement.{statement}
+use Rattle.model_format.proofs.items.critical_in.Tie as tie
+
+in-mode-requires : tie.Need-in-mode-requires
+in-mode-requires c κs = search needs
+
+returns : tie.Need-returns
+unfolding model.criticalIn
+returns c = rw (c .in-mode .ensures)
+
+pub critical-in-spec : {M : Type 1} → statement M
+critical-in-spec = tie.close (tie.spec in-mode-requires returns)

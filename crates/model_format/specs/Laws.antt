@@ -1,0 +1,138 @@
+-- Laws of the definitions, in the forms that the code's tests have.
+use mathlib.Core.Path.{_≡_, refl, sym, _∙_, ap}
+use mathlib.Core.Bool.{Bool, true, false, cond, _&&_, _||_}
+use mathlib.Core.List.{List}
+use Prim.Native.Nat.{ℕ, _+_, _-_, _*_, _/_, _^_, _<_, _≤_, min}
+use native.Mathlib.Nat.{div-eq-of-lt, div-lt-iff-lt-mul}
+use native.Mathlib.Decide.{decLt}
+use lib.Pow.{pow-pos, pow-mono}
+use native.Mathlib.Omega.{arith}
+use lib.ListN.{getD, length}
+use lib.Dec.{eqb, ltb, leb}
+use borrow.Author.Tests.{lt-ltb, le-ltb, eq-eqb, ne-eqb}
+use Rattle.numbers.specs.Lists.{item, anyBelow, foldBelow}
+use Rattle.numbers.specs.ListLaws.{any-next, any-some, fold-next}
+use Rattle.numbers.specs.Multiples.{lcmUpTo}
+use Rattle.numbers.specs.Values.{bitsOf}
+use Rattle.records.specs.declared.Operand.{Operand}
+use Rattle.records.specs.declared.Notation.the-variants as notations
+use Rattle.records.specs.Format.{recordSize}
+use Rattle.records.specs.Events.{lastClock}
+use Rattle.model_format.specs.declared.Thread.{Thread}
+use Rattle.model_format.specs.declared.Timing.{Timing}
+use Rattle.model_format.specs.declared.Behavior.{Behavior}
+use Rattle.model_format.specs.declared.Connection.{Connection}
+use Rattle.model_format.specs.declared.Transition.{Transition}
+use Rattle.model_format.specs.declared.Assignment.{Assignment}
+use Rattle.model_format.specs.declared.Record.{Record}
+use Rattle.model_format.specs.declared.Record.the-variants.{Cut, Unknown}
+use Rattle.model_format.specs.Format.{recordOf, recordOfWhole}
+use Rattle.model_format.specs.Model.{threadAt, connectionAt, transitionAt, assignmentAt, criticalIn, hyperperiod}
+use Rattle.model_format.specs.Reading.{maskFits, isConnected, lastTransition, isAssigned}
+
+-- ---- an array read at a place that is drawn in to its room
+module _ {A : Type 0} (room : ℕ) (l : List A) (i n : ℕ) (d : A) (e : i ≡ min n room) where
+  pub drawn-within : i < room → getD l i d ≡ item room l n d
+  drawn-within h = let q : i ≡ n = omega arith in rw (q, lt-ltb n room (omega arith))
+
+  pub drawn-past : room ≤ i → item room l n d ≡ d
+  drawn-past h = rw (le-ltb n room (omega arith))
+
+-- ---- the record of a part: k is its kind byte, m the size of a record of that kind
+module _ (x : List ℕ) (k m : ℕ) (f : k ≡ getD x 0 0) (e : m ≡ recordSize notations.Model k) where
+  pub record-unknown : m ≡ 0 → Unknown ≡ recordOf x
+  unfolding recordOf
+  record-unknown z = rw (← f, ← e, z)
+
+  pub record-cut : (m ≡ 0 → ⊥) → length x < m → Cut ≡ recordOf x
+  unfolding recordOf
+  record-cut z l = rw (← f, ← e, ne-eqb m 0 z, lt-ltb (length x) m l)
+
+  pub record-whole : (m ≡ 0 → ⊥) → m ≤ length x → recordOfWhole k x ≡ recordOf x
+  unfolding recordOf
+  record-whole z l = rw (← f, ← e, ne-eqb m 0 z, le-ltb (length x) m l)
+
+-- ---- hyperperiods, a thread at a time
+abbrev pub withPeriod : Timing → ℕ → ℕ → ℕ → ℕ → ℕ
+withPeriod m old new t h = cond (criticalIn (threadAt m t) old && criticalIn (threadAt m t) new) (lcmUpTo lastClock h (threadAt m t .period .0)) h
+
+module _ (m : Timing) (old new t h : ℕ) (x : Thread) (a b : Bool) (e : x ≡ threadAt m t) (f : a ≡ criticalIn x old) (g : b ≡ criticalIn x new) where
+  pub period-in : (a && b) ≡ true → lcmUpTo lastClock h (x .period .0) ≡ withPeriod m old new t h
+  period-in i = rw (← e, ← f, ← g, i)
+
+  pub period-out : (a && b) ≡ false → h ≡ withPeriod m old new t h
+  period-out i = rw (← e, ← f, ← g, i)
+
+-- the threads below t
+abbrev pub periodsBelow : Timing → ℕ → ℕ → ℕ → ℕ
+periodsBelow m old new t = foldBelow t (withPeriod m old new) 1
+
+pub periods-next : (m : Timing) (old new t h r : ℕ) → h ≡ periodsBelow m old new t → r ≡ withPeriod m old new t h → r ≡ periodsBelow m old new (t + 1)
+periods-next m old new t h r e f = f ∙ ap (withPeriod m old new t) e ∙ sym (fold-next t (withPeriod m old new) 1)
+
+pub periods-all : (m : Timing) (old new t h : ℕ) → h ≡ periodsBelow m old new t → t ≡ m .threads → h ≡ hyperperiod m old new
+unfolding hyperperiod
+periods-all m old new t h e f = e ∙ rw f
+
+-- ---- names for parts of definitions
+abbrev pub leastKind : ℕ → ℕ
+leastKind last = cond (ltb 8 last) 8 last
+
+abbrev pub numberIn : Operand → ℕ
+numberIn o = bitsOf (o .value .0)
+
+abbrev pub sameTarget : Assignment → Assignment → Bool
+sameTarget x a = eqb (x .tag) (a .tag) && eqb (x .number) (a .number)
+
+-- ---- masks: the bits above those of the modes
+module _ (m : Timing) (mask : ℕ) where
+  pub mask-shifted : eqb (mask / 2 ^ (m .modes)) 0 ≡ maskFits m mask
+  unfolding maskFits
+  mask-shifted = go (decLt mask (2 ^ (m .modes)))
+    where
+      go : Dec (mask < 2 ^ (m .modes)) → eqb (mask / 2 ^ (m .modes)) 0 ≡ ltb mask (2 ^ (m .modes))
+      go (yes h) = rw (div-eq-of-lt h, lt-ltb mask (2 ^ (m .modes)) h)
+      go (no h) =
+          let d : mask / 2 ^ (m .modes) < 1 → mask < 1 * 2 ^ (m .modes) = div-lt-iff-lt-mul (pow-pos (m .modes)) .0 in
+          let n : mask / 2 ^ (m .modes) ≡ 0 → ⊥ = λ z. h (let l = d (omega arith) in omega arith) in
+          rw (ne-eqb (mask / 2 ^ (m .modes)) 0 n, le-ltb mask (2 ^ (m .modes)) (omega arith))
+
+  pub mask-within : mask < 256 → 8 ≤ m .modes → true ≡ maskFits m mask
+  unfolding maskFits
+  mask-within l h = let p : 256 ≤ 2 ^ (m .modes) = pow-mono h in rw (lt-ltb mask (2 ^ (m .modes)) (omega arith))
+
+-- ---- a search for a number below n that passes p, come to i
+module _ (p : ℕ → Bool) (n i : ℕ) where
+  pub search-hit : i < n → p i ≡ true → true ≡ anyBelow n p
+  search-hit l e = sym (any-some n p i l e)
+
+  pub search-on : anyBelow i p ≡ false → p i ≡ false → anyBelow (i + 1) p ≡ false
+  search-on e f = rw (any-next i p, e, f)
+
+  pub search-end : i ≤ n → n ≤ i → anyBelow i p ≡ false → false ≡ anyBelow n p
+  search-end l h e = let q : n ≡ i = omega arith in rw (q, e)
+
+-- the connection c goes to the input port i
+abbrev pub connectsTo : Timing → ℕ → ℕ → Bool
+connectsTo m i c = eqb (connectionAt m c .target) i
+
+module _ (m : Timing) (i c : ℕ) (x : Connection) (e : x ≡ connectionAt m c) where
+  pub connects : x .target ≡ i → connectsTo m i c ≡ true
+  connects f = rw (← e) (eq-eqb (x .target) i f)
+
+  pub connects-not : (x .target ≡ i → ⊥) → connectsTo m i c ≡ false
+  connects-not f = rw (← e) (ne-eqb (x .target) i f)
+
+-- assignment j of the last transition has the target of a
+abbrev pub assigns : Behavior → Assignment → ℕ → Bool
+assigns b a j = sameTarget (assignmentAt b (lastTransition b) j) a
+
+-- k is the last transition, x it, n how many assignments it has
+pub assigned-all : (b : Behavior) (a : Assignment) (k n : ℕ) (x : Transition) (r : Bool) → k ≡ lastTransition b → x ≡ transitionAt b k → n ≡ x .assignments →
+    r ≡ anyBelow n (assigns b a) → r ≡ isAssigned b a
+unfolding isAssigned
+assigned-all b a k n x r e f g h = h ∙ rw (g, f, e)
+
+pub assigns-is : (b : Behavior) (a : Assignment) (k j : ℕ) (x : Assignment) (r t : Bool) → k ≡ lastTransition b → x ≡ assignmentAt b k j →
+    r ≡ sameTarget x a → r ≡ t → assigns b a j ≡ t
+assigns-is b a k j x r t e f g h = rw (← e, ← f) (sym g ∙ h)

@@ -1,0 +1,198 @@
+// What a part of a model's bytes holds. Each reader takes the whole part, its kind byte first.
+
+use crate::Assignment;
+use crate::Atom;
+use crate::Connection;
+use crate::Head;
+use crate::Local;
+use crate::ModeTransition;
+use crate::Record;
+use crate::Thread;
+use crate::Transition;
+use numbers::Duration;
+use numbers::byte_at;
+use numbers::duration_at;
+use numbers::value_at;
+use records::Notation;
+use records::operand_at;
+ghost use mathlib.Core.Path.{_≡_};
+ghost use Rattle.model_format.specs.Format as format;
+
+fn wide(b: u8) -> u16
+    ensures { λ r. ⌜ r ≡ b ⌝ }
+{
+    b as u16
+}
+
+pub fn head_of(x: &[u8]) -> Head
+    ensures { λ r. ⌜ r ≡ format.headOf (now (x .entry)) ⌝ }
+{
+    let modes = byte_at(x, 1);
+    let initial = byte_at(x, 2);
+    Head {
+        modes: modes,
+        initial: initial,
+    }
+}
+
+pub fn thread_of(x: &[u8]) -> Thread
+    ensures { λ r. ⌜ r ≡ format.threadOf (now (x .entry)) ⌝ }
+{
+    let period = duration_at(x, 1);
+    let deadline = duration_at(x, 5);
+    let bcet = duration_at(x, 9);
+    let wcet = duration_at(x, 13);
+    let modes = byte_at(x, 17);
+    let critical = byte_at(x, 18);
+    let first = byte_at(x, 19);
+    Thread {
+        period: period,
+        deadline: deadline,
+        bcet: bcet,
+        wcet: wcet,
+        modes: modes,
+        critical: critical,
+        first: first,
+    }
+}
+
+pub fn local_of(x: &[u8]) -> Local
+    ensures { λ r. ⌜ r ≡ format.localOf (now (x .entry)) ⌝ }
+{
+    let owner = byte_at(x, 1);
+    let start = value_at(x, 2);
+    Local {
+        owner: owner,
+        start: start,
+    }
+}
+
+pub fn connection_of(x: &[u8]) -> Connection
+    ensures { λ r. ⌜ r ≡ format.connectionOf (now (x .entry)) ⌝ }
+{
+    let kind = byte_at(x, 1);
+    let source = wide(byte_at(x, 2));
+    let target = wide(byte_at(x, 3));
+    let modes = byte_at(x, 4);
+    Connection {
+        kind: kind,
+        source: source,
+        target: target,
+        modes: modes,
+    }
+}
+
+// Its hyperperiods are set when it is accepted.
+pub fn switch_of(x: &[u8]) -> ModeTransition
+    ensures { λ r. ⌜ r ≡ format.switchOf (now (x .entry)) ⌝ }
+{
+    let from = byte_at(x, 1);
+    let to = byte_at(x, 2);
+    let one = Duration(1);
+    ModeTransition {
+        from: from,
+        to: to,
+        h1: one,
+        h2: one,
+    }
+}
+
+pub fn transition_of(x: &[u8]) -> Transition
+    ensures { λ r. ⌜ r ≡ format.transitionOf (now (x .entry)) ⌝ }
+{
+    let thread = byte_at(x, 1);
+    let from = byte_at(x, 2);
+    let to = byte_at(x, 3);
+    Transition {
+        thread: thread,
+        from: from,
+        to: to,
+        atoms: 0,
+        assignments: 0,
+    }
+}
+
+pub fn atom_of(x: &[u8]) -> Atom
+    ensures { λ r. ⌜ r ≡ format.atomOf (now (x .entry)) ⌝ }
+{
+    let op = byte_at(x, 1);
+    let tag = byte_at(x, 2);
+    let number = wide(byte_at(x, 3));
+    let right = operand_at(x, 4);
+    Atom {
+        op: op,
+        tag: tag,
+        number: number,
+        right: right,
+    }
+}
+
+pub fn assignment_of(x: &[u8]) -> Assignment
+    ensures { λ r. ⌜ r ≡ format.assignmentOf (now (x .entry)) ⌝ }
+{
+    let tag = byte_at(x, 1);
+    let number = wide(byte_at(x, 2));
+    let op = byte_at(x, 3);
+    let first = operand_at(x, 4);
+    let second = operand_at(x, 9);
+    Assignment {
+        tag: tag,
+        number: number,
+        op: op,
+        first: first,
+        second: second,
+    }
+}
+
+// The record of a part that has the whole of its body.
+fn whole_record(k: u8, x: &[u8]) -> Record
+    ensures { λ r. ⌜ r ≡ format.recordOfWhole k (now (x .entry)) ⌝ }
+{
+    match k {
+        1 => Record::HeadRecord(head_of(x)),
+        2 => Record::ThreadRecord(thread_of(x)),
+        3 => Record::InputRecord(byte_at(x, 1)),
+        4 => Record::OutputRecord(byte_at(x, 1)),
+        5 => Record::LocalRecord(local_of(x)),
+        6 => Record::ConnectionRecord(connection_of(x)),
+        7 => Record::ModeRecord(switch_of(x)),
+        8 => Record::TransitionRecord(transition_of(x)),
+        9 => Record::AtomRecord(atom_of(x)),
+        _ => Record::AssignmentRecord(assignment_of(x)),
+    }
+}
+
+pub fn record_of(x: &[u8]) -> Record
+    ensures { λ r. ⌜ r ≡ format.recordOf (now (x .entry)) ⌝ }
+{
+    let k = byte_at(x, 0);
+    let w = Notation::Model;
+    let m = records::record_size(w, k);
+    if m == 0 {
+        return Record::Unknown;
+    }
+    if x.len() < m {
+        return Record::Cut;
+    }
+    whole_record(k, x)
+}
+
+// The kind byte of a record; 0 for one that has none of its own.
+pub fn kind_of(r: Record) -> u8
+    ensures { λ k. ⌜ k ≡ format.kindOf r ⌝ }
+{
+    match r {
+        Record::HeadRecord(_) => 1,
+        Record::ThreadRecord(_) => 2,
+        Record::InputRecord(_) => 3,
+        Record::OutputRecord(_) => 4,
+        Record::LocalRecord(_) => 5,
+        Record::ConnectionRecord(_) => 6,
+        Record::ModeRecord(_) => 7,
+        Record::TransitionRecord(_) => 8,
+        Record::AtomRecord(_) => 9,
+        Record::AssignmentRecord(_) => 10,
+        Record::Cut => 0,
+        Record::Unknown => 0,
+    }
+}

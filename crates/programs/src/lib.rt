@@ -1,0 +1,1 @@
+// What the programs print, from the bytes that they read.

@@ -1,0 +1,126 @@
+-- Each of the eleven events: the model's test is the guard of the rule that fires, and its effect is what the rule's updates do.
+use mathlib.Core.Path.{_≡_, refl, sym, _∙_, ap, subst, fun-ext}
+use mathlib.Core.Bool.{Bool, true, false, cond, not, _&&_, _||_}
+use mathlib.Core.List.{List, [], _∷_}
+use Prim.Native.Nat.{ℕ, _<_}
+use native.Mathlib.Omega.{arith}
+use lib.Dec.{eqb, ltb, leb}
+use borrow.Author.Tests.{ltb-true, eqb-true}
+use Rattle.numbers.specs.declared.Value.{Value}
+use Rattle.records.specs.declared.Event.{Event}
+use Rattle.records.specs.declared.Cause.the-variants.{None, BrokenEvent}
+use Rattle.records.specs.Refusals.{numberOf}
+use Rattle.records.specs.Events.{dispatchKind, isBroken}
+use Rattle.model_format.specs.declared.Model.{Model}
+use Rattle.model_format.specs.Model.{threadAt}
+use Rattle.model_format.specs.WellFormed.{WellFormed}
+use Rattle.model.specs.declared.State.{State}
+use Rattle.model.specs.State.{codeOf, lengthOf, spentOf, isActive}
+use Rattle.model.specs.Tests.{waitingExecution, execution, canActivate, canDeactivate, canDispatch, canStart, canComplete, canMeetDeadline, canMiss, canEnter, canLeave, isDue}
+use Rattle.model.specs.Machine as model-machine
+use Rattle.table.specs.declared.Variables.{Variables}
+use Rattle.table.specs.Machine as table-machine
+use Rattle.translate.specs.Shown.{bit}
+use Rattle.translate.specs.Rules.{rulesOf, activateRules, deactivateRules, dispatchRules, startRules, requestRules, enterRules, leaveRules}
+use Rattle.simulation.specs.Compared.{Dispatched, andAfter}
+use Rattle.simulation.specs.Match.{Match}
+use Rattle.simulation.specs.Effects.{firstUpdates, after-dispatch}
+use Rattle.simulation.specs.EffectSimple.{activate-does, deactivate-does, request-does}
+use Rattle.simulation.specs.EffectDeadline.{deadline-does, miss-does}
+use Rattle.simulation.specs.EffectDispatch.{dispatch-does}
+use Rattle.simulation.specs.EffectStart.{start-does}
+use Rattle.simulation.specs.EffectComplete.{complete-does}
+use Rattle.simulation.specs.EffectModes.{enter-does, leave-does}
+use Rattle.simulation.specs.GuardSimple.{requestRule}
+use Rattle.simulation.specs.GuardStart.{mayStart, start-test}
+use Rattle.simulation.specs.GuardComplete.{completeRule}
+use Rattle.simulation.specs.GuardDeadline.{missRule}
+use Rattle.simulation.specs.GuardRules.{activate-rules, deactivate-rules, dispatch-rules, start-rules, complete-rules, request-rules, deadline-rules, miss-rules, enter-rules, leave-rules}
+use Rattle.simulation.specs.Kinds.{model-broken, model-activate, model-deactivate, model-dispatch, model-start, model-complete, model-deadline, model-miss, model-request, model-enter, model-leave, table-broken, table-fires}
+use Rattle.simulation.specs.Step.{After, refused-states, by-rule, by-start, other-does}
+
+-- the first of two tests that both pass
+both : (a b : Bool) → (a && b) ≡ true → (a ≡ true) × (b ≡ true)
+both true b e = (refl, e)
+both false b e = let z : _≡_ {A = Bool} true false = sym e in (sym z, cc)
+
+and-assoc : (a b c : Bool) → ((a && b) && c) ≡ (a && (b && c))
+and-assoc true b c = refl
+and-assoc false b c = refl
+
+within : (i n : ℕ) (c : Bool) → (ltb i n && c) ≡ true → i < n
+within i n c e = ltb-true i n (both (ltb i n) c e .0)
+
+module _ (m : Model) (w : WellFormed m) (d : Dispatched) (s : State) (v : Variables) (h : Match (m .timing) d s (v .value)) (e : Event) where
+  abbrev Agreed : Type 0
+  Agreed = After (m .timing) d e (model-machine.step m s e) (table-machine.step (rulesOf m) v e)
+
+  pub broken-after : isBroken e ≡ true → Agreed
+  unfolding numberOf
+  broken-after b = rw (model-broken m s e b, table-broken (rulesOf m) v e b) (record { answer = refl; states = refused-states e BrokenEvent refl h })
+
+  module _ (b : isBroken e ≡ false) where
+    pub activate-after : e .kind ≡ 1 → Agreed
+    unfolding activateRules firstUpdates
+    activate-after k =
+        rw (model-activate m s e k, table-fires (rulesOf m) v e 1 k b refl, activate-rules m d s (v .value) w h (e .id))
+        (by-rule (m .timing) d s _ v e h (ltb (e .id) (m .timing .threads) && canActivate s (e .id)) _ 1 (rw k) (λ c. other-does e None (λ z. omega arith) (activate-does (m .timing) (w .timing) d s (v .value) h (e .amount) (e .id) (within (e .id) (m .timing .threads) _ c))))
+
+    pub deactivate-after : e .kind ≡ 2 → Agreed
+    unfolding deactivateRules firstUpdates
+    deactivate-after k =
+        rw (model-deactivate m s e k, table-fires (rulesOf m) v e 2 k b refl, deactivate-rules m d s (v .value) w h (e .id))
+        (by-rule (m .timing) d s _ v e h (ltb (e .id) (m .timing .threads) && canDeactivate s (e .id)) _ 2 (rw k) (λ c. other-does e None (λ z. omega arith) (deactivate-does (m .timing) (w .timing) d s (v .value) h (e .amount) (e .id) (within (e .id) (m .timing .threads) _ c))))
+
+    pub deadline-after : e .kind ≡ 6 → Agreed
+    deadline-after k =
+        rw (model-deadline m s e k, table-fires (rulesOf m) v e 6 k b refl, deadline-rules m d s (v .value) w h (e .id))
+        (by-rule (m .timing) d s _ v e h (ltb (e .id) (m .timing .threads) && canMeetDeadline (m .timing) s (e .id)) _ 6 (rw k) (λ c. other-does e None (λ z. omega arith) (deadline-does (m .timing) (w .timing) d s (v .value) h (e .amount) (e .id) (within (e .id) (m .timing .threads) _ c) (bit (isActive s (e .id))))))
+
+    pub enter-after : e .kind ≡ 9 → Agreed
+    unfolding enterRules firstUpdates
+    enter-after k =
+        rw (model-enter m s e k, table-fires (rulesOf m) v e 9 k b refl, enter-rules m d s (v .value) w h (e .id))
+        (by-rule (m .timing) d s _ v e h (ltb (e .id) (m .timing .switches) && canEnter (m .timing) s (e .id)) _ 9 (rw k) (λ c. other-does e None (λ z. omega arith) (enter-does (m .timing) (w .timing) d s (v .value) h (e .amount) (e .id))))
+
+    pub leave-after : e .kind ≡ 10 → Agreed
+    unfolding leaveRules firstUpdates
+    leave-after k =
+        rw (model-leave m s e k, table-fires (rulesOf m) v e 10 k b refl, leave-rules m d s (v .value) w h (e .id))
+        (by-rule (m .timing) d s _ v e h (ltb (e .id) (m .timing .switches) && canLeave (m .timing) s (e .id)) _ 10 (rw k) (λ c. other-does e None (λ z. omega arith) (leave-does (m .timing) (w .timing) d s (v .value) h (e .amount) (e .id))))
+
+    pub miss-after : e .kind ≡ 7 → Agreed
+    miss-after k =
+        rw (model-miss m s e k, table-fires (rulesOf m) v e 7 k b refl, miss-rules m d s (v .value) w h (e .id))
+        (by-rule (m .timing) d s _ v e h (ltb (e .id) (m .timing .threads) && canMiss (m .timing) s (e .id)) _ 7 (rw k)
+        (λ c. other-does e None (λ z. omega arith) (miss-does (m .timing) (w .timing) d s (v .value) h (e .amount) (e .id) (within (e .id) (m .timing .threads) _ c) (both (ltb (e .id) (m .timing .threads)) (canMiss (m .timing) s (e .id)) c .1))))
+
+    pub request-after : e .kind ≡ 8 → Agreed
+    request-after k =
+        rw (model-request m s e k, table-fires (rulesOf m) v e 8 k b refl, request-rules m d s (v .value) w h (e .id))
+        (by-rule (m .timing) d s _ v e h (ltb (e .id) (m .timing .switches)) _ 8 (rw k) (λ c. other-does e None (λ z. omega arith) (request-does (m .timing) (w .timing) d s (v .value) h (e .amount) (e .id))))
+
+    pub dispatch-after : e .kind ≡ 3 → Agreed
+    unfolding dispatchRules firstUpdates
+    dispatch-after k =
+        rw (model-dispatch m s e k, table-fires (rulesOf m) v e 3 k b refl, dispatch-rules m d s (v .value) w h (e .id))
+        (by-rule (m .timing) d s _ v e h (ltb (e .id) (m .timing .threads) && canDispatch (m .timing) s (e .id)) _ 3 (rw k)
+        (λ c. rw (fun-ext (after-dispatch d e k)) (dispatch-does (m .timing) (w .timing) d s (v .value) h (e .amount) (e .id) (within (e .id) (m .timing .threads) _ c))))
+
+    pub start-after : e .kind ≡ 4 → Agreed
+    unfolding startRules firstUpdates
+    start-after k =
+        let x = m .timing in
+        let t = e .id in
+        let n = e .amount in
+        let c = ltb t (x .threads) && mayStart x s t in
+        let test : canStart x s t n ≡ (c && (leb (threadAt x t .bcet .0) n && leb n (threadAt x t .wcet .0))) = start-test x s t n ∙ sym (and-assoc (ltb t (x .threads)) (mayStart x s t) _) in
+        rw (model-start m s e k, table-fires (rulesOf m) v e 4 k b refl, start-rules m d s (v .value) w h t, test)
+        (by-start x d s _ v e h c _ 4 k
+        (λ y z. other-does e None (λ z. omega arith) (start-does x (w .timing) d s (v .value) h n t (within t (x .threads) _ y) (test ∙ rw (y, z)))))
+
+    pub complete-after : e .kind ≡ 5 → Agreed
+    complete-after k =
+        rw (model-complete m s e k, table-fires (rulesOf m) v e 5 k b refl, complete-rules m d s (v .value) w h (e .id))
+        (by-rule (m .timing) d s _ v e h (ltb (e .id) (m .timing .threads) && canComplete s (e .id)) (completeRule m s (e .id)) 5 (rw k)
+        (λ c. other-does e None (λ z. omega arith) (complete-does m w d s (v .value) h (e .amount) (e .id) (within (e .id) (m .timing .threads) _ c) (both (ltb (e .id) (m .timing .threads)) (canComplete s (e .id)) c .1))))

@@ -1,0 +1,204 @@
+-- Assignments of a transition: the outputs and locals that they set, and the expression that a connection sends.
+use mathlib.Core.Path.{_≡_, refl, sym, _∙_}
+use mathlib.Core.Bool.{Bool, true, false, cond, _&&_, not}
+use mathlib.Core.List.{List, [], _∷_}
+use Prim.Native.Nat.{ℕ, _+_, _<_, _≤_}
+use native.Mathlib.Omega.{arith}
+use native.Mathlib.Decide.{ℕ-discrete}
+use lib.Dec.{eqb}
+use lib.ListN.{length}
+use borrow.Author.Tests.{eq-eqb, ne-eqb, eqb-true, eqb-false, ltb-true, not-true}
+use Rattle.numbers.specs.declared.Value.{Value}
+use Rattle.numbers.specs.Lists.{item, store}
+use Rattle.numbers.specs.ListLaws.{length-store}
+use Rattle.numbers.specs.Values.{natural, combine}
+use Rattle.model_format.specs.declared.Assignment.{Assignment}
+use Rattle.model_format.specs.declared.Timing.{Timing}
+use Rattle.model_format.specs.declared.Behavior.{Behavior}
+use Rattle.model_format.specs.Model.{maxOutputs, assignmentAt}
+use Rattle.model_format.specs.Reading.{namesItem}
+use Rattle.model_format.specs.WellFormed.{GoodTiming, GoodAssignment}
+use Rattle.model.specs.declared.State.{State}
+use Rattle.model.specs.State.{outputOf}
+use Rattle.model.specs.Effects.{assignedValue, assign}
+use Rattle.table_format.specs.declared.Update.{Update}
+use Rattle.table_format.specs.Variables.{outputVar, localVar}
+use Rattle.table.specs.Rules.{valueOf, applies}
+use Rattle.translate.specs.Parts.{variable, Expression, copied, update}
+use Rattle.translate.specs.Rules.{variableOf, assignedExpression, assignmentUpdates, sentExpression}
+use Rattle.simulation.specs.Compared.{Dispatched}
+use Rattle.simulation.specs.Match.{Match}
+use Rattle.simulation.specs.Guards.{eqb-swap}
+use Rattle.simulation.specs.GuardComplete.{operand-same}
+use Rattle.simulation.specs.Writes.{updated, worth, variable-worth, item-store, shifted, fold-related, one, Apart, Within, apart-join, within-join, column-filled}
+use Rattle.simulation.specs.Effects.{ValuesShown}
+
+-- ---- a target is a local or an output port
+pub record Target (m : Timing) (tag number : ℕ) : Type 0 where
+  pub else : (tag ≡ 3 → ⊥) → tag ≡ 2
+  pub local : tag ≡ 2 → number < m .locals
+  pub output : tag ≡ 3 → number < m .outputs
+
+good-target : (m : Timing) (a : Assignment) → GoodAssignment m a → Target m (a .tag) (a .number)
+unfolding namesItem
+good-target m a g = record {
+  else = λ n. go (ℕ-discrete (a .tag) 2) n;
+  local = λ e. ltb-true (a .number) (m .locals) (rw e at (g .names));
+  output = λ e. ltb-true (a .number) (m .outputs) (rw e at (g .names));
+}
+  where
+    go : Dec (a .tag ≡ 2) → (a .tag ≡ 3 → ⊥) → a .tag ≡ 2
+    go (yes e) n = e
+    go (no k) n =
+        let z : false ≡ true = rw (ne-eqb (a .tag) 2 k, ne-eqb (a .tag) 3 n) at (g .tag) in
+        absurd (mathlib.Core.Bool.false≢true z)
+
+module _ (m : Timing) (g : GoodTiming m) (tag number : ℕ) (t : Target m tag number) where
+  target-range : (224 ≤ variableOf tag number) × (variableOf tag number < 288)
+  unfolding variableOf
+  target-range = go (ℕ-discrete tag 3)
+    where
+      go : Dec (tag ≡ 3) → (224 ≤ variableOf tag number) × (variableOf tag number < 288)
+      go (yes e) = let a : number < m .outputs = t .output e in let b : m .outputs ≤ 32 = g .outputs in rw e (omega arith, omega arith)
+      go (no n) =
+          let e : tag ≡ 2 = t .else n in
+          let a : number < m .locals = t .local e in
+          let b : m .locals ≤ 32 = g .locals in
+          rw e (omega arith, omega arith)
+
+  -- the target among the outputs, and among the locals
+  pub output-target : (i : ℕ) → i < 32 → eqb (224 + i) (variableOf tag number) ≡ (eqb tag 3 && eqb i number)
+  unfolding variableOf
+  output-target i l = go (ℕ-discrete tag 3)
+    where
+      go : Dec (tag ≡ 3) → eqb (224 + i) (variableOf tag number) ≡ (eqb tag 3 && eqb i number)
+      go (yes e) = rw e (shifted 224 i number)
+      go (no n) = let e : tag ≡ 2 = t .else n in rw e (ne-eqb (224 + i) (256 + number) (λ q. omega arith))
+
+  pub local-target : (i : ℕ) → i < 32 → eqb (256 + i) (variableOf tag number) ≡ (not (eqb tag 3) && eqb i number)
+  unfolding variableOf
+  local-target i l = go (ℕ-discrete tag 3)
+    where
+      go : Dec (tag ≡ 3) → eqb (256 + i) (variableOf tag number) ≡ (not (eqb tag 3) && eqb i number)
+      go (yes e) = let a : number < m .outputs = t .output e in let b : m .outputs ≤ 32 = g .outputs in rw e (ne-eqb (256 + i) (224 + number) (λ q. omega arith))
+      go (no n) = let e : tag ≡ 2 = t .else n in rw e (shifted 256 i number)
+
+-- equal variables, equal tags and numbers
+same-target : (m : Timing) → GoodTiming m → (a x c z : ℕ) → Target m a x → Target m c z → variableOf a x ≡ variableOf c z → (a ≡ c) × (x ≡ z)
+unfolding variableOf
+same-target m g a x c z p q e = go (ℕ-discrete a 3) (ℕ-discrete c 3)
+  where
+    few : m .outputs ≤ 32
+    few = g .outputs
+
+    go : Dec (a ≡ 3) → Dec (c ≡ 3) → (a ≡ c) × (x ≡ z)
+    go (yes i) (yes j) = let r : 224 + x ≡ 224 + z = rw (i, j) at e in (omega arith, omega arith)
+    go (yes i) (no j) =
+        let o : x < m .outputs = p .output i in
+        let r : 224 + x ≡ 256 + z = rw (i, q .else j) at e in
+        absurd (omega arith)
+    go (no i) (yes j) =
+        let o : z < m .outputs = q .output j in
+        let r : 256 + x ≡ 224 + z = rw (p .else i, j) at e in
+        absurd (omega arith)
+    go (no i) (no j) =
+        let u : a ≡ 2 = p .else i in
+        let w : c ≡ 2 = q .else j in
+        let r : 256 + x ≡ 256 + z = rw (u, w) at e in
+        (omega arith, omega arith)
+
+-- ---- the first assignments of transition k
+module _ (m : Timing) (g : GoodTiming m) (b : Behavior) (k count : ℕ)
+    (good : (j : ℕ) → j < count → GoodAssignment m (assignmentAt b k j))
+    (single : (i j : ℕ) → i < j → j < count → (assignmentAt b k i .tag ≡ assignmentAt b k j .tag) × (assignmentAt b k i .number ≡ assignmentAt b k j .number) → ⊥) where
+  abbrev targetOf : ℕ → ℕ
+  targetOf j = variableOf (assignmentAt b k j .tag) (assignmentAt b k j .number)
+
+  abbrev assignOne : ℕ → List Update
+  assignOne j = update (targetOf j) (assignedExpression (assignmentAt b k j)) ∷ []
+
+  target-at : (j : ℕ) → j < count → Target m (assignmentAt b k j .tag) (assignmentAt b k j .number)
+  target-at j l = good-target m (assignmentAt b k j) (good j l)
+
+  pub assign-within : Within 224 288 (assignmentUpdates b k count)
+  unfolding assignmentUpdates
+  assign-within = within-join targetOf assignOne 224 288 count (λ j l. one _ refl) (λ j l. target-range m g (assignmentAt b k j .tag) (assignmentAt b k j .number) (target-at j l))
+
+  pub assign-apart : Apart (assignmentUpdates b k count)
+  unfolding assignmentUpdates
+  assign-apart = apart-join targetOf assignOne count (λ j l. one _ refl) (λ i j p q e. single i j p q (same-target m g _ _ _ _ (target-at i (omega arith)) (target-at j q) e))
+
+  -- ---- their values, under a match
+  module _ (d : Dispatched) (s : State) (v : List Value) (h : Match m d s v) (n : ℕ) where
+    assigned-same : (j : ℕ) → j < count → worth n v (assignedExpression (assignmentAt b k j)) ≡ assignedValue (s .ports) (assignmentAt b k j)
+    unfolding assignedExpression assignedValue combine
+    assigned-same j l = go (assignmentAt b k j) (good j l)
+      where
+        go : (a : Assignment) → GoodAssignment m a → worth n v (assignedExpression a) ≡ assignedValue (s .ports) a
+        go a w = by (ℕ-discrete (a .op) 0)
+          where
+            by : Dec (a .op ≡ 0) → worth n v (assignedExpression a) ≡ assignedValue (s .ports) a
+            by (yes e) = rw (eq-eqb (a .op) 0 e) (operand-same m d s v g h n (a .first) (w .first))
+            by (no e) = simp (ne-eqb (a .op) 0 e, operand-same m d s v g h n (a .first) (w .first), operand-same m d s v g h n (a .second) (w .second))
+
+    -- one assignment, at a variable that is or is not its target
+    one-assigned : (j : ℕ) → j < count → (i : ℕ) (x : Value) (z : Bool) → eqb i (targetOf j) ≡ z →
+        updated n v (assignOne j) i x ≡ cond z (assignedValue (s .ports) (assignmentAt b k j)) x
+    unfolding updated applies
+    one-assigned j l i x z e = rw (e, assigned-same j l)
+
+    pub outputs-shown : (w : List Value) → ValuesShown 224 (m .outputs) (s .ports .output) v →
+        ((i : ℕ) → i < 32 → valueOf w (outputVar i) ≡ updated n v (assignmentUpdates b k count) (outputVar i) (valueOf v (outputVar i))) →
+        ValuesShown 224 (m .outputs) (assign b (s .ports) k count .output) w
+    unfolding assign assignmentUpdates
+    outputs-shown w c e =
+        column-filled n v w count assignOne _ (λ j. eqb (assignmentAt b k j .tag) 3) (λ j. assignmentAt b k j .number) (λ j. assignedValue (s .ports) (assignmentAt b k j))
+        (λ j l x. refl) (λ j l q. target-at j l .output (eqb-true (assignmentAt b k j .tag) 3 q))
+        (λ j l i p x. one-assigned j l (224 + i) x _ (output-target m g (assignmentAt b k j .tag) (assignmentAt b k j .number) (target-at j l) i p)) c e
+
+    pub locals-shown : (w : List Value) → ValuesShown 256 (m .locals) (s .ports .local) v →
+        ((i : ℕ) → i < 32 → valueOf w (localVar i) ≡ updated n v (assignmentUpdates b k count) (localVar i) (valueOf v (localVar i))) →
+        ValuesShown 256 (m .locals) (assign b (s .ports) k count .local) w
+    unfolding assign assignmentUpdates
+    locals-shown w c e =
+        column-filled n v w count assignOne _ (λ j. not (eqb (assignmentAt b k j .tag) 3)) (λ j. assignmentAt b k j .number) (λ j. assignedValue (s .ports) (assignmentAt b k j))
+        (λ j l x. turned (eqb (assignmentAt b k j .tag) 3) x _)
+        (λ j l q. target-at j l .local (target-at j l .else (eqb-false (assignmentAt b k j .tag) 3 (not-true _ q))))
+        (λ j l i p x. one-assigned j l (256 + i) x _ (local-target m g (assignmentAt b k j .tag) (assignmentAt b k j .number) (target-at j l) i p)) c e
+      where
+        turned : (z : Bool) (x y : List Value) → cond z x y ≡ cond (not z) y x
+        turned true x y = refl
+        turned false x y = refl
+
+    -- ---- "from the assigned expression or the old port": what is sent is the new output
+    module _ (o : ℕ) (few : o < maxOutputs) where
+      abbrev sendNext : ℕ → Expression → Expression
+      sendNext j x = cond (eqb (assignmentAt b k j .tag) 3 && eqb (assignmentAt b k j .number) o) (assignedExpression (assignmentAt b k j)) x
+
+      abbrev storeNext : ℕ → List Value → List Value
+      storeNext j l = cond (eqb (assignmentAt b k j .tag) 3) (store maxOutputs l (assignmentAt b k j .number) (assignedValue (s .ports) (assignmentAt b k j))) l
+
+      abbrev Sent : Expression → List Value → Type 0
+      Sent x l = (length l ≡ maxOutputs) × (worth n v x ≡ item maxOutputs l o (natural 0))
+
+      -- an expression for output i, and its value stored there
+      sent-stored : (e x : Expression) (y : Value) (l : List Value) (i : ℕ) → worth n v e ≡ y → Sent x l → Sent (cond (eqb o i) e x) (store maxOutputs l i y)
+      sent-stored e x y l i q r =
+          (length-store maxOutputs l i y ∙ r .0, go (eqb o i) ∙ sym (item-store maxOutputs l i o y (natural 0) few (r .0)))
+        where
+          go : (z : Bool) → worth n v (cond z e x) ≡ cond z y (item maxOutputs l o (natural 0))
+          go true = q
+          go false = r .1
+
+      sent-next : (j : ℕ) → j < count → (x : Expression) (l : List Value) → Sent x l → Sent (sendNext j x) (storeNext j l)
+      sent-next j p x l r = rw (eqb-swap (assignmentAt b k j .number) o) (go (eqb (assignmentAt b k j .tag) 3))
+        where
+          go : (z : Bool) → Sent (cond (z && eqb o (assignmentAt b k j .number)) (assignedExpression (assignmentAt b k j)) x)
+              (cond z (store maxOutputs l (assignmentAt b k j .number) (assignedValue (s .ports) (assignmentAt b k j))) l)
+          go true = sent-stored (assignedExpression (assignmentAt b k j)) x (assignedValue (s .ports) (assignmentAt b k j)) l (assignmentAt b k j .number) (assigned-same j p) r
+          go false = r
+
+      pub sent-same : ValuesShown 224 (m .outputs) (s .ports .output) v → worth n v (sentExpression b k count o) ≡ outputOf (assign b (s .ports) k count) o
+      unfolding sentExpression assign outputOf
+      sent-same c =
+          fold-related Sent count sendNext storeNext (copied (variable (outputVar o))) (s .ports .output) (c .sized, variable-worth n v (outputVar o) ∙ c .shows o few) sent-next .1

@@ -1,0 +1,108 @@
+-- Guards of ACTIVATE, DEACTIVATE, REQUEST, ENTER and LEAVE: the rules of an item that are enabled, by the model's tests.
+use mathlib.Core.Path.{_≡_, refl}
+use mathlib.Core.Bool.{Bool, true, false, cond, _&&_, _||_, not, and-true, or-false}
+use mathlib.Core.List.{List, [], _∷_}
+use Prim.Native.Nat.{ℕ, _<_, _≤_}
+use native.Mathlib.Omega.{arith}
+use lib.Dec.{eqb}
+use Rattle.numbers.specs.declared.Value.{Value}
+use Rattle.model_format.specs.declared.Timing.{Timing}
+use Rattle.model_format.specs.Model.{maxThreads, switchAt}
+use Rattle.model_format.specs.WellFormed.{GoodTiming}
+use Rattle.model.specs.declared.State.{State}
+use Rattle.model.specs.State.{isActive, codeOf, nowOf}
+use Rattle.model.specs.Tests.{canActivate, canDeactivate, canEnter, canLeave}
+use Rattle.table_format.specs.Variables.{nowVar, modeVar, phaseVar, pendingVar, enteredVar, activeVar, stateVar}
+use Rattle.table.specs.Rules.{clauseHolds, allHold}
+use Rattle.translate.specs.Shown.{bit}
+use Rattle.translate.specs.Parts.{constant, equals, differs, plain, setTo, Body, body}
+use Rattle.translate.specs.Rules.{activateRules, deactivateRules, requestRules, enterRules, leaveRules}
+use Rattle.simulation.specs.Compared.{Dispatched}
+use Rattle.simulation.specs.Match.{Match}
+use Rattle.simulation.specs.Groups.{enabledBodies}
+use Rattle.simulation.specs.Guards.{bit-zero, bit-one, equals-constant, differs-constant, differs-variable, multiple-of-constant}
+
+-- the two rules of REQUEST
+abbrev pub requestTaken : Timing → ℕ → Body
+requestTaken m q =
+    body (plain (equals phaseVar (constant 0)) ∷ plain (equals modeVar (constant (switchAt m q .from))) ∷ []) (setTo phaseVar 1 ∷ setTo pendingVar q ∷ [])
+
+abbrev pub requestIgnored : Timing → ℕ → Body
+requestIgnored m q = body ((differs phaseVar (constant 0) ∷ differs modeVar (constant (switchAt m q .from)) ∷ []) ∷ []) []
+
+-- "With Phase 0 and Mode the from-mode"
+abbrev pub takesRequest : Timing → State → ℕ → Bool
+takesRequest m s q = eqb (s .clock .phase) 0 && eqb (s .clock .mode) (switchAt m q .from)
+
+abbrev pub requestRule : Timing → State → ℕ → Body
+requestRule m s q = cond (takesRequest m s q) (requestTaken m q) (requestIgnored m q)
+
+module _ (m : Timing) (d : Dispatched) (s : State) (v : List Value) (g : GoodTiming m) (h : Match m d s v) where
+  module _ (t : ℕ) (l : t < m .threads) where
+    pub activate-enabled : enabledBodies v (activateRules t) ≡ cond (canActivate s t) (activateRules t) []
+    unfolding activateRules canActivate enabledBodies allHold clauseHolds
+    activate-enabled =
+        let k : m .threads ≤ maxThreads = g .threads in
+        let b : t < maxThreads = omega arith in
+        simp (
+          equals-constant v (activeVar t) (bit (isActive s t)) (h .active t b) 1,
+          equals-constant v (stateVar t) (codeOf s t) (h .code t b) 0,
+          bit-one (isActive s t),
+          or-false,
+          and-true,
+        )
+
+    pub deactivate-enabled : enabledBodies v (deactivateRules t) ≡ cond (canDeactivate s t) (deactivateRules t) []
+    unfolding deactivateRules canDeactivate enabledBodies allHold clauseHolds
+    deactivate-enabled =
+        let k : m .threads ≤ maxThreads = g .threads in
+        let b : t < maxThreads = omega arith in
+        simp (
+          equals-constant v (activeVar t) (bit (isActive s t)) (h .active t b) 0,
+          equals-constant v (stateVar t) (codeOf s t) (h .code t b) 1,
+          bit-zero (isActive s t),
+          or-false,
+          and-true,
+        )
+
+  -- REQUEST always has one enabled rule
+  pub request-enabled : (q : ℕ) → enabledBodies v (requestRules m q) ≡ requestRule m s q ∷ []
+  unfolding requestRules enabledBodies allHold clauseHolds
+  request-enabled q =
+      simp (
+        equals-constant v phaseVar (s .clock .phase) (h .phase) 0,
+        equals-constant v modeVar (s .clock .mode) (h .mode) (switchAt m q .from),
+        differs-constant v phaseVar (s .clock .phase) (h .phase) 0,
+        differs-constant v modeVar (s .clock .mode) (h .mode) (switchAt m q .from),
+        or-false,
+        and-true,
+      ) (one-of (eqb (s .clock .phase) 0) (eqb (s .clock .mode) (switchAt m q .from)) (requestTaken m q) (requestIgnored m q))
+    where
+      one-of : (a b : Bool) (x y : Body) →
+          cond (a && b) (x ∷ cond (not a || not b) (y ∷ []) []) (cond (not a || not b) (y ∷ []) []) ≡ cond (a && b) x y ∷ []
+      one-of true true x y = refl
+      one-of true false x y = refl
+      one-of false b x y = refl
+
+  pub enter-enabled : (q : ℕ) → enabledBodies v (enterRules m q) ≡ cond (canEnter m s q) (enterRules m q) []
+  unfolding enterRules canEnter enabledBodies allHold clauseHolds
+  enter-enabled q =
+      simp (
+        equals-constant v phaseVar (s .clock .phase) (h .phase) 1,
+        equals-constant v pendingVar (s .clock .pending) (h .pending) q,
+        multiple-of-constant v nowVar (nowOf s) (h .now) (switchAt m q .h1 .0),
+        or-false,
+        and-true,
+      )
+
+  pub leave-enabled : (q : ℕ) → enabledBodies v (leaveRules m q) ≡ cond (canLeave m s q) (leaveRules m q) []
+  unfolding leaveRules canLeave enabledBodies allHold clauseHolds
+  leave-enabled q =
+      simp (
+        equals-constant v phaseVar (s .clock .phase) (h .phase) 2,
+        equals-constant v pendingVar (s .clock .pending) (h .pending) q,
+        differs-variable v nowVar (nowOf s) (h .now) enteredVar (s .clock .entered .0) (h .entered),
+        multiple-of-constant v nowVar (nowOf s) (h .now) (switchAt m q .h2 .0),
+        or-false,
+        and-true,
+      )

@@ -1,0 +1,129 @@
+-- Demand 3: for every accepted model whose table fits and every event list, over the bytes made.
+use mathlib.Core.Path.{_≡_, refl, sym, _∙_, ap, subst}
+use mathlib.Core.Bool.{Bool, true, false, cond}
+use mathlib.Core.List.{List, [], _∷_, _++_}
+use Prim.Native.Nat.{ℕ, _<_}
+use native.Mathlib.Omega.{arith}
+use lib.ListN.{length, take, drop}
+use lib.Seq.{take-append-seam}
+use lib.Dec.{ltb}
+use Rattle.numbers.specs.declared.Value.{Value}
+use Rattle.records.specs.declared.Event.{Event}
+use Rattle.records.specs.declared.Notation.the-variants.{Script}
+use Rattle.records.specs.Format.{parts}
+use Rattle.records.specs.Refusals.{isNone, numberOf}
+use Rattle.records.specs.Events.{isBroken, lastClock}
+use Rattle.records.specs.Run.{Machine}
+use Rattle.model_format.specs.declared.Timing.{Timing}
+use Rattle.model_format.specs.declared.Model.{Model}
+use Rattle.model_format.specs.Reading.{readModel}
+use Rattle.model_format.specs.WellFormed.{Bytes, WellFormed}
+use Rattle.model_format.specs.Accepted.{accepted-well-formed}
+use Rattle.model.specs.declared.State.{State}
+use Rattle.model.specs.State.{nowOf}
+use Rattle.model.specs.Tests as tests
+use Rattle.model.specs.Effects.{tick}
+use Rattle.model.specs.Machine.{startState, runModel, machineOf as modelMachine}
+use Rattle.model.specs.Machine as model-machine
+use Rattle.table.specs.declared.Variables.{Variables}
+use Rattle.table.specs.Machine.{startVariables, runTable, machineOf as tableMachine}
+use Rattle.table.specs.Machine as table-machine
+use Rattle.table_format.specs.Table.{Table, tableOf}
+use Rattle.translate.specs.Rules.{rulesOf}
+use Rattle.translate.specs.Translate.{tableFrom, tableBytes, translated, outputAfter}
+use Rattle.translate.specs.WellFormed.{translation-back}
+use Rattle.simulation.specs.Compared.{Dispatched, noneYet, andAfter, Alike, Lockstep, Demand3, writtenTable, Simulates}
+use Rattle.simulation.specs.Match.{Match}
+use Rattle.simulation.specs.Runs.{Agree, SameEnd, lockstep, same-run}
+use Rattle.simulation.specs.Ticks.{ticks-agree, tickVariables}
+use Rattle.simulation.specs.Quiet.{busy-same}
+use Rattle.simulation.specs.EffectTick.{tick-match}
+use Rattle.simulation.specs.StartState.{start-match}
+use Rattle.simulation.specs.Stands.{match-alike}
+use Rattle.simulation.specs.Kinds.{OneOf, kind-1, kind-2, kind-3, kind-4, kind-5, kind-6, kind-7, kind-8, kind-9, kind-10, kind-11, one-of, model-tick, table-ticks}
+use Rattle.simulation.specs.Step.{After, other-states}
+use Rattle.simulation.specs.Agree.{broken-after, activate-after, deactivate-after, dispatch-after, start-after, complete-after, deadline-after, miss-after, request-after, enter-after, leave-after}
+
+module _ (m : Model) (w : WellFormed m) where
+  tick-after : (d : Dispatched) (s : State) (v : Variables) (h : Match (m .timing) d s (v .value)) (e : Event) → isBroken e ≡ false → e .kind ≡ 11 →
+      After (m .timing) d e (model-machine.step m s e) (table-machine.step (rulesOf m) v e)
+  tick-after d s v h e b k =
+      let x = ticks-agree (m .timing) (rulesOf m) d (λ r u. busy-same m d r u w) (tick-match (m .timing) (w .timing) d) s v h (e .amount) s (v .value) h in
+      rw (model-tick m s e k b, table-ticks (rulesOf m) v e k b) (record { answer = x .answer; states = other-states e _ (λ z. omega arith) (x .states) })
+
+  step-after : (d : Dispatched) (s : State) (v : Variables) (h : Match (m .timing) d s (v .value)) (e : Event) → After (m .timing) d e (model-machine.step m s e) (table-machine.step (rulesOf m) v e)
+  step-after d s v h e = go (isBroken e) refl
+    where
+      by-kind : isBroken e ≡ false → OneOf (e .kind) → After (m .timing) d e (model-machine.step m s e) (table-machine.step (rulesOf m) v e)
+      by-kind b (kind-1 k) = activate-after m w d s v h e b k
+      by-kind b (kind-2 k) = deactivate-after m w d s v h e b k
+      by-kind b (kind-3 k) = dispatch-after m w d s v h e b k
+      by-kind b (kind-4 k) = start-after m w d s v h e b k
+      by-kind b (kind-5 k) = complete-after m w d s v h e b k
+      by-kind b (kind-6 k) = deadline-after m w d s v h e b k
+      by-kind b (kind-7 k) = miss-after m w d s v h e b k
+      by-kind b (kind-8 k) = request-after m w d s v h e b k
+      by-kind b (kind-9 k) = enter-after m w d s v h e b k
+      by-kind b (kind-10 k) = leave-after m w d s v h e b k
+      by-kind b (kind-11 k) = tick-after d s v h e b k
+
+      go : (b : Bool) → isBroken e ≡ b → After (m .timing) d e (model-machine.step m s e) (table-machine.step (rulesOf m) v e)
+      go true b = broken-after m w d s v h e b
+      go false b = by-kind b (one-of e b)
+
+  pub agree : (d : Dispatched) (s : State) (v : Variables) (e : Event) → Match (m .timing) d s (v .value) → Agree (m .timing) (modelMachine m) (tableMachine (rulesOf m)) d s v e
+  agree d s v e h = let x = step-after d s v h e in record { answer = x .answer; states = x .states }
+
+  -- the runs of a model and of a table t that is read as the one made from it
+  of-table : (script table : List ℕ) (t : Table) → tableOf table ≡ t → t ≡ tableFrom m → Lockstep (m .timing) (modelMachine m) (tableMachine (tableOf table .rules)) noneYet (startState (m .timing)) (startVariables (tableOf table)) (parts Script script)
+  unfolding tableFrom
+  of-table script table t e f =
+      rw (e, f) (lockstep (m .timing) (modelMachine m) (tableMachine (rulesOf m)) (λ d s v. match-alike (m .timing) (w .timing) d s (v .value)) agree (parts Script script) noneYet (startState (m .timing)) (startVariables (tableFrom m)) (start-match m w))
+
+  same-end : (script table : List ℕ) → tableOf table ≡ tableFrom m → SameEnd (runModel m script) (runTable table script)
+  unfolding runModel runTable tableFrom
+  same-end script table e =
+      rw e (same-run (m .timing) (modelMachine m) (tableMachine (rulesOf m)) (λ d s v. match-alike (m .timing) (w .timing) d s (v .value)) agree (parts Script script) noneYet (startState (m .timing)) (startVariables (tableFrom m)) 0 0 (start-match m w))
+
+  pub demand-3 : (script : List ℕ) → Demand3 m script (tableBytes m)
+  demand-3 script =
+      let t = translation-back m w in
+      let r = same-end script (tableBytes m) (t .1) in
+      record {
+        accepted = t .0;
+        lockstep = of-table script (tableBytes m) (tableFrom m) (t .1) refl;
+        taken = r .taken;
+        refusal = r .refusal;
+        clock = r .clock;
+      }
+
+-- ---- over bytes: what translating wrote is the table made
+-- a model that was translated was accepted, and its table fitted
+record Translated (model : List ℕ) (room : ℕ) : Type 0 where
+  accepted : isNone (readModel model .refusal .cause) ≡ true
+  bytes : translated model room .bytes ≡ length (tableBytes (readModel model .model))
+
+never : false ≡ true → ⊥
+never p = let z : _≡_ {A = ℕ} 0 1 = cc in omega arith
+
+was-translated : (model : List ℕ) (room : ℕ) → isNone (translated model room .refusal .cause) ≡ true → Translated model room
+unfolding translated numberOf
+was-translated model room e = go (isNone (readModel model .refusal .cause)) (ltb room (length (tableBytes (readModel model .model)))) refl refl
+  where
+    go : (a b : Bool) → isNone (readModel model .refusal .cause) ≡ a → ltb room (length (tableBytes (readModel model .model))) ≡ b → Translated model room
+    go true true f g = absurd (never (rw (f, g) at e))
+    go true false f g = record { accepted = f; bytes = rw (f, g) }
+    go false b f g = absurd (never (sym f ∙ rw f at e))
+
+written-is : (model out : List ℕ) → isNone (translated model (length out) .refusal .cause) ≡ true → writtenTable model out ≡ tableBytes (readModel model .model)
+unfolding outputAfter
+written-is model out e =
+    let t = was-translated model (length out) e in
+    rw (e, t .bytes) (take-append-seam (tableBytes (readModel model .model)) (drop (length (tableBytes (readModel model .model))) out))
+
+-- "For every accepted model whose table fits, and every list of the eleven events (refused ones among them, perhaps a cut or unknown one
+-- at the end)": demand 3, over the bytes made.
+pub simulates : (model script out : List ℕ) → Bytes model → Simulates model script out
+simulates model script out b e =
+    let t = was-translated model (length out) e in
+    rw (written-is model out e) (demand-3 (readModel model .model) (accepted-well-formed model b (t .accepted)) script)

@@ -1,0 +1,142 @@
+-- Laws of the definitions, one for each way in which the code returns.
+use mathlib.Core.Path.{_≡_, refl, sym, _∙_, ap}
+use mathlib.Core.Bool.{Bool, true, false, cond, _&&_, _||_}
+use mathlib.Core.List.{List, [], _∷_}
+use Prim.Native.Nat.{ℕ, _+_, _-_, _<_, _≤_}
+use native.Mathlib.Omega.{arith}
+use lib.ListN.{getD, length, take, drop}
+use lib.Dec.{eqb, ltb, leb}
+use lib.IntN.{pos}
+use lib.Signed.{ltZ}
+use borrow.Author.Tests.{eq-eqb, ne-eqb, lt-ltb, le-ltb}
+use Rattle.numbers.specs.declared.Value.{Value}
+use Rattle.numbers.specs.Values.{u16At, u32At, valueAt}
+use Rattle.records.specs.declared.Notation.the-variants as notations
+use Rattle.records.specs.declared.Operand.{Operand}
+use Rattle.records.specs.declared.Cause.{Cause}
+use Rattle.records.specs.declared.Cause.the-variants.{None, TooMany}
+use Rattle.records.specs.declared.Refusal.{Refusal}
+use Rattle.records.specs.Format.{recordSize, partLengthAt, parts, operandAt}
+use Rattle.records.specs.Refusals.{isNone, inModel, noRefusal}
+use Rattle.records.specs.Walk.{parts-at, parts-end, part-size}
+use Rattle.table_format.specs.declared.InitialValue.{InitialValue}
+use Rattle.table_format.specs.declared.RuleHead.{RuleHead}
+use Rattle.table_format.specs.declared.Atom.{Atom}
+use Rattle.table_format.specs.declared.Update.{Update}
+use Rattle.table_format.specs.declared.Context.{Context}
+use Rattle.table_format.specs.declared.Record.{Record}
+use Rattle.table_format.specs.declared.Record.the-variants.{Initial, Head, Clause, Atomic, Change, Cut, Unknown}
+use Rattle.table_format.specs.Variables.{isVariable}
+use Rattle.table_format.specs.Format.{initialOf, headOf, atomOf, updateOf, recordOfWhole, recordOf, recordsOf, records}
+use Rattle.table_format.specs.Reading.{operandFits, atomFits, begin, causeOf, nextContext, readFrom, readTable, longestTable, namesVariable}
+
+-- ---- the fields of a part: numbers and operands as the code has read them
+module _ (x : List ℕ) where
+  pub initial-law : (n : ℕ) (v : Value) → n ≡ u16At x 1 → v ≡ valueAt x 3 → record { variable = n; value = v } ≡ initialOf x
+  unfolding initialOf
+  initial-law n v e f = rw (e, f)
+
+  pub head-law : (k i l h : ℕ) → k ≡ getD x 1 0 → i ≡ getD x 2 0 → l ≡ u32At x 3 → h ≡ u32At x 7 →
+      record { kind = k; id = i; low = l; high = h } ≡ headOf x
+  unfolding headOf
+  head-law k i l h a b e f = rw (a, b, e, f)
+
+  pub atom-law : (o n : ℕ) (y : Operand) → o ≡ getD x 1 0 → n ≡ u16At x 2 → y ≡ operandAt x 4 →
+      record { op = o; variable = n; right = y } ≡ atomOf x
+  unfolding atomOf
+  atom-law o n y a b e = rw (a, b, e)
+
+  pub update-law : (n w t o : ℕ) (y z : Operand) → n ≡ u16At x 1 → w ≡ getD x 3 0 → t ≡ u16At x 4 → o ≡ getD x 6 0 →
+      y ≡ operandAt x 7 → z ≡ operandAt x 12 →
+      record { condition = n; wanted = w; target = t; op = o; first = y; second = z } ≡ updateOf x
+  unfolding updateOf
+  update-law n w t o y z a b e f g h = rw (a, b, e, f, g, h)
+
+  -- ---- the record: k is the first byte, m the size of its kind
+  module _ (k m : ℕ) (f : k ≡ getD x 0 0) (b : m ≡ recordSize notations.Table k) where
+    pub record-unknown : m ≡ 0 → Unknown ≡ recordOf x
+    unfolding recordOf
+    record-unknown z = rw (← f, ← b, z)
+
+    pub record-cut : (m ≡ 0 → ⊥) → length x < m → Cut ≡ recordOf x
+    unfolding recordOf
+    record-cut z l = rw (← f, ← b, ne-eqb m 0 z, lt-ltb _ m l)
+
+    module _ (z : m ≡ 0 → ⊥) (l : m ≤ length x) where
+      record-whole : recordOfWhole k x ≡ recordOf x
+      unfolding recordOf
+      record-whole = rw (← f, ← b, ne-eqb m 0 z, le-ltb _ m l)
+
+      pub record-initial : (y : InitialValue) → k ≡ 32 → y ≡ initialOf x → Initial y ≡ recordOf x
+      record-initial y h e = rw (e, ← record-whole, h)
+
+      pub record-head : (y : RuleHead) → k ≡ 33 → y ≡ headOf x → Head y ≡ recordOf x
+      record-head y h e = rw (e, ← record-whole, h)
+
+      pub record-clause : k ≡ 34 → Clause ≡ recordOf x
+      record-clause h = rw (← record-whole, h)
+
+      pub record-atom : (y : Atom) → k ≡ 35 → y ≡ atomOf x → Atomic y ≡ recordOf x
+      record-atom y h e = rw (e, ← record-whole, h)
+
+      pub record-update : (y : Update) → (k ≡ 32 → ⊥) → (k ≡ 33 → ⊥) → (k ≡ 34 → ⊥) → (k ≡ 35 → ⊥) → y ≡ updateOf x → Change y ≡ recordOf x
+      record-update y h1 h2 h3 h4 e = rw (e, ← record-whole, ne-eqb k 32 h1, ne-eqb k 33 h2, ne-eqb k 34 h3, ne-eqb k 35 h4)
+
+-- ---- fields
+module _ (c : Bool) (o : Operand) where
+  pub operand-constant : o .tag ≡ 0 → true ≡ operandFits c o
+  unfolding operandFits
+  operand-constant h = rw h
+
+  pub operand-variable : o .tag ≡ 1 → namesVariable (o .value .0) ≡ operandFits c o
+  unfolding operandFits
+  operand-variable h = rw h
+
+  pub operand-chosen : (o .tag ≡ 0 → ⊥) → (o .tag ≡ 1 → ⊥) → (c && eqb (o .tag) 2) ≡ operandFits c o
+  unfolding operandFits
+  operand-chosen h k = rw (ne-eqb (o .tag) 0 h, ne-eqb (o .tag) 1 k)
+
+module _ (a : Atom) (b r : Bool) (e : b ≡ isVariable (a .variable)) where
+  pub atom-compares : a .op < 6 → r ≡ operandFits false (a .right) → (ltb (a .op) 8 && (b && r)) ≡ atomFits a
+  unfolding atomFits
+  atom-compares h f = rw (← e, lt-ltb (a .op) 6 h, f)
+
+  pub atom-multiple : 6 ≤ a .op → r ≡ ltZ (pos 0) (a .right .value .0) → (ltb (a .op) 8 && (b && (eqb (a .right .tag) 0 && r))) ≡ atomFits a
+  unfolding atomFits
+  atom-multiple h f = rw (← e, le-ltb (a .op) 6 h, f)
+
+-- ---- the records that are left at a place: m is the length of the part at p, x its record; the code lends the bytes p up to p + m
+pub records-end : (s : List ℕ) (p : ℕ) → length s ≤ p → records (drop p s) ≡ []
+unfolding recordsOf
+records-end s p h = rw (parts-end notations.Table s p h)
+
+module _ (s : List ℕ) (p m : ℕ) (x : Record) (h : p < length s) (e : m ≡ partLengthAt notations.Table s p) (f : x ≡ recordOf (take (p + m - p) (drop p s))) where
+  record-lent : x ≡ recordOf (take m (drop p s))
+  record-lent = let q : p + m - p ≡ m = omega arith in rw q at f
+
+  pub records-at : records (drop p s) ≡ x ∷ records (drop (p + m) s)
+  unfolding recordsOf
+  records-at = rw (parts-at notations.Table s p m h e, ← record-lent)
+
+  -- ---- reading: k is the cause that the record gives
+  module _ (c : Context) (k : Cause) (g : k ≡ causeOf c x) where
+    pub read-on : isNone k ≡ true →
+        readFrom (nextContext c x) (p + m) (parts notations.Table (drop (p + m) s)) ≡ readFrom c p (parts notations.Table (drop p s))
+    unfolding readFrom
+    read-on n = rw (parts-at notations.Table s p m h e, ← record-lent, ← g, n, part-size notations.Table s p m h e)
+
+    pub read-refused : isNone k ≡ false → inModel k p (p + m) ≡ readFrom c p (parts notations.Table (drop p s))
+    unfolding readFrom
+    read-refused n = rw (parts-at notations.Table s p m h e, ← record-lent, ← g, n, part-size notations.Table s p m h e)
+
+pub read-end : (s : List ℕ) (p : ℕ) (c : Context) → length s ≤ p → noRefusal ≡ readFrom c p (parts notations.Table (drop p s))
+unfolding readFrom
+read-end s p c h = rw (parts-end notations.Table s p h)
+
+pub table-long : (s : List ℕ) → longestTable < length s → inModel TooMany 0 (length s) ≡ readTable s
+unfolding readTable
+table-long s h = rw (lt-ltb longestTable (length s) h)
+
+pub table-reads : (s : List ℕ) → length s ≤ longestTable → readFrom begin 0 (parts notations.Table s) ≡ readTable s
+unfolding readTable
+table-reads s h = rw (le-ltb longestTable (length s) h)

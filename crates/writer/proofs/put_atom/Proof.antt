@@ -1,0 +1,42 @@
+use Rattle.table_format.specs.Format.{recordTo}
+use Rattle.writer.specs.Written.{farthest, Wrote, and-then}
+use lib.ListN.{length}
+use Prim.Native.Nat.{_≤_}
+use borrow.Author.Needs.{needs}
+use Rattle.writer.proofs.put_atom.Statement.{statement}
+use Rattle.writer.proofs.put_atom.Tie as tie
+
+put-byte-requires : tie.Need-put-byte-requires
+put-byte-requires c κs = search needs
+
+put-byte-requires-2 : tie.Need-put-byte-requires-2
+put-byte-requires-2 c κs = search needs
+
+put-u16-requires : tie.Need-put-u16-requires
+put-u16-requires c κs = search needs
+
+put-operand-requires : tie.Need-put-operand-requires
+put-operand-requires c κs = search needs
+
+same-length : tie.Need-same-length
+same-length c = search needs
+
+returns : tie.Need-returns
+unfolding recordTo
+returns c =
+    let h : length (c .before .before .before .before .before .before .before .before .before .before .before .before .before .before .before .before .before .before .args .d .now) ≤ farthest = search needs in
+    and-then _ _ h (and-then _ _ h (and-then _ _ h (c .before .before .before .before .before .before .before .before .before .before .before .before .before .before .put-byte .ensures)
+      (c .before .before .before .before .before .before .before .before .before .before .put-byte2 .ensures))
+      (c .before .before .before .before .before .before .put-u16 .ensures))
+      (c .before .before .put-operand .ensures)
+
+pub put-atom-spec : {M : Type 1} → statement M
+put-atom-spec =
+    tie.close
+    (tie.spec
+    put-byte-requires
+    put-byte-requires-2
+    put-u16-requires
+    put-operand-requires
+    same-length
+    returns)
