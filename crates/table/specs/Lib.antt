@@ -1,2 +1,7 @@
 pub mod Rules
 pub mod Machine
+pub mod RuleLaws
+pub mod Bits
+pub mod Enabled
+pub mod Applied
+pub mod Running

@@ -1,0 +1,39 @@
+use mathlib.Core.Path.{_∙_}
+use native.Mathlib.Omega.{arith}
+use borrow.Author.Needs.{needs}
+use Rattle.table.specs.RuleLaws.{applies-always, applies-where}
+use Rattle.table.proofs.applies.Statement.{statement}
+use Rattle.table.proofs.applies.Tie as tie
+
+returns : tie.Need-returns
+returns c = applies-always _ (c .before .before .args .u) (c .if1 .taken)
+
+cast-value-in : tie.Need-cast-value-in
+cast-value-in c = search needs
+
+value-in-requires : tie.Need-value-in-requires
+value-in-requires c κs = search needs
+
+cast-value-of : tie.Need-cast-value-of
+cast-value-of c = search needs
+
+value-of-requires : tie.Need-value-of-requires
+value-of-requires c κs = search needs
+
+same-requires : tie.Need-same-requires
+same-requires c κs = search needs
+
+returns-2 : tie.Need-returns-2
+returns-2 c = c .same .ensures ∙ applies-where _ (c .before .before .before .before .before .args .u) (c .before .before .before .if1 .left) _ _ (c .before .before .value-in .ensures) (c .before .value-of .ensures) (omega arith)
+
+pub applies-spec : {M : Type 1} → statement M
+applies-spec =
+    tie.close
+    (tie.spec
+    returns
+    cast-value-in
+    value-in-requires
+    cast-value-of
+    value-of-requires
+    same-requires
+    returns-2)

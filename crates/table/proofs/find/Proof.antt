@@ -1,0 +1,77 @@
+use mathlib.Core.Path.{_≡_, refl, _∙_}
+use Prim.Native.Nat.{_-_, _≤_}
+use native.Mathlib.Omega.{arith}
+use lib.ListN.{length}
+use borrow.Author.Needs.{needs}
+use Rattle.records.specs.Walk.{next-place}
+use Rattle.records.specs.declared.Notation.the-variants as notations
+use Rattle.table_format.specs.Table.{tableOf}
+use Rattle.table.specs.Bits.{values}
+use Rattle.table.specs.Enabled.{choice, Finds, find-begin, find-on, find-end}
+use Rattle.table.specs.Rules.{enabledRules}
+use Rattle.table.proofs.find.Statement.{statement}
+use Rattle.table.proofs.find.Tie as tie
+
+abbrev Inv-loop : tie.InvT-loop
+Inv-loop t v e f₀ at₀ f at = Finds t (values v) e f at ≡ choice (enabledRules (values v) (e .kind) (e .id) (tableOf t .rules))
+
+abbrev μ-loop : tie.MeasureT-loop
+μ-loop t v e f₀ at₀ f at = length t - at
+
+loop-holds : tie.Need-loop-holds Inv-loop μ-loop
+loop-holds c = find-begin (c .before .before .args .t .now) _ (c .before .before .args .e) _ refl
+
+part-at-requires : tie.Need-part-at-requires Inv-loop μ-loop
+part-at-requires c κs = search needs
+
+add-next : tie.Need-add-next Inv-loop μ-loop
+add-next c =
+    let n = next-place notations.Table (c .before .before .before .before .before .args .t .now) _ _ (c .before .loop-test .taken) (c .part-at .ensures) in
+    record { fits = omega arith }
+
+sub-record-of : tie.Need-sub-record-of Inv-loop μ-loop
+sub-record-of c = search needs
+
+part-record-of-start : tie.Need-part-record-of-start Inv-loop μ-loop
+part-record-of-start c = search needs
+
+part-record-of-end : tie.Need-part-record-of-end Inv-loop μ-loop
+part-record-of-end c =
+    let n = next-place notations.Table (c .before .before .before .before .before .args .t .now) _ _ (c .before .loop-test .taken) (c .part-at .ensures) in
+    omega arith
+
+record-of-requires : tie.Need-record-of-requires Inv-loop μ-loop
+record-of-requires c κs = search needs
+
+found-after-requires : tie.Need-found-after-requires Inv-loop μ-loop
+found-after-requires c κs = search needs
+
+loop-less : tie.Need-loop-less Inv-loop μ-loop
+loop-less c =
+    let n = next-place notations.Table (c .before .before .before .before .before .before .before .before .args .t .now) _ _ (c .before .before .before .before .loop-test .taken) (c .before .before .before .part-at .ensures) in
+    omega arith
+
+loop-again : tie.Need-loop-again Inv-loop μ-loop
+loop-again c =
+    find-on (c .before .before .before .before .before .before .before .before .args .t .now) _ _ _ (c .before .before .before .before .loop-test .taken) (c .before .before .before .part-at .ensures) (c .before .record-of .ensures) _ (c .before .before .before .before .before .before .before .before .args .e) _ _ (c .found-after .ensures) ∙ c .before .before .before .before .before .loop .inv
+
+returns : tie.Need-returns Inv-loop μ-loop
+returns c = find-end (c .before .before .before .before .args .t .now) _ (c .before .before .before .before .args .e) _ _ (c .loop-test .left) ∙ c .before .loop .inv
+
+pub find-spec : {M : Type 1} → statement M
+find-spec =
+    tie.close
+    (tie.spec
+    Inv-loop
+    μ-loop
+    loop-holds
+    part-at-requires
+    add-next
+    sub-record-of
+    part-record-of-start
+    part-record-of-end
+    record-of-requires
+    found-after-requires
+    loop-less
+    loop-again
+    returns)

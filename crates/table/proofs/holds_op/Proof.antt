@@ -1,0 +1,43 @@
+use mathlib.Core.Bool.{not}
+use mathlib.Core.Path.{_∙_, ap}
+use borrow.Author.Needs.{needs}
+use Rattle.table.specs.RuleLaws.{holds-compares, holds-multiple, holds-not-multiple}
+use Rattle.table.proofs.holds_op.Statement.{statement}
+use Rattle.table.proofs.holds_op.Tie as tie
+
+compares-requires : tie.Need-compares-requires
+compares-requires c κs = search needs
+
+returns : tie.Need-returns
+returns c = c .compares .ensures ∙ holds-compares _ _ _ (c .before .if1 .taken)
+
+magnitude-requires : tie.Need-magnitude-requires
+magnitude-requires c κs = search needs
+
+bits-requires : tie.Need-bits-requires
+bits-requires c κs = search needs
+
+is-multiple-requires : tie.Need-is-multiple-requires
+is-multiple-requires c κs = search needs
+
+returns-2 : tie.Need-returns-2
+returns-2 c = c .is-multiple .ensures ∙ holds-multiple _ _ _ (c .before .before .before .before .if1 .left) _ _ (c .before .before .before .magnitude .ensures) (c .before .before .bits .ensures) (c .before .if2 .taken)
+
+is-multiple-requires-2 : tie.Need-is-multiple-requires-2
+is-multiple-requires-2 c κs = search needs
+
+returns-3 : tie.Need-returns-3
+returns-3 c = ap not (c .is-multiple2 .ensures) ∙ holds-not-multiple _ _ _ (c .before .before .before .before .if1 .left) _ _ (c .before .before .before .magnitude .ensures) (c .before .before .bits .ensures) (c .before .if2 .left)
+
+pub holds-op-spec : {M : Type 1} → statement M
+holds-op-spec =
+    tie.close
+    (tie.spec
+    compares-requires
+    returns
+    magnitude-requires
+    bits-requires
+    is-multiple-requires
+    returns-2
+    is-multiple-requires-2
+    returns-3)

@@ -1,0 +1,83 @@
+use mathlib.Core.Path.{_≡_, _∙_, ap}
+use Prim.Native.Nat.{_-_, _≤_}
+use native.Mathlib.Omega.{arith}
+use lib.ListN.{length, drop}
+use borrow.Author.Needs.{needs}
+use Rattle.records.specs.Walk.{next-place}
+use Rattle.records.specs.declared.Notation.the-variants as notations
+use Rattle.table_format.specs.Format.{records}
+use Rattle.table_format.specs.Table.{gather, tableOf}
+use Rattle.table.specs.Bits.{values}
+use Rattle.table.specs.Machine.{begun, startVariables}
+use Rattle.table.specs.Running.{start-begin, start-on, start-end}
+use Rattle.table.specs.declared.Variables.{Variables}
+use Rattle.table.proofs.start_variables.Statement.{statement}
+use Rattle.table.proofs.start_variables.Tie as tie
+
+abbrev Inv-loop : tie.InvT-loop
+Inv-loop t v₀ at₀ v at = _≡_ {A = Variables} (record { value = begun (gather (records (drop at t)) .initial) (values v) }) (startVariables (tableOf t))
+
+abbrev μ-loop : tie.MeasureT-loop
+μ-loop t v₀ at₀ v at = length t - at
+
+loop-holds : tie.Need-loop-holds Inv-loop μ-loop
+loop-holds c = start-begin (c .before .args .t .now)
+
+part-at-requires : tie.Need-part-at-requires Inv-loop μ-loop
+part-at-requires c κs = search needs
+
+add-next : tie.Need-add-next Inv-loop μ-loop
+add-next c =
+    let n = next-place notations.Table (c .before .before .before .before .args .t .now) _ _ (c .before .loop-test .taken) (c .part-at .ensures) in
+    record { fits = omega arith }
+
+sub-record-of : tie.Need-sub-record-of Inv-loop μ-loop
+sub-record-of c = search needs
+
+part-record-of-start : tie.Need-part-record-of-start Inv-loop μ-loop
+part-record-of-start c = search needs
+
+part-record-of-end : tie.Need-part-record-of-end Inv-loop μ-loop
+part-record-of-end c =
+    let n = next-place notations.Table (c .before .before .before .before .args .t .now) _ _ (c .before .loop-test .taken) (c .part-at .ensures) in
+    omega arith
+
+record-of-requires : tie.Need-record-of-requires Inv-loop μ-loop
+record-of-requires c κs = search needs
+
+begin-with-requires : tie.Need-begin-with-requires Inv-loop μ-loop
+begin-with-requires c κs = search needs
+
+loop-less : tie.Need-loop-less Inv-loop μ-loop
+loop-less c =
+    let n = next-place notations.Table (c .before .before .before .before .before .before .before .before .args .t .now) _ _ (c .before .before .before .before .before .loop-test .taken) (c .before .before .before .before .part-at .ensures) in
+    omega arith
+
+loop-again : tie.Need-loop-again Inv-loop μ-loop
+loop-again c =
+    rw (start-on (c .before .before .before .before .before .before .before .before .args .t .now) _ _ _ (c .before .before .before .before .before .loop-test .taken) (c .before .before .before .before .part-at .ensures) (c .before .before .record-of .ensures) _ _ (c .begin-with .ensures)) (c .before .before .before .before .before .before .loop .inv)
+
+variables-of-requires : tie.Need-variables-of-requires Inv-loop μ-loop
+variables-of-requires c κs = search needs
+
+returns : tie.Need-returns Inv-loop μ-loop
+returns c = c .variables-of .ensures ∙ start-end (c .before .before .before .before .args .t .now) _ _ (c .before .loop-test .left) ∙ c .before .before .loop .inv
+
+pub start-variables-spec : {M : Type 1} → statement M
+start-variables-spec =
+    tie.close
+    (tie.spec
+    Inv-loop
+    μ-loop
+    loop-holds
+    part-at-requires
+    add-next
+    sub-record-of
+    part-record-of-start
+    part-record-of-end
+    record-of-requires
+    begin-with-requires
+    loop-less
+    loop-again
+    variables-of-requires
+    returns)

@@ -1,0 +1,163 @@
+-- The machine's answers, in the forms that the code has: one event, ticks, the start, a run.
+use mathlib.Core.Path.{_≡_, refl, sym, _∙_, ap}
+use mathlib.Core.Bool.{Bool, true, false, cond, _&&_, _||_, not}
+use mathlib.Core.List.{List, [], _∷_}
+use Prim.Native.Nat.{ℕ, zero, suc, _+_, _-_, _%_, _^_, _<_, _≤_}
+use native.Mathlib.Omega.{arith}
+use lib.ListN.{getD, set, length, drop, replicate}
+use lib.ListN as lists
+use lib.Dec.{eqb, leb}
+use borrow.Author.Tests.{ne-eqb, not-true, not-false}
+use Rattle.numbers.specs.declared.Value.{Value}
+use Rattle.numbers.specs.Lists.{store}
+use Rattle.numbers.specs.Values.{value, signed, natural, plus, lessValue}
+use Rattle.records.specs.declared.Notation.the-variants as notations
+use Rattle.records.specs.declared.Cause.the-variants.{BrokenEvent, NotEnabled, LastClock, ConflictingRules, InconsistentUpdates}
+use Rattle.records.specs.declared.Event.{Event}
+use Rattle.records.specs.Format.{partLengthAt}
+use Rattle.records.specs.Events.{isBroken, lastClock}
+use Rattle.records.specs.Run.{Ended}
+use Rattle.table_format.specs.declared.RuleHead.{RuleHead}
+use Rattle.table_format.specs.declared.Record.{Record}
+use Rattle.table_format.specs.declared.Record.the-variants.{Initial, Head, Clause, Atomic, Change, Cut, Unknown}
+use Rattle.table_format.specs.Variables.{variables, nowVar}
+use Rattle.table_format.specs.Format.{recordOf, records}
+use Rattle.table_format.specs.Table.{Rule, gather, tableOf}
+use Rattle.table_format.specs.Laws.{records-at, records-end}
+use Rattle.table.specs.declared.Variables.{Variables}
+use Rattle.table.specs.declared.Stepped.{Stepped}
+use Rattle.table.specs.declared.Ran.{Ran}
+use Rattle.table.specs.declared.Found.{Found}
+use Rattle.table.specs.declared.Written.{Written}
+use Rattle.table.specs.Rules.{enabledRules, writes, inconsistent, written}
+use Rattle.table.specs.Machine.{begun, startVariables, refuse, take, allowsLength, fire, isBusy, now, ticks, step}
+use Rattle.table.specs.Bits.{values, values-set, value-within, values-zero}
+use Rattle.table.specs.Enabled.{ruleAt, Choice, none, one, several, choice, rulesFound}
+use Rattle.table.specs.Applied.{writesFrom, Result, headAllows}
+
+-- ---- the enabled rules decide
+firing : Variables → Event → Choice → Stepped
+firing s e none = refuse NotEnabled s
+firing s e (one r) = fire s e (r ∷ [])
+firing s e several = refuse ConflictingRules s
+
+fire-by-choice : (s : Variables) (e : Event) (l : List Rule) → firing s e (choice l) ≡ fire s e l
+unfolding firing choice fire
+fire-by-choice s e [] = refl
+fire-by-choice s e (r ∷ []) = refl
+fire-by-choice s e (r ∷ q ∷ l) = refl
+
+-- f is what the walk over the table t has found of the rules l
+module _ (t : List ℕ) (s : Variables) (e : Event) (f : Found) (l : List Rule) (g : choice (rulesFound t f) ≡ choice l) where
+  found : firing s e (choice (rulesFound t f)) ≡ fire s e l
+  found = ap (firing s e) g ∙ fire-by-choice s e l
+
+  pub fire-none : f .count ≡ 0 → refuse NotEnabled s ≡ fire s e l
+  unfolding rulesFound choice firing
+  fire-none z = rw (z) at found
+
+  pub fire-one : f .count ≡ 1 → fire s e (ruleAt t (f .place) (f .head) ∷ []) ≡ fire s e l
+  unfolding rulesFound choice firing
+  fire-one z = rw (z) at found
+
+  pub fire-several : (f .count ≡ 0 → ⊥) → (f .count ≡ 1 → ⊥) → refuse ConflictingRules s ≡ fire s e l
+  unfolding rulesFound choice firing
+  fire-several z y = rw (ne-eqb (f .count) 0 z, ne-eqb (f .count) 1 y) at found
+
+-- ---- one event
+module _ (l : List Rule) (s : Variables) (e : Event) (b : Bool) (g : b ≡ isBroken e) where
+  pub step-broken : b ≡ true → refuse BrokenEvent s ≡ step l s e
+  unfolding step
+  step-broken h = rw (← g, h)
+
+  pub step-ticks : b ≡ false → e .kind ≡ 11 → ticks l s (e .amount) (s .value) ≡ step l s e
+  unfolding step
+  step-ticks h k = rw (← g, h, k)
+
+  pub step-fires : b ≡ false → (e .kind ≡ 11 → ⊥) → fire s e (enabledRules (s .value) (e .kind) (e .id) l) ≡ step l s e
+  unfolding step
+  step-fires h k = rw (← g, h, ne-eqb (e .kind) 11 k)
+
+-- ---- the one enabled rule: a is whether it allows the event's length, w what its updates have come to
+module _ (t : List ℕ) (s : Variables) (e : Event) (p : ℕ) (h : RuleHead) (a : Bool) (g : a ≡ headAllows e h) where
+  pub fire-outside : a ≡ false → refuse NotEnabled s ≡ fire s e (ruleAt t p h ∷ [])
+  unfolding fire allowsLength headAllows
+  fire-outside z = rw (← g, z)
+
+  module _ (z : a ≡ true) (w : Written) (r : Result (writesFrom (e .amount) (s .value) t p) (s .value) w) where
+    pub fire-twice : w .twice ≡ true → refuse InconsistentUpdates s ≡ fire s e (ruleAt t p h ∷ [])
+    unfolding fire allowsLength headAllows
+    fire-twice y = rw (← g, z, ← r .twice, y)
+
+    pub fire-takes : w .twice ≡ false → take (values (w .bits)) ≡ fire s e (ruleAt t p h ∷ [])
+    unfolding fire allowsLength headAllows
+    fire-takes y = rw (← g, z, ← r .twice, y, r .bits y)
+
+pub allows-other : (e : Event) (h : RuleHead) → (e .kind ≡ 4 → ⊥) → true ≡ headAllows e h
+unfolding headAllows
+allows-other e h k = rw (ne-eqb (e .kind) 4 k)
+
+pub allows-start : (e : Event) (h : RuleHead) → e .kind ≡ 4 → (leb (h .low) (e .amount) && leb (e .amount) (h .high)) ≡ headAllows e h
+unfolding headAllows
+allows-start e h k = rw k
+
+-- ---- ticks: n are left, v are the bits before the next one
+module _ (l : List Rule) (s : Variables) (n : ℕ) (v : List ℕ) where
+  pub ticks-end : n ≤ 0 → take (values v) ≡ ticks l s n (values v)
+  unfolding ticks
+  ticks-end h = let z : n ≡ 0 = omega arith in rw z
+
+  module _ (k : ℕ) (h : n ≡ suc k) (b : Bool) (g : b ≡ isBusy (values v) l) where
+    pub ticks-busy : b ≡ true → refuse NotEnabled s ≡ ticks l s n (values v)
+    unfolding ticks
+    ticks-busy z = rw (h, ← g, z)
+
+    module _ (z : b ≡ false) (x : Value) (e : x ≡ now (values v)) (c : Bool) (f : c ≡ not (lessValue x (natural lastClock))) where
+      pub ticks-last : c ≡ true → refuse LastClock s ≡ ticks l s n (values v)
+      unfolding ticks
+      ticks-last y =
+          let q : lessValue x (natural lastClock) ≡ false = not-true _ (sym f ∙ y) in
+          rw (h, ← g, z, ← e, q)
+
+      pub ticks-on : c ≡ false → (y : Value) (w : ℕ) → y ≡ plus x (natural 1) → value (signed w) ≡ y → ticks l s k (values (set v 0 w)) ≡ ticks l s n (values v)
+      unfolding ticks
+      ticks-on u y w p r =
+          let q : lessValue x (natural lastClock) ≡ true = not-false _ (sym f ∙ u) in
+          rw (h, ← g, z, ← e, q, values-set v 0 w, r, p)
+
+-- ---- the start: what a record says of the variables
+unfoldable pub initialAfter : List Value → Record → List Value
+initialAfter v (Initial x) = store variables v (x .variable) (x .value)
+initialAfter v (Head h) = v
+initialAfter v Clause = v
+initialAfter v (Atomic a) = v
+initialAfter v (Change u) = v
+initialAfter v Cut = v
+initialAfter v Unknown = v
+
+begun-step : (v : List Value) (x : Record) (l : List Record) → begun (gather l .initial) (initialAfter v x) ≡ begun (gather (x ∷ l) .initial) v
+unfolding begun initialAfter gather
+begun-step v (Initial x) l = refl
+begun-step v (Head h) l = refl
+begun-step v Clause l = refl
+begun-step v (Atomic a) l = refl
+begun-step v (Change u) l = refl
+begun-step v Cut l = refl
+begun-step v Unknown l = refl
+
+pub start-begin : (s : List ℕ) → record { value = begun (gather (records (drop 0 s)) .initial) (values (replicate 288 0)) } ≡ startVariables (tableOf s)
+unfolding startVariables tableOf
+start-begin s = rw (values-zero 288)
+
+pub start-on : (s : List ℕ) (p m : ℕ) (x : Record) → p < length s → m ≡ partLengthAt notations.Table s p → x ≡ recordOf (lists.take (p + m - p) (drop p s)) →
+    (v w : List Value) → w ≡ initialAfter v x → begun (gather (records (drop (p + m) s)) .initial) w ≡ begun (gather (records (drop p s)) .initial) v
+start-on s p m x h e f v w g = rw (records-at s p m x h e f, g) (begun-step v x (records (drop (p + m) s)))
+
+pub start-end : (s : List ℕ) (p : ℕ) (v : List Value) → length s ≤ p →
+    _≡_ {A = Variables} (record { value = v }) (record { value = begun (gather (records (drop p s)) .initial) v })
+unfolding begun gather
+start-end s p v h = rw (records-end s p h)
+
+-- ---- a run's end, as the definitions have it
+abbrev pub endedOf : Ran → Ended Variables
+endedOf r = record { taken = r .taken; refusal = r .refusal; state = r .state }
