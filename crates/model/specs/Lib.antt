@@ -1,4 +1,7 @@
 pub mod State
+pub mod Parts
 pub mod Tests
+pub mod Jobs
+pub mod TestLaws
 pub mod Effects
 pub mod Machine

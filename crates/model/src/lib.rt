@@ -1,8 +1,27 @@
 // A model's machine: the state, one event on it, and a run.
 
+mod parts;
+mod tests;
+
+use model_format::Thread;
 use numbers::Duration;
 use numbers::Value;
 use records::Cause;
+pub use tests::awaits_delayed;
+pub use tests::awaits_immediate;
+pub use tests::can_activate;
+pub use tests::can_complete;
+pub use tests::can_deactivate;
+pub use tests::can_dispatch;
+pub use tests::can_enter;
+pub use tests::can_leave;
+pub use tests::can_meet_deadline;
+pub use tests::can_miss;
+pub use tests::feeds;
+pub use tests::is_busy;
+pub use tests::start_fault;
+pub use tests::switch_busy;
+pub use tests::thread_busy;
 
 // `now` and `entered` are Now and EnteredAt. `pending` and `cpu` are 255 where there is none.
 pub struct Clock {
@@ -44,4 +63,20 @@ pub struct State {
 pub struct Stepped {
     pub answer: Cause,
     pub state: State,
+}
+
+// A thread's job, as the tests ask for it.
+struct Job {
+    active: bool,
+    code: u8,
+    dispatched: Duration,
+    length: Duration,
+    spent: Duration,
+}
+
+// What the tests of a thread ask for: the clock, the thread's record and its job.
+struct View {
+    clock: Clock,
+    thread: Thread,
+    job: Job,
 }

@@ -212,185 +212,13 @@ pub fn is_assigned(b: Behavior, a: Assignment) -> bool
     false
 }
 
-fn small(n: u8) -> usize
+pub fn small(n: u8) -> usize
     ensures { λ r. ⌜ r ≡ n ⌝ }
 {
     n as usize
 }
 
-// ---- the faults of each kind
-pub fn head_faults(order: bool, x: Head) -> Faults
-    ensures { λ r. ⌜ r ≡ reading.headFaults order x ⌝ }
-{
-    let n = x.modes;
-    let i = x.initial;
-    Faults {
-        order: order,
-        excess: false,
-        names: n <= i,
-        times: false,
-        ranges: !((1 <= n) & (n <= 8)),
-        owner: false,
-        twice: false,
-        hyperperiod: false,
-    }
-}
-
-pub fn thread_faults(order: bool, m: Timing, x: Thread) -> Faults
-    ensures { λ r. ⌜ r ≡ reading.threadFaults order m x ⌝ }
-{
-    let n = m.threads;
-    let fits = times_fit(x);
-    let mask = mask_fits(m, x.modes);
-    let critical = x.critical;
-    let first = x.first;
-    Faults {
-        order: order,
-        excess: 16 <= n,
-        names: false,
-        times: !fits,
-        ranges: !(mask & ((critical < 2) & (first < 8))),
-        owner: false,
-        twice: false,
-        hyperperiod: false,
-    }
-}
-
-// Of an input port, an output port or a local.
-pub fn port_faults(order: bool, count: usize, limit: usize, m: Timing, owner: u8) -> Faults
-    ensures { λ r. ⌜ r ≡ reading.portFaults order count limit m owner ⌝ }
-{
-    let n = m.threads;
-    let t = small(owner);
-    Faults {
-        order: order,
-        excess: limit <= count,
-        names: n <= t,
-        times: false,
-        ranges: false,
-        owner: false,
-        twice: false,
-        hyperperiod: false,
-    }
-}
-
-pub fn connection_faults(order: bool, m: Timing, x: Connection) -> Faults
-    ensures { λ r. ⌜ r ≡ reading.connectionFaults order m x ⌝ }
-{
-    let n = m.connections;
-    let outputs = m.outputs;
-    let inputs = m.inputs;
-    let kind = x.kind;
-    let source = wide(x.source);
-    let target = wide(x.target);
-    let mask = mask_fits(m, x.modes);
-    let connected = is_connected(m, x.target);
-    Faults {
-        order: order,
-        excess: 32 <= n,
-        names: !((source < outputs) & (target < inputs)),
-        times: false,
-        ranges: !((kind < 2) & mask),
-        owner: false,
-        twice: connected,
-        hyperperiod: false,
-    }
-}
-
-pub fn switch_faults(order: bool, m: Timing, x: ModeTransition) -> Faults
-    ensures { λ r. ⌜ r ≡ reading.switchFaults order m x ⌝ }
-{
-    let n = m.switches;
-    let modes = m.modes;
-    let from = x.from;
-    let to = x.to;
-    let h1 = hyperperiod(m, from, from);
-    let h2 = hyperperiod(m, from, to);
-    Faults {
-        order: order,
-        excess: 16 <= n,
-        names: !((from < modes) & (to < modes)),
-        times: false,
-        ranges: false,
-        owner: false,
-        twice: false,
-        hyperperiod: (1000000000 < h1) | (1000000000 < h2),
-    }
-}
-
-pub fn transition_faults(order: bool, m: Model, x: Transition) -> Faults
-    ensures { λ r. ⌜ r ≡ reading.transitionFaults order m x ⌝ }
-{
-    let b = m.behavior;
-    let t = m.timing;
-    let n = b.transitions;
-    let threads = t.threads;
-    let thread = small(x.thread);
-    let from = x.from;
-    let to = x.to;
-    Faults {
-        order: order,
-        excess: 64 <= n,
-        names: threads <= thread,
-        times: false,
-        ranges: !((from < 8) & (to < 8)),
-        owner: false,
-        twice: false,
-        hyperperiod: false,
-    }
-}
-
-// t is the thread of the last transition, and `count` how many atoms that has.
-pub fn atom_faults(order: bool, m: Timing, t: u8, count: u8, a: Atom) -> Faults
-    ensures { λ r. ⌜ r ≡ reading.atomFaults order m t count a ⌝ }
-{
-    let op = a.op;
-    let right = a.right;
-    let left = left_tag(a);
-    let tag = operand_tag(right);
-    let left_names = allowed_names(left, m, a.tag, a.number);
-    let right_names = operand_names(m, right);
-    let left_owned = is_owned_by(m, t, a.tag, wide(a.number));
-    let right_owned = operand_owned(m, t, right);
-    Faults {
-        order: order,
-        excess: 4 <= count,
-        names: !(left_names & right_names),
-        times: false,
-        ranges: !((op < 6) & (left & tag)),
-        owner: !(left_owned & right_owned),
-        twice: false,
-        hyperperiod: false,
-    }
-}
-
-pub fn assignment_faults(order: bool, m: Model, t: u8, count: u8, a: Assignment) -> Faults
-    ensures { λ r. ⌜ r ≡ reading.assignmentFaults order m t count a ⌝ }
-{
-    let timing = m.timing;
-    let op = a.op;
-    let first = a.first;
-    let second = a.second;
-    let target = target_tag(a);
-    let tags = operand_tag(first) & operand_tag(second);
-    let target_names = allowed_names(target, timing, a.tag, a.number);
-    let names = operand_names(timing, first) & operand_names(timing, second);
-    let target_owned = is_owned_by(timing, t, a.tag, wide(a.number));
-    let owned = operand_owned(timing, t, first) & operand_owned(timing, t, second);
-    let twice = is_assigned(m.behavior, a);
-    Faults {
-        order: order,
-        excess: 4 <= count,
-        names: !(target_names & names),
-        times: false,
-        ranges: !(target & ((op < 3) & tags)),
-        owner: !(target_owned & owned),
-        twice: twice,
-        hyperperiod: false,
-    }
-}
-
-// The causes stand in the order of their numbers.
+// The first fault, in the order of the causes' numbers.
 pub fn judged(f: Faults) -> Cause
     ensures { λ r. ⌜ r ≡ reading.judged f ⌝ }
 {
@@ -421,12 +249,196 @@ pub fn judged(f: Faults) -> Cause
     Cause::None
 }
 
-// The transition that atoms and assignments belong to.
-pub fn open_transition(a: Reading) -> Transition
-    ensures { λ r. ⌜ r ≡ reading.openTransition a ⌝ }
+// ---- the cause of each kind of record, where `order` says that its kind may not stand there
+fn head_cause(order: bool, x: Head) -> Cause
+    ensures { λ r. ⌜ r ≡ reading.judged (reading.headFaults order x) ⌝ }
 {
-    let m = a.model;
-    let b = m.behavior;
+    let n = x.modes;
+    let i = x.initial;
+    judged(Faults {
+        order: order,
+        excess: false,
+        names: n <= i,
+        times: false,
+        ranges: !((1 <= n) & (n <= 8)),
+        owner: false,
+        twice: false,
+        hyperperiod: false,
+    })
+}
+
+fn thread_cause(order: bool, m: Timing, x: Thread) -> Cause
+    ensures { λ r. ⌜ r ≡ reading.judged (reading.threadFaults order m x) ⌝ }
+{
+    let n = m.threads;
+    let fits = times_fit(x);
+    let mask = mask_fits(m, x.modes);
+    let critical = x.critical;
+    let first = x.first;
+    judged(Faults {
+        order: order,
+        excess: 16 <= n,
+        names: false,
+        times: !fits,
+        ranges: !(mask & ((critical < 2) & (first < 8))),
+        owner: false,
+        twice: false,
+        hyperperiod: false,
+    })
+}
+
+// Of an input port, an output port or a local.
+fn port_cause(order: bool, count: usize, limit: usize, m: Timing, owner: u8) -> Cause
+    ensures { λ r. ⌜ r ≡ reading.judged (reading.portFaults order count limit m owner) ⌝ }
+{
+    let n = m.threads;
+    let t = small(owner);
+    judged(Faults {
+        order: order,
+        excess: limit <= count,
+        names: n <= t,
+        times: false,
+        ranges: false,
+        owner: false,
+        twice: false,
+        hyperperiod: false,
+    })
+}
+
+fn connection_cause(order: bool, m: Timing, x: Connection) -> Cause
+    ensures { λ r. ⌜ r ≡ reading.judged (reading.connectionFaults order m x) ⌝ }
+{
+    let n = m.connections;
+    let outputs = m.outputs;
+    let inputs = m.inputs;
+    let kind = x.kind;
+    let source = wide(x.source);
+    let target = wide(x.target);
+    let mask = mask_fits(m, x.modes);
+    let connected = is_connected(m, x.target);
+    judged(Faults {
+        order: order,
+        excess: 32 <= n,
+        names: !((source < outputs) & (target < inputs)),
+        times: false,
+        ranges: !((kind < 2) & mask),
+        owner: false,
+        twice: connected,
+        hyperperiod: false,
+    })
+}
+
+fn switch_cause(order: bool, m: Timing, x: ModeTransition) -> Cause
+    ensures { λ r. ⌜ r ≡ reading.judged (reading.switchFaults order m x) ⌝ }
+{
+    let n = m.switches;
+    let modes = m.modes;
+    let from = x.from;
+    let to = x.to;
+    let h1 = hyperperiod(m, from, from);
+    let h2 = hyperperiod(m, from, to);
+    judged(Faults {
+        order: order,
+        excess: 16 <= n,
+        names: !((from < modes) & (to < modes)),
+        times: false,
+        ranges: false,
+        owner: false,
+        twice: false,
+        hyperperiod: (1000000000 < h1) | (1000000000 < h2),
+    })
+}
+
+fn transition_cause(order: bool, m: Model, x: Transition) -> Cause
+    ensures { λ r. ⌜ r ≡ reading.judged (reading.transitionFaults order m x) ⌝ }
+{
+    let b = behavior_of(m);
+    let t = timing_of(m);
+    let n = b.transitions;
+    let threads = t.threads;
+    let thread = small(x.thread);
+    let from = x.from;
+    let to = x.to;
+    judged(Faults {
+        order: order,
+        excess: 64 <= n,
+        names: threads <= thread,
+        times: false,
+        ranges: !((from < 8) & (to < 8)),
+        owner: false,
+        twice: false,
+        hyperperiod: false,
+    })
+}
+
+// t is the thread of the last transition, and `count` how many atoms that has.
+fn atom_cause(order: bool, m: Timing, t: u8, count: u8, a: Atom) -> Cause
+    ensures { λ r. ⌜ r ≡ reading.judged (reading.atomFaults order m t count a) ⌝ }
+{
+    let op = a.op;
+    let right = a.right;
+    let left = left_tag(a);
+    let tag = operand_tag(right);
+    let left_names = allowed_names(left, m, a.tag, a.number);
+    let right_names = operand_names(m, right);
+    let left_owned = is_owned_by(m, t, a.tag, wide(a.number));
+    let right_owned = operand_owned(m, t, right);
+    judged(Faults {
+        order: order,
+        excess: 4 <= count,
+        names: !(left_names & right_names),
+        times: false,
+        ranges: !((op < 6) & (left & tag)),
+        owner: !(left_owned & right_owned),
+        twice: false,
+        hyperperiod: false,
+    })
+}
+
+fn assignment_cause(order: bool, m: Model, t: u8, count: u8, a: Assignment) -> Cause
+    ensures { λ r. ⌜ r ≡ reading.judged (reading.assignmentFaults order m t count a) ⌝ }
+{
+    let timing = timing_of(m);
+    let b = behavior_of(m);
+    let op = a.op;
+    let first = a.first;
+    let second = a.second;
+    let target = target_tag(a);
+    let tags = operand_tag(first) & operand_tag(second);
+    let target_names = allowed_names(target, timing, a.tag, a.number);
+    let names = operand_names(timing, first) & operand_names(timing, second);
+    let target_owned = is_owned_by(timing, t, a.tag, wide(a.number));
+    let owned = operand_owned(timing, t, first) & operand_owned(timing, t, second);
+    let twice = is_assigned(b, a);
+    judged(Faults {
+        order: order,
+        excess: 4 <= count,
+        names: !(target_names & names),
+        times: false,
+        ranges: !(target & ((op < 3) & tags)),
+        owner: !(target_owned & owned),
+        twice: twice,
+        hyperperiod: false,
+    })
+}
+
+fn timing_of(m: Model) -> Timing
+    ensures { λ r. ⌜ r ≡ m .timing ⌝ }
+{
+    m.timing
+}
+
+fn behavior_of(m: Model) -> Behavior
+    ensures { λ r. ⌜ r ≡ m .behavior ⌝ }
+{
+    m.behavior
+}
+
+// The transition that atoms and assignments belong to.
+fn open_transition(m: Model) -> Transition
+    ensures { λ r. ⌜ r ≡ laws.openIn m ⌝ }
+{
+    let b = behavior_of(m);
     let k = last_transition(b);
     transition_at(b, k)
 }
@@ -437,23 +449,23 @@ pub fn cause_of(a: Reading, r: Record) -> Cause
 {
     let order = !in_order(a.last, kind_of(r));
     let m = a.model;
-    let t = m.timing;
+    let t = timing_of(m);
     match r {
-        Record::HeadRecord(x) => judged(head_faults(order, x)),
-        Record::ThreadRecord(x) => judged(thread_faults(order, t, x)),
-        Record::InputRecord(o) => judged(port_faults(order, t.inputs, 32, t, o)),
-        Record::OutputRecord(o) => judged(port_faults(order, t.outputs, 32, t, o)),
-        Record::LocalRecord(x) => judged(port_faults(order, t.locals, 32, t, x.owner)),
-        Record::ConnectionRecord(x) => judged(connection_faults(order, t, x)),
-        Record::ModeRecord(x) => judged(switch_faults(order, t, x)),
-        Record::TransitionRecord(x) => judged(transition_faults(order, m, x)),
+        Record::HeadRecord(x) => head_cause(order, x),
+        Record::ThreadRecord(x) => thread_cause(order, t, x),
+        Record::InputRecord(o) => port_cause(order, t.inputs, 32, t, o),
+        Record::OutputRecord(o) => port_cause(order, t.outputs, 32, t, o),
+        Record::LocalRecord(x) => port_cause(order, t.locals, 32, t, x.owner),
+        Record::ConnectionRecord(x) => connection_cause(order, t, x),
+        Record::ModeRecord(x) => switch_cause(order, t, x),
+        Record::TransitionRecord(x) => transition_cause(order, m, x),
         Record::AtomRecord(x) => {
-            let o = open_transition(a);
-            judged(atom_faults(order, t, o.thread, o.atoms, x))
+            let o = open_transition(m);
+            atom_cause(order, t, o.thread, o.atoms, x)
         }
         Record::AssignmentRecord(x) => {
-            let o = open_transition(a);
-            judged(assignment_faults(order, m, o.thread, o.assignments, x))
+            let o = open_transition(m);
+            assignment_cause(order, m, o.thread, o.assignments, x)
         }
         Record::Cut => Cause::CutRecord,
         Record::Unknown => Cause::WrongKind,

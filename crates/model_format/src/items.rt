@@ -9,110 +9,18 @@ use crate::ModeTransition;
 use crate::Thread;
 use crate::Timing;
 use crate::Transition;
-use numbers::Duration;
-use numbers::Value;
+use crate::blank::no_assignment;
+use crate::blank::no_atom;
+use crate::blank::no_connection;
+use crate::blank::no_local;
+use crate::blank::no_switch;
+use crate::blank::no_thread;
+use crate::blank::no_transition;
 use numbers::lcm_up_to;
-use records::Operand;
 ghost use mathlib.Core.Path.{_≡_};
 ghost use Prim.Native.Nat.{_+_, _*_, min};
 ghost use Rattle.model_format.specs.Model as model;
 ghost use Rattle.model_format.specs.Laws.{withPeriod};
-
-fn no_thread() -> Thread
-    ensures { λ r. ⌜ r ≡ model.noThread ⌝ }
-{
-    let none = Duration(0);
-    Thread {
-        period: none,
-        deadline: none,
-        bcet: none,
-        wcet: none,
-        modes: 0,
-        critical: 0,
-        first: 0,
-    }
-}
-
-fn no_local() -> Local
-    ensures { λ r. ⌜ r ≡ model.noLocal ⌝ }
-{
-    let zero = Value(0);
-    Local {
-        owner: 0,
-        start: zero,
-    }
-}
-
-fn no_connection() -> Connection
-    ensures { λ r. ⌜ r ≡ model.noConnection ⌝ }
-{
-    Connection {
-        kind: 0,
-        source: 0,
-        target: 0,
-        modes: 0,
-    }
-}
-
-fn no_switch() -> ModeTransition
-    ensures { λ r. ⌜ r ≡ model.noSwitch ⌝ }
-{
-    let none = Duration(0);
-    ModeTransition {
-        from: 0,
-        to: 0,
-        h1: none,
-        h2: none,
-    }
-}
-
-fn no_transition() -> Transition
-    ensures { λ r. ⌜ r ≡ model.noTransition ⌝ }
-{
-    Transition {
-        thread: 0,
-        from: 0,
-        to: 0,
-        atoms: 0,
-        assignments: 0,
-    }
-}
-
-fn no_operand() -> Operand
-    ensures { λ r. ⌜ r ≡ model.noOperand ⌝ }
-{
-    let zero = Value(0);
-    Operand {
-        tag: 0,
-        value: zero,
-    }
-}
-
-fn no_atom() -> Atom
-    ensures { λ r. ⌜ r ≡ model.noAtom ⌝ }
-{
-    let right = no_operand();
-    Atom {
-        op: 0,
-        tag: 0,
-        number: 0,
-        right: right,
-    }
-}
-
-fn no_assignment() -> Assignment
-    ensures { λ r. ⌜ r ≡ model.noAssignment ⌝ }
-{
-    let first = no_operand();
-    let second = no_operand();
-    Assignment {
-        tag: 0,
-        number: 0,
-        op: 0,
-        first: first,
-        second: second,
-    }
-}
 
 // Each limit stands in specs/Model.antt.
 pub fn thread_at(m: Timing, t: usize) -> Thread

@@ -1,14 +1,13 @@
 // A timing model as bytes: its records, and reading it into a struct.
 
+mod blank;
 mod causes;
 mod format;
 mod items;
+mod reader;
 
-pub use causes::assignment_faults;
-pub use causes::atom_faults;
+pub use blank::empty_model;
 pub use causes::cause_of;
-pub use causes::connection_faults;
-pub use causes::head_faults;
 pub use causes::in_order;
 pub use causes::is_assigned;
 pub use causes::is_connected;
@@ -17,12 +16,7 @@ pub use causes::judged;
 pub use causes::last_transition;
 pub use causes::mask_fits;
 pub use causes::names_item;
-pub use causes::open_transition;
-pub use causes::port_faults;
-pub use causes::switch_faults;
-pub use causes::thread_faults;
 pub use causes::times_fit;
-pub use causes::transition_faults;
 pub use format::assignment_of;
 pub use format::atom_of;
 pub use format::connection_of;
@@ -50,6 +44,7 @@ pub use items::thread_at;
 pub use items::transition_at;
 use numbers::Duration;
 use numbers::Value;
+pub use reader::read_model;
 use records::Operand;
 use records::Refusal;
 

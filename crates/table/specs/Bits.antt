@@ -6,8 +6,8 @@ use Prim.Native.Nat.{ℕ, zero, suc, _+_, _<_, _≤_}
 use native.Mathlib.Omega.{arith}
 use native.Mathlib.Decide.{ℕ-discrete}
 use lib.Dec.{ltb}
-use lib.ListN.{getD, set, length, replicate, List·getD-eq-default}
-use lib.Seq.{ext-getD, set-out, getD-set-same, getD-set-other}
+use lib.ListN.{getD, set, length, replicate}
+use lib.Seq.{ext-getD, getD-set-same, getD-set-other}
 use borrow.Author.Tests.{lt-ltb, le-ltb}
 use Rattle.numbers.specs.declared.Value.{Value}
 use Rattle.numbers.specs.Lists.{item, store}
@@ -80,14 +80,8 @@ module _ (v : List ℕ) (j : ℕ) where
   pub value-past : variables ≤ j → value (signed 0) ≡ valueOf (values v) j
   value-past h = rw (le-ltb j variables h)
 
-  pub value-beyond : j < variables → length v ≤ j → value (signed 0) ≡ valueOf (values v) j
-  value-beyond h l = ap (λ (n : ℕ). value (signed n)) (sym (List·getD-eq-default v 0 l)) ∙ value-within h
-
   pub put-within : (n : ℕ) → j < variables → set v j n ≡ store variables v j n
   put-within n h = rw (lt-ltb j variables h)
 
   pub put-past : (n : ℕ) → variables ≤ j → v ≡ store variables v j n
   put-past n h = rw (le-ltb j variables h)
-
-  pub put-beyond : (n : ℕ) → j < variables → length v ≤ j → v ≡ store variables v j n
-  put-beyond n h l = rw (lt-ltb j variables h) (sym (set-out v j n l))

@@ -7,13 +7,16 @@ use lib.ListN.{length, take, drop}
 use lib.Dec.{eqb}
 use borrow.Author.Tests.{eq-eqb, ne-eqb}
 use Rattle.numbers.specs.declared.Value.{Value}
+use Rattle.numbers.specs.Values.{bitsOf}
 use Rattle.records.specs.declared.Notation.the-variants as notations
 use Rattle.records.specs.declared.Event.{Event}
 use Rattle.records.specs.Format.{partLengthAt}
 use Rattle.records.specs.Events.{requestKind}
 use Rattle.table_format.specs.declared.RuleHead.{RuleHead}
+use Rattle.table_format.specs.declared.Atom.{Atom}
 use Rattle.table_format.specs.declared.Record.{Record}
 use Rattle.table_format.specs.declared.Record.the-variants.{Initial, Head, Clause, Atomic, Change, Cut, Unknown}
+use Rattle.table_format.specs.Variables.{nowVar}
 use Rattle.table_format.specs.Format.{recordOf, records}
 use Rattle.table_format.specs.Table.{Rule, gather, tableOf}
 use Rattle.table_format.specs.Laws.{records-at, records-end}
@@ -21,7 +24,51 @@ use Rattle.table.specs.declared.Found.{Found}
 use Rattle.table.specs.Rules.{holds, clauseHolds, allHold, enabledRules}
 use Rattle.table.specs.Machine.{isBusy}
 
--- ---- one rule, from the record after its head on: b is whether the last clause holds, as far as its atoms are read
+-- ---- clauses
+-- the clauses of the rule whose records after its head begin at p
+abbrev pub clausesAt : List ℕ → ℕ → List (List Atom)
+clausesAt s p = gather (records (drop p s)) .clauses
+
+unfoldable pub readsClock : Atom → Bool
+readsClock a = eqb (a .variable) nowVar || (eqb (a .right .tag) 1 && eqb (bitsOf (a .right .value .0)) nowVar)
+
+-- the atom holds; where the clock is free, it may also read the clock
+unfoldable pub passes : Bool → List Value → Atom → Bool
+passes free v a = (free && readsClock a) || holds v a
+
+unfoldable pub somePasses : Bool → List Value → List Atom → Bool
+somePasses free v [] = false
+somePasses free v (a ∷ l) = passes free v a || somePasses free v l
+
+unfoldable pub allPass : Bool → List Value → List (List Atom) → Bool
+allPass free v [] = true
+allPass free v (c ∷ l) = somePasses free v c && allPass free v l
+
+some-hold : (v : List Value) (l : List Atom) → somePasses false v l ≡ clauseHolds v l
+unfolding somePasses clauseHolds passes
+some-hold v [] = refl
+some-hold v (a ∷ l) = rw (some-hold v l)
+
+pub all-hold : (v : List Value) (l : List (List Atom)) → allPass false v l ≡ allHold v l
+unfolding allPass allHold
+all-hold v [] = refl
+all-hold v (c ∷ l) = rw (some-hold v c, all-hold v l)
+
+module _ (v : List Value) (a : Atom) (f : Bool) where
+  pub passes-fixed : f ≡ false → holds v a ≡ passes f v a
+  unfolding passes
+  passes-fixed e = rw e
+
+  module _ (e : f ≡ true) (b : Bool) (g : b ≡ readsClock a) where
+    pub passes-clock : b ≡ true → true ≡ passes f v a
+    unfolding passes
+    passes-clock h = rw (e, ← g, h)
+
+    pub passes-other : b ≡ false → holds v a ≡ passes f v a
+    unfolding passes
+    passes-other h = rw (e, ← g, h)
+
+-- ---- the walk over them, from the record after the head on: b is whether the last clause holds, as far as its atoms are read
 unfoldable pub isDecided : Bool → Record → Bool
 isDecided b (Initial x) = false
 isDecided b (Head h) = true
@@ -31,55 +78,56 @@ isDecided b (Change u) = false
 isDecided b Cut = false
 isDecided b Unknown = false
 
-unfoldable pub heldAfter : List Value → Bool → Record → Bool
-heldAfter v b (Initial x) = b
-heldAfter v b (Head h) = b
-heldAfter v b Clause = false
-heldAfter v b (Atomic a) = b || holds v a
-heldAfter v b (Change u) = b
-heldAfter v b Cut = b
-heldAfter v b Unknown = b
+unfoldable pub heldAfter : Bool → List Value → Bool → Record → Bool
+heldAfter free v b (Initial x) = b
+heldAfter free v b (Head h) = b
+heldAfter free v b Clause = false
+heldAfter free v b (Atomic a) = b || passes free v a
+heldAfter free v b (Change u) = b
+heldAfter free v b Cut = b
+heldAfter free v b Unknown = b
 
-unfoldable pub enabledFrom : List Value → Bool → List Record → Bool
-enabledFrom v b [] = b
-enabledFrom v b (x ∷ l) = let r = enabledFrom v (heldAfter v b x) l in cond (isDecided b x) b r
+unfoldable pub passFrom : Bool → List Value → Bool → List Record → Bool
+passFrom free v b [] = b
+passFrom free v b (x ∷ l) = let r = passFrom free v (heldAfter free v b x) l in cond (isDecided b x) b r
 
-enabled-is-data : (v : List Value) (l : List Record) (b : Bool) → enabledFrom v b l ≡ ((b || clauseHolds v (gather l .atoms)) && allHold v (gather l .clauses))
-unfolding enabledFrom isDecided heldAfter gather clauseHolds allHold
-enabled-is-data v [] true = refl
-enabled-is-data v [] false = refl
-enabled-is-data v (Initial x ∷ l) b = enabled-is-data v l b
-enabled-is-data v (Head h ∷ l) true = refl
-enabled-is-data v (Head h ∷ l) false = refl
-enabled-is-data v (Clause ∷ l) true = enabled-is-data v l false
-enabled-is-data v (Clause ∷ l) false = refl
-enabled-is-data v (Atomic a ∷ l) b = enabled-is-data v l (b || holds v a) ∙ rw (or-assoc b (holds v a) (clauseHolds v (gather l .atoms)))
-enabled-is-data v (Change u ∷ l) b = enabled-is-data v l b
-enabled-is-data v (Cut ∷ l) b = enabled-is-data v l b
-enabled-is-data v (Unknown ∷ l) b = enabled-is-data v l b
+pass-is-data : (free : Bool) (v : List Value) (l : List Record) (b : Bool) →
+    passFrom free v b l ≡ ((b || somePasses free v (gather l .atoms)) && allPass free v (gather l .clauses))
+unfolding passFrom isDecided heldAfter gather somePasses allPass
+pass-is-data free v [] true = refl
+pass-is-data free v [] false = refl
+pass-is-data free v (Initial x ∷ l) b = pass-is-data free v l b
+pass-is-data free v (Head h ∷ l) true = refl
+pass-is-data free v (Head h ∷ l) false = refl
+pass-is-data free v (Clause ∷ l) true = pass-is-data free v l false
+pass-is-data free v (Clause ∷ l) false = refl
+pass-is-data free v (Atomic a ∷ l) b = pass-is-data free v l (b || passes free v a) ∙ rw (or-assoc b (passes free v a) (somePasses free v (gather l .atoms)))
+pass-is-data free v (Change u ∷ l) b = pass-is-data free v l b
+pass-is-data free v (Cut ∷ l) b = pass-is-data free v l b
+pass-is-data free v (Unknown ∷ l) b = pass-is-data free v l b
 
-pub enabled-rule : (v : List Value) (l : List Record) → enabledFrom v true l ≡ allHold v (gather l .clauses)
-enabled-rule v l = enabled-is-data v l true
+pub pass-all : (free : Bool) (v : List Value) (s : List ℕ) (p : ℕ) → passFrom free v true (records (drop p s)) ≡ allPass free v (clausesAt s p)
+pass-all free v s p = pass-is-data free v (records (drop p s)) true
 
 -- ---- the laws of its loop: m is the length of the part at p, x its record; d is what the code's test gives
-pub enabled-end : (v : List Value) (b : Bool) (s : List ℕ) (p : ℕ) → length s ≤ p → b ≡ enabledFrom v b (records (drop p s))
-unfolding enabledFrom
-enabled-end v b s p h = rw (records-end s p h)
+pub pass-end : (free : Bool) (v : List Value) (b : Bool) (s : List ℕ) (p : ℕ) → length s ≤ p → b ≡ passFrom free v b (records (drop p s))
+unfolding passFrom
+pass-end free v b s p h = rw (records-end s p h)
 
 module _ (s : List ℕ) (p m : ℕ) (x : Record) (h : p < length s) (e : m ≡ partLengthAt notations.Table s p) (f : x ≡ recordOf (take (p + m - p) (drop p s))) where
-  module _ (v : List Value) (b d : Bool) (g : d ≡ isDecided b x) where
-    pub enabled-decided : d ≡ true → b ≡ enabledFrom v b (records (drop p s))
-    unfolding enabledFrom
-    enabled-decided t = rw (records-at s p m x h e f, ← g, t)
+  module _ (free : Bool) (v : List Value) (b d : Bool) (g : d ≡ isDecided b x) where
+    pub pass-decided : d ≡ true → b ≡ passFrom free v b (records (drop p s))
+    unfolding passFrom
+    pass-decided t = rw (records-at s p m x h e f, ← g, t)
 
-    pub enabled-on : d ≡ false → enabledFrom v (heldAfter v b x) (records (drop (p + m) s)) ≡ enabledFrom v b (records (drop p s))
-    unfolding enabledFrom
-    enabled-on t = rw (records-at s p m x h e f, ← g, t)
+    pub pass-on : d ≡ false → passFrom free v (heldAfter free v b x) (records (drop (p + m) s)) ≡ passFrom free v b (records (drop p s))
+    unfolding passFrom
+    pass-on t = rw (records-at s p m x h e f, ← g, t)
 
 -- ---- the enabled rules of an event
 -- the rule whose head is h and whose other records begin at p
 abbrev pub ruleAt : List ℕ → ℕ → RuleHead → Rule
-ruleAt s p h = record { head = h; clauses = gather (records (drop p s)) .clauses; updates = gather (records (drop p s)) .updates }
+ruleAt s p h = record { head = h; clauses = clausesAt s p; updates = gather (records (drop p s)) .updates }
 
 unfoldable pub isAsked : Event → RuleHead → Bool
 isAsked e h = eqb (h .kind) (e .kind) && eqb (h .id) (e .id)
@@ -89,7 +137,7 @@ oneMore f q h = record { count = cond (eqb (f .count) 0) 1 2; place = q; head = 
 
 -- q is the place after the head, or after the record
 unfoldable pub foundRule : List ℕ → List Value → Event → Found → ℕ → RuleHead → Found
-foundRule s v e f q h = cond (isAsked e h && allHold v (gather (records (drop q s)) .clauses)) (oneMore f q h) f
+foundRule s v e f q h = cond (isAsked e h && allHold v (clausesAt s q)) (oneMore f q h) f
 
 unfoldable pub foundAfter : List ℕ → List Value → Event → Found → ℕ → Record → Found
 foundAfter s v e f q (Initial x) = f
@@ -119,7 +167,7 @@ module _ (s : List ℕ) (v : List Value) (e : Event) (f : Found) (q : ℕ) (h : 
   unfolding foundRule
   found-other z = rw (← g, z)
 
-  module _ (z : a ≡ true) (b : Bool) (k : b ≡ allHold v (gather (records (drop q s)) .clauses)) where
+  module _ (z : a ≡ true) (b : Bool) (k : b ≡ allHold v (clausesAt s q)) where
     pub found-disabled : b ≡ false → f ≡ foundRule s v e f q h
     unfolding foundRule
     found-disabled y = rw (← g, z, ← k, y)
@@ -145,7 +193,7 @@ find-step : (s : List ℕ) (v : List Value) (e : Event) (f : Found) (q : ℕ) (x
     choice (rulesFound s f ++ enabledRules v (e .kind) (e .id) (gather (x ∷ records (drop q s)) .rules))
 unfolding foundAfter foundRule gather enabledRules isAsked
 find-step s v e f q (Initial x) = refl
-find-step s v e f q (Head h) = go ((eqb (h .kind) (e .kind) && eqb (h .id) (e .id)) && allHold v (gather (records (drop q s)) .clauses))
+find-step s v e f q (Head h) = go ((eqb (h .kind) (e .kind) && eqb (h .id) (e .id)) && allHold v (clausesAt s q))
   where
     rest : List Rule
     rest = enabledRules v (e .kind) (e .id) (gather (records (drop q s)) .rules)
@@ -178,7 +226,7 @@ find-end s v e f p h = rw (records-end s p h, append-nil)
 
 -- ---- rules that stop a tick
 unfoldable pub ruleStops : List ℕ → List Value → ℕ → RuleHead → Bool
-ruleStops s v q h = not (eqb (h .kind) requestKind) && allHold v (gather (records (drop q s)) .clauses)
+ruleStops s v q h = not (eqb (h .kind) requestKind) && allHold v (clausesAt s q)
 
 unfoldable pub stopsTick : List ℕ → List Value → ℕ → Record → Bool
 stopsTick s v q (Initial x) = false
@@ -189,16 +237,7 @@ stopsTick s v q (Change u) = false
 stopsTick s v q Cut = false
 stopsTick s v q Unknown = false
 
-module _ (s : List ℕ) (v : List Value) (q : ℕ) (h : RuleHead) where
-  pub stops-request : h .kind ≡ 8 → false ≡ ruleStops s v q h
-  unfolding ruleStops
-  stops-request k = rw k
-
-  pub stops-enabled : (h .kind ≡ 8 → ⊥) → allHold v (gather (records (drop q s)) .clauses) ≡ ruleStops s v q h
-  unfolding ruleStops
-  stops-enabled k = rw (ne-eqb (h .kind) 8 k)
-
-busy-step : (s : List ℕ) (v : List Value) (q : ℕ) (x : Record) →
+pub busy-step : (s : List ℕ) (v : List Value) (q : ℕ) (x : Record) →
     isBusy v (gather (x ∷ records (drop q s)) .rules) ≡ (stopsTick s v q x || isBusy v (gather (records (drop q s)) .rules))
 unfolding stopsTick ruleStops gather isBusy
 busy-step s v q (Initial x) = refl
@@ -208,19 +247,3 @@ busy-step s v q (Atomic a) = refl
 busy-step s v q (Change u) = refl
 busy-step s v q Cut = refl
 busy-step s v q Unknown = refl
-
-module _ (s : List ℕ) (p m : ℕ) (x : Record) (h : p < length s) (e : m ≡ partLengthAt notations.Table s p) (f : x ≡ recordOf (take (p + m - p) (drop p s)))
-    (v : List Value) (d : Bool) (g : d ≡ stopsTick s v (p + m) x) where
-  pub busy-on : d ≡ false → isBusy v (gather (records (drop (p + m) s)) .rules) ≡ isBusy v (gather (records (drop p s)) .rules)
-  busy-on t = rw (records-at s p m x h e f, busy-step s v (p + m) x, ← g, t)
-
-  pub busy-stops : d ≡ true → true ≡ isBusy v (gather (records (drop p s)) .rules)
-  busy-stops t = rw (records-at s p m x h e f, busy-step s v (p + m) x, ← g, t)
-
-pub busy-begin : (s : List ℕ) (v : List Value) → isBusy v (gather (records (drop 0 s)) .rules) ≡ isBusy v (tableOf s .rules)
-unfolding tableOf
-busy-begin s v = refl
-
-pub busy-end : (s : List ℕ) (v : List Value) (p : ℕ) → length s ≤ p → false ≡ isBusy v (gather (records (drop p s)) .rules)
-unfolding gather isBusy
-busy-end s v p h = rw (records-end s p h)

@@ -3,5 +3,6 @@ pub mod Machine
 pub mod RuleLaws
 pub mod Bits
 pub mod Enabled
+pub mod Ticking
 pub mod Applied
 pub mod Running

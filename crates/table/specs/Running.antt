@@ -3,13 +3,15 @@ use mathlib.Core.Path.{_≡_, refl, sym, _∙_, ap}
 use mathlib.Core.Bool.{Bool, true, false, cond, _&&_, _||_, not}
 use mathlib.Core.List.{List, [], _∷_}
 use Prim.Native.Nat.{ℕ, zero, suc, _+_, _-_, _%_, _^_, _<_, _≤_}
+use native.Mathlib.Nat.{sub-zero}
 use native.Mathlib.Omega.{arith}
 use lib.ListN.{getD, set, length, drop, replicate}
 use lib.ListN as lists
 use lib.Dec.{eqb, leb}
 use borrow.Author.Tests.{ne-eqb, not-true, not-false}
 use Rattle.numbers.specs.declared.Value.{Value}
-use Rattle.numbers.specs.Lists.{store}
+use Rattle.numbers.specs.Lists.{store, firstBelow}
+use Rattle.numbers.specs.ListLaws.{first-within}
 use Rattle.numbers.specs.Values.{value, signed, natural, plus, lessValue}
 use Rattle.records.specs.declared.Notation.the-variants as notations
 use Rattle.records.specs.declared.Cause.the-variants.{BrokenEvent, NotEnabled, LastClock, ConflictingRules, InconsistentUpdates}
@@ -32,6 +34,7 @@ use Rattle.table.specs.declared.Written.{Written}
 use Rattle.table.specs.Rules.{enabledRules, writes, inconsistent, written}
 use Rattle.table.specs.Machine.{begun, startVariables, refuse, take, allowsLength, fire, isBusy, now, ticks, step}
 use Rattle.table.specs.Bits.{values, values-set, value-within, values-zero}
+use Rattle.table.specs.Ticking.{oneTick, later, first-before, first-at}
 use Rattle.table.specs.Enabled.{ruleAt, Choice, none, one, several, choice, rulesFound}
 use Rattle.table.specs.Applied.{writesFrom, Result, headAllows}
 
@@ -101,29 +104,46 @@ pub allows-start : (e : Event) (h : RuleHead) → e .kind ≡ 4 → (leb (h .low
 unfolding headAllows
 allows-start e h k = rw k
 
--- ---- ticks: n are left, v are the bits before the next one
-module _ (l : List Rule) (s : Variables) (n : ℕ) (v : List ℕ) where
-  pub ticks-end : n ≤ 0 → take (values v) ≡ ticks l s n (values v)
-  unfolding ticks
-  ticks-end h = let z : n ≡ 0 = omega arith in rw z
+-- ---- n ticks, of which those before q are quiet: v are the bits i ticks later, and what is left gives the answer
+pub ticks-begin : (l : List Rule) (s : Variables) (n : ℕ) (v : List ℕ) → values v ≡ s .value → ticks l s (n - 0) (values v) ≡ ticks l s n (s .value)
+ticks-begin l s n v e = rw (sub-zero n, e)
 
-  module _ (k : ℕ) (h : n ≡ suc k) (b : Bool) (g : b ≡ isBusy (values v) l) where
-    pub ticks-busy : b ≡ true → refuse NotEnabled s ≡ ticks l s n (values v)
+module _ (l : List Rule) (s : Variables) (n q i : ℕ) (e : q ≡ firstBelow n (λ k. isBusy (later k (s .value)) l)) (v : List ℕ) (f : values v ≡ later i (s .value))
+    (r : ticks l s (n - i) (values v) ≡ ticks l s n (s .value)) where
+  quiet : i < q → isBusy (values v) l ≡ false
+  quiet h = rw f (first-before n (λ k. isBusy (later k (s .value)) l) i (rw (← e) h))
+
+  within : q ≤ n
+  within = rw e (first-within n (λ k. isBusy (later k (s .value)) l))
+
+  busy : i ≡ q → q < n → isBusy (values v) l ≡ true
+  busy h b = rw (f, h, e) (first-at n (λ k. isBusy (later k (s .value)) l) (rw (← e) b))
+
+  module _ (h : i < q) (x : Value) (g : x ≡ now (values v)) (c : Bool) (k : c ≡ not (lessValue x (natural lastClock))) where
+    left : n - i ≡ suc (n - (i + 1))
+    left = let w = within in omega arith
+
+    pub ticks-last : c ≡ true → refuse LastClock s ≡ ticks l s n (s .value)
     unfolding ticks
-    ticks-busy z = rw (h, ← g, z)
+    ticks-last y =
+        let z : lessValue x (natural lastClock) ≡ false = not-true _ (sym k ∙ y) in
+        rw (left, quiet h, ← g, z) at r
 
-    module _ (z : b ≡ false) (x : Value) (e : x ≡ now (values v)) (c : Bool) (f : c ≡ not (lessValue x (natural lastClock))) where
-      pub ticks-last : c ≡ true → refuse LastClock s ≡ ticks l s n (values v)
-      unfolding ticks
-      ticks-last y =
-          let q : lessValue x (natural lastClock) ≡ false = not-true _ (sym f ∙ y) in
-          rw (h, ← g, z, ← e, q)
+    pub ticks-on : c ≡ false → (w : List ℕ) → values w ≡ oneTick (values v) → ticks l s (n - (i + 1)) (values w) ≡ ticks l s n (s .value)
+    unfolding ticks
+    ticks-on y w u =
+        let z : lessValue x (natural lastClock) ≡ true = not-false _ (sym k ∙ y) in
+        rw (u, ← g) (rw (left, quiet h, ← g, z) at r)
 
-      pub ticks-on : c ≡ false → (y : Value) (w : ℕ) → y ≡ plus x (natural 1) → value (signed w) ≡ y → ticks l s k (values (set v 0 w)) ≡ ticks l s n (values v)
-      unfolding ticks
-      ticks-on u y w p r =
-          let q : lessValue x (natural lastClock) ≡ true = not-false _ (sym f ∙ u) in
-          rw (h, ← g, z, ← e, q, values-set v 0 w, r, p)
+  pub ticks-busy : i ≤ q → q ≤ i → i < n → refuse NotEnabled s ≡ ticks l s n (s .value)
+  unfolding ticks
+  ticks-busy a b c =
+      let d : n - i ≡ suc (n - (i + 1)) = omega arith in
+      rw (d, busy (omega arith) (omega arith)) at r
+
+  pub ticks-end : n ≤ i → take (values v) ≡ ticks l s n (s .value)
+  unfolding ticks
+  ticks-end a = let d : n - i ≡ 0 = omega arith in rw d at r
 
 -- ---- the start: what a record says of the variables
 unfoldable pub initialAfter : List Value → Record → List Value

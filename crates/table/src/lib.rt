@@ -16,7 +16,7 @@ ghost use mathlib.Core.Path.{_≡_};
 ghost use mathlib.Core.Bool.{true, false, not};
 ghost use mathlib.Core.List.{[], _∷_};
 ghost use lib.ListN.{getD, set, drop};
-ghost use Rattle.numbers.specs.Lists.{store};
+ghost use Rattle.numbers.specs.Lists.{store, firstBelow};
 ghost use Rattle.numbers.specs.Values.{value, signed, natural, plus, lessValue};
 ghost use Rattle.records.specs.Events.{lastClock};
 ghost use Rattle.table_format.specs.Variables.{variables};
@@ -25,7 +25,8 @@ ghost use Rattle.table_format.specs.Table.{tableOf, gather};
 ghost use Rattle.table.specs.Rules as rules;
 ghost use Rattle.table.specs.Machine as machine;
 ghost use Rattle.table.specs.Bits.{values};
-ghost use Rattle.table.specs.Enabled.{isDecided, heldAfter, isAsked, oneMore, ruleAt, rulesFound, choice, foundRule, foundAfter, ruleStops, stopsTick};
+ghost use Rattle.table.specs.Enabled.{readsClock, passes, isDecided, heldAfter, allPass, clausesAt, isAsked, oneMore, ruleAt, rulesFound, choice, foundRule, foundAfter, ruleStops, stopsTick};
+ghost use Rattle.table.specs.Ticking.{oneTick, later};
 ghost use Rattle.table.specs.Applied.{isHead, writesOf, Applied, Result, headAllows};
 ghost use Rattle.table.specs.Running.{initialAfter, endedOf};
 
@@ -48,7 +49,7 @@ pub struct Ran {
 }
 
 // ---- the variables as bits
-// A walk over a table reads the variables from a lent slice of their bits: by value they would be copied for every atom.
+// A walk over a table reads the variables from a lent array of their bits: by value they would be copied for every atom.
 
 fn bits_of(x: Value) -> u32
     ensures { λ r. ⌜ value (signed r) ≡ x ⌝ }
@@ -84,13 +85,10 @@ fn variables_of(v: [u32; 288]) -> Variables
 }
 
 // A variable; one that is not there reads 0.
-fn value_in(v: &[u32], j: usize) -> Value
+fn value_in(v: &[u32; 288], j: usize) -> Value
     ensures { λ r. ⌜ r ≡ rules.valueOf (values (now (v .entry))) j ⌝ }
 {
     if 288 <= j {
-        return numbers::value_of(0);
-    }
-    if v.len() <= j {
         return numbers::value_of(0);
     }
     let n = v[j];
@@ -98,13 +96,10 @@ fn value_in(v: &[u32], j: usize) -> Value
 }
 
 // The bits of a variable; one that is not there is not written.
-fn put(v: &mut [u32], j: usize, n: u32)
+fn put(v: &mut [u32; 288], j: usize, n: u32)
     ensures { λ r. ⌜ now (v .exit) ≡ store variables (now (v .entry)) j n ⌝ }
 {
     if 288 <= j {
-        return;
-    }
-    if v.len() <= j {
         return;
     }
     v[j] = n;
@@ -112,7 +107,7 @@ fn put(v: &mut [u32], j: usize, n: u32)
 
 // ---- rules
 // `n` is the chosen length.
-fn operand_value(n: u32, v: &[u32], o: Operand) -> Value
+fn operand_value(n: u32, v: &[u32; 288], o: Operand) -> Value
     ensures { λ r. ⌜ r ≡ rules.operandValue n (values (now (v .entry))) o ⌝ }
 {
     let t = o.tag;
@@ -141,7 +136,7 @@ fn holds_op(op: u8, x: Value, y: Value) -> bool
     !numbers::is_multiple(m, p)
 }
 
-fn holds(v: &[u32], a: Atom) -> bool
+fn holds(v: &[u32; 288], a: Atom) -> bool
     ensures { λ r. ⌜ r ≡ rules.holds (values (now (v .entry))) a ⌝ }
 {
     let op = a.op;
@@ -150,6 +145,31 @@ fn holds(v: &[u32], a: Atom) -> bool
     let x = value_in(v, j as usize);
     let y = operand_value(0, v, o);
     holds_op(op, x, y)
+}
+
+// The atom reads the clock, as its variable or as its operand.
+fn reads_clock(a: Atom) -> bool
+    ensures { λ r. ⌜ r ≡ readsClock a ⌝ }
+{
+    let j = a.variable;
+    let o = a.right;
+    let t = o.tag;
+    let x = o.value;
+    let n = numbers::bits(x);
+    (j == 0) | ((t == 1) & (n == 0))
+}
+
+// `free`: an atom that reads the clock passes, whatever the clock is.
+fn passes(free: bool, v: &[u32; 288], a: Atom) -> bool
+    ensures { λ r. ⌜ r ≡ passes free (values (now (v .entry))) a ⌝ }
+{
+    if !free {
+        return holds(v, a);
+    }
+    if reads_clock(a) {
+        return true;
+    }
+    holds(v, a)
 }
 
 // The clauses of a rule are over, or one of them fails: `held` is then whether the rule is enabled.
@@ -168,8 +188,8 @@ fn is_decided(held: bool, x: Record) -> bool
 }
 
 // Whether the last clause holds, as far as its atoms are read.
-fn held_after(v: &[u32], held: bool, x: Record) -> bool
-    ensures { λ r. ⌜ r ≡ heldAfter (values (now (v .entry))) held x ⌝ }
+fn held_after(free: bool, v: &[u32; 288], held: bool, x: Record) -> bool
+    ensures { λ r. ⌜ r ≡ heldAfter free (values (now (v .entry))) held x ⌝ }
 {
     match x {
         Record::Initial(_) => held,
@@ -179,7 +199,7 @@ fn held_after(v: &[u32], held: bool, x: Record) -> bool
             if held {
                 return true;
             }
-            holds(v, a)
+            passes(free, v, a)
         }
         Record::Change(_) => held,
         Record::Cut => held,
@@ -187,9 +207,9 @@ fn held_after(v: &[u32], held: bool, x: Record) -> bool
     }
 }
 
-// Whether the rule is enabled whose records after its head begin at `from`.
-fn is_enabled(t: &[u8], from: usize, v: &[u32]) -> bool
-    ensures { λ r. ⌜ r ≡ rules.allHold (values (now (v .entry))) (gather (records (drop from (now (t .entry)))) .clauses) ⌝ }
+// Whether all clauses hold of the rule whose records after its head begin at `from`.
+fn all_pass(t: &[u8], from: usize, free: bool, v: &[u32; 288]) -> bool
+    ensures { λ r. ⌜ r ≡ allPass free (values (now (v .entry))) (clausesAt (now (t .entry)) from) ⌝ }
 {
     let mut at: usize = from;
     let mut held = true;
@@ -201,10 +221,16 @@ fn is_enabled(t: &[u8], from: usize, v: &[u32]) -> bool
         if is_decided(held, x) {
             return held;
         }
-        held = held_after(v, held, x);
+        held = held_after(free, v, held, x);
         at = next;
     }
     held
+}
+
+fn is_enabled(t: &[u8], from: usize, v: &[u32; 288]) -> bool
+    ensures { λ r. ⌜ r ≡ rules.allHold (values (now (v .entry))) (clausesAt (now (t .entry)) from) ⌝ }
+{
+    all_pass(t, from, false, v)
 }
 
 // The enabled rules of an event's kind and id: none, one or more (`count` 0, 1, 2). Of the last one its head, and the place after that.
@@ -241,7 +267,7 @@ fn one_more(f: Found, place: usize, h: RuleHead) -> Found
 }
 
 // What is found where the rule whose head h stands before `next` is looked at too.
-fn found_rule(t: &[u8], v: &[u32], e: Event, f: Found, next: usize, h: RuleHead) -> Found
+fn found_rule(t: &[u8], v: &[u32; 288], e: Event, f: Found, next: usize, h: RuleHead) -> Found
     ensures { λ r. ⌜ r ≡ foundRule (now (t .entry)) (values (now (v .entry))) e f next h ⌝ }
 {
     if !is_asked(e, h) {
@@ -253,7 +279,7 @@ fn found_rule(t: &[u8], v: &[u32], e: Event, f: Found, next: usize, h: RuleHead)
     one_more(f, next, h)
 }
 
-fn found_after(t: &[u8], v: &[u32], e: Event, f: Found, next: usize, x: Record) -> Found
+fn found_after(t: &[u8], v: &[u32; 288], e: Event, f: Found, next: usize, x: Record) -> Found
     ensures { λ r. ⌜ r ≡ foundAfter (now (t .entry)) (values (now (v .entry))) e f next x ⌝ }
 {
     match x {
@@ -268,7 +294,7 @@ fn found_after(t: &[u8], v: &[u32], e: Event, f: Found, next: usize, x: Record) 
 }
 
 // The enabled rules of an event, by one walk over the table.
-fn find(t: &[u8], v: &[u32], e: Event) -> Found
+fn find(t: &[u8], v: &[u32; 288], e: Event) -> Found
     ensures { λ r. ⌜ choice (rulesFound (now (t .entry)) r) ≡ choice (rules.enabledRules (values (now (v .entry))) (e .kind) (e .id) (tableOf (now (t .entry)) .rules)) ⌝ }
 {
     let h = RuleHead {
@@ -295,7 +321,7 @@ fn find(t: &[u8], v: &[u32], e: Event) -> Found
 }
 
 // ---- updates
-fn applies(v: &[u32], u: Update) -> bool
+fn applies(v: &[u32; 288], u: Update) -> bool
     ensures { λ r. ⌜ r ≡ rules.applies (values (now (v .entry))) u ⌝ }
 {
     let c = u.condition;
@@ -308,7 +334,7 @@ fn applies(v: &[u32], u: Update) -> bool
     numbers::same(x, y)
 }
 
-fn new_value(n: u32, v: &[u32], u: Update) -> Value
+fn new_value(n: u32, v: &[u32; 288], u: Update) -> Value
     ensures { λ r. ⌜ r ≡ rules.newValue n (values (now (v .entry))) u ⌝ }
 {
     let op = u.op;
@@ -472,48 +498,7 @@ fn fire(t: &[u8], s: Variables, e: Event, f: Found) -> Stepped
     taken(b)
 }
 
-// The rule whose head h stands before `next` is enabled, and not REQUEST's.
-fn rule_stops(t: &[u8], v: &[u32], next: usize, h: RuleHead) -> bool
-    ensures { λ r. ⌜ r ≡ ruleStops (now (t .entry)) (values (now (v .entry))) next h ⌝ }
-{
-    let k = h.kind;
-    if k == 8 {
-        return false;
-    }
-    is_enabled(t, next, v)
-}
-
-fn stops_tick(t: &[u8], v: &[u32], next: usize, x: Record) -> bool
-    ensures { λ r. ⌜ r ≡ stopsTick (now (t .entry)) (values (now (v .entry))) next x ⌝ }
-{
-    match x {
-        Record::Initial(_) => false,
-        Record::Head(h) => rule_stops(t, v, next, h),
-        Record::Clause => false,
-        Record::Atomic(_) => false,
-        Record::Change(_) => false,
-        Record::Cut => false,
-        Record::Unknown => false,
-    }
-}
-
-fn is_busy(t: &[u8], v: &[u32]) -> bool
-    ensures { λ r. ⌜ r ≡ machine.isBusy (values (now (v .entry))) (tableOf (now (t .entry)) .rules) ⌝ }
-{
-    let mut at: usize = 0;
-    while at < t.len() {
-        let w = Notation::Table;
-        let n = records::part_at(w, t, at);
-        let next = at + n;
-        let x = table_format::record_of(&t[at..next]);
-        if stops_tick(t, v, next, x) {
-            return true;
-        }
-        at = next;
-    }
-    false
-}
-
+// ---- ticks
 fn is_last_clock(now: Value) -> bool
     ensures { λ r. ⌜ r ≡ not (lessValue now (natural lastClock)) ⌝ }
 {
@@ -528,24 +513,94 @@ fn one_later(now: Value) -> Value
     numbers::plus(now, one)
 }
 
-// n ticks, one by one.
+// The bits one tick later.
+fn advance(v: &mut [u32; 288])
+    ensures { λ r. ⌜ values (now (v .exit)) ≡ oneTick (values (now (v .entry))) ⌝ }
+{
+    let clock = value_in(v, 0);
+    put(v, 0, bits_of(one_later(clock)));
+}
+
+// After how many ticks a rule is enabled, at most `limit`: its records after its head begin at `from`.
+fn ticks_to_enabled(t: &[u8], from: usize, v: &[u32; 288], limit: u32) -> u32
+    ensures { λ r. ⌜ r ≡ firstBelow limit (λ i. rules.allHold (later i (values (now (v .entry)))) (clausesAt (now (t .entry)) from)) ⌝ }
+{
+    let mut w = *v;
+    let mut i: u32 = 0;
+    while i < limit {
+        if is_enabled(t, from, &w) {
+            return i;
+        }
+        advance(&mut w);
+        i += 1;
+    }
+    i
+}
+
+// After how many ticks the rule whose head h stands before `next` stops them. Only the clock changes meanwhile: a rule with a clause
+// that fails and does not read the clock is never enabled.
+fn ticks_to_rule(t: &[u8], v: &[u32; 288], limit: u32, next: usize, h: RuleHead) -> u32
+    ensures { λ r. ⌜ r ≡ firstBelow limit (λ i. ruleStops (now (t .entry)) (later i (values (now (v .entry)))) next h) ⌝ }
+{
+    let k = h.kind;
+    if k == 8 {
+        return limit;
+    }
+    if !all_pass(t, next, true, v) {
+        return limit;
+    }
+    ticks_to_enabled(t, next, v, limit)
+}
+
+fn ticks_to_record(t: &[u8], v: &[u32; 288], limit: u32, next: usize, x: Record) -> u32
+    ensures { λ r. ⌜ r ≡ firstBelow limit (λ i. stopsTick (now (t .entry)) (later i (values (now (v .entry)))) next x) ⌝ }
+{
+    match x {
+        Record::Initial(_) => limit,
+        Record::Head(h) => ticks_to_rule(t, v, limit, next, h),
+        Record::Clause => limit,
+        Record::Atomic(_) => limit,
+        Record::Change(_) => limit,
+        Record::Cut => limit,
+        Record::Unknown => limit,
+    }
+}
+
+// How many of n ticks pass before some rule stops them, by one walk over the table.
+fn quiet_ticks(t: &[u8], v: &[u32; 288], n: u32) -> u32
+    ensures { λ r. ⌜ r ≡ firstBelow n (λ i. machine.isBusy (later i (values (now (v .entry)))) (tableOf (now (t .entry)) .rules)) ⌝ }
+{
+    let mut limit = n;
+    let mut at: usize = 0;
+    while at < t.len() {
+        let w = Notation::Table;
+        let m = records::part_at(w, t, at);
+        let next = at + m;
+        let x = table_format::record_of(&t[at..next]);
+        limit = ticks_to_record(t, v, limit, next, x);
+        at = next;
+    }
+    limit
+}
+
+// n ticks: the quiet ones, as far as the clock goes.
 fn tick(t: &[u8], s: Variables, n: u32) -> Stepped
     ensures { λ r. ⌜ r ≡ machine.ticks (tableOf (now (t .entry)) .rules) s n (s .value) ⌝ }
 {
     let mut v = all_bits(s);
-    let mut left = n;
-    while 0 < left {
-        if is_busy(t, &v) {
-            let c = Cause::NotEnabled;
-            return refused(c, s);
-        }
-        let clock = value_in(&v, 0);
-        if is_last_clock(clock) {
+    let quiet = quiet_ticks(t, &v, n);
+    let mut i: u32 = 0;
+    while i < quiet {
+        if is_last_clock(value_in(&v, 0)) {
             let c = Cause::LastClock;
             return refused(c, s);
         }
-        v[0] = bits_of(one_later(clock));
-        left -= 1;
+        advance(&mut v);
+        i += 1;
+    }
+    if i < n {
+        let c = Cause::NotEnabled;
+        return refused(c, s);
     }
     taken(v)
 }

@@ -77,6 +77,10 @@ walk-left (suc n) s p h = go (walk-left n s (placeAfter s p)) (decLt p (length s
 pub walk-records : (s : List ℕ) → walk (length s) s 0 ≡ records s
 walk-records s = walk-left (length s) s 0 (omega arith)
 
+-- the step t from p goes on, and stays within
+pub step-place : (s : List ℕ) (p : ℕ) (t : Step) → p < length s → t ≡ stepAt s p → (p < t .next) × (t .next ≤ length s)
+step-place s p t h e = place-within s p (t .next) (ap (λ (x : Step). x .next) e) h
+
 -- ---- counting: m rules at the step t from p
 at-most-one : (x : Record) → ruleIn x ≤ 1
 unfolding ruleIn
@@ -92,10 +96,6 @@ module _ (s : List ℕ) (p : ℕ) (t : Step) (m : ℕ) (h : p < length s) (e : t
   rules-here : m ≡ ruleIn (recordOf (partAt s p))
   unfolding rulesIn
   rules-here = f ∙ ap (λ (x : Step). rulesIn (x .found)) e ∙ ap rulesIn (sym (found-within s p _ h refl))
-
-  -- the next place is further on, and within
-  pub count-place : (p < t .next) × (t .next ≤ length s)
-  count-place = place-within s p (t .next) (ap (λ (x : Step). x .next) e) h
 
   pub count-fits : m ≤ 1
   count-fits = rw rules-here (at-most-one (recordOf (partAt s p)))

@@ -6,7 +6,7 @@ use Rattle.table.proofs.applies.Statement.{statement}
 use Rattle.table.proofs.applies.Tie as tie
 
 returns : tie.Need-returns
-returns c = applies-always _ (c .before .before .args .u) (c .if1 .taken)
+returns c = applies-always _ (c .before .args .u) (c .if1 .taken)
 
 cast-value-in : tie.Need-cast-value-in
 cast-value-in c = search needs
@@ -24,7 +24,7 @@ same-requires : tie.Need-same-requires
 same-requires c κs = search needs
 
 returns-2 : tie.Need-returns-2
-returns-2 c = c .same .ensures ∙ applies-where _ (c .before .before .before .before .before .args .u) (c .before .before .before .if1 .left) _ _ (c .before .before .value-in .ensures) (c .before .value-of .ensures) (omega arith)
+returns-2 c = c .same .ensures ∙ applies-where _ (c .before .before .before .before .args .u) (c .before .before .before .if1 .left) _ _ (c .before .before .value-in .ensures) (c .before .value-of .ensures) (omega arith)
 
 pub applies-spec : {M : Type 1} → statement M
 applies-spec =

@@ -10,7 +10,7 @@ applies-requires : tie.Need-applies-requires
 applies-requires c κs = search needs
 
 returns : tie.Need-returns
-returns c = update-left _ _ (c .before .before .before .args .u) _ (c .before .applies .ensures) (not-true _ (c .if1 .taken)) _ _
+returns c = update-left _ _ (c .before .before .args .u) _ (c .before .applies .ensures) (not-true _ (c .if1 .taken)) _ _
 
 new-value-requires : tie.Need-new-value-requires
 new-value-requires c κs = search needs
@@ -29,7 +29,7 @@ mark-requires c κs = search needs
 
 returns-2 : tie.Need-returns-2
 returns-2 c =
-    update-applied _ _ (c .before .before .before .before .before .before .before .before .before .before .args .u) _ (c .before .before .before .before .before .before .before .before .applies .ensures) (not-false _ (c .before .before .before .before .before .before .before .if1 .left)) _ _ _ _ _ _ _ (c .before .before .before .before .before .new-value .ensures) (c .before .before .before .bits-of .ensures)
+    update-applied _ _ (c .before .before .before .before .before .before .before .before .args .u) _ (c .before .before .before .before .before .before .before .applies .ensures) (not-false _ (c .before .before .before .before .before .before .if1 .left)) _ _ _ _ _ _ _ (c .before .before .before .before .before .new-value .ensures) (c .before .before .before .bits-of .ensures)
     (c .before .before .put .ensures) (c .mark .ensures .0) (c .mark .ensures .1) (omega arith)
 
 pub apply-update-spec : {M : Type 1} → statement M

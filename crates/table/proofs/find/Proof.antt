@@ -19,14 +19,14 @@ abbrev μ-loop : tie.MeasureT-loop
 μ-loop t v e f₀ at₀ f at = length t - at
 
 loop-holds : tie.Need-loop-holds Inv-loop μ-loop
-loop-holds c = find-begin (c .before .before .args .t .now) _ (c .before .before .args .e) _ refl
+loop-holds c = find-begin (c .before .args .t .now) _ (c .before .args .e) _ refl
 
 part-at-requires : tie.Need-part-at-requires Inv-loop μ-loop
 part-at-requires c κs = search needs
 
 add-next : tie.Need-add-next Inv-loop μ-loop
 add-next c =
-    let n = next-place notations.Table (c .before .before .before .before .before .args .t .now) _ _ (c .before .loop-test .taken) (c .part-at .ensures) in
+    let n = next-place notations.Table (c .before .before .before .before .args .t .now) _ _ (c .before .loop-test .taken) (c .part-at .ensures) in
     record { fits = omega arith }
 
 sub-record-of : tie.Need-sub-record-of Inv-loop μ-loop
@@ -37,7 +37,7 @@ part-record-of-start c = search needs
 
 part-record-of-end : tie.Need-part-record-of-end Inv-loop μ-loop
 part-record-of-end c =
-    let n = next-place notations.Table (c .before .before .before .before .before .args .t .now) _ _ (c .before .loop-test .taken) (c .part-at .ensures) in
+    let n = next-place notations.Table (c .before .before .before .before .args .t .now) _ _ (c .before .loop-test .taken) (c .part-at .ensures) in
     omega arith
 
 record-of-requires : tie.Need-record-of-requires Inv-loop μ-loop
@@ -48,15 +48,15 @@ found-after-requires c κs = search needs
 
 loop-less : tie.Need-loop-less Inv-loop μ-loop
 loop-less c =
-    let n = next-place notations.Table (c .before .before .before .before .before .before .before .before .args .t .now) _ _ (c .before .before .before .before .loop-test .taken) (c .before .before .before .part-at .ensures) in
+    let n = next-place notations.Table (c .before .before .before .before .before .before .before .args .t .now) _ _ (c .before .before .before .before .loop-test .taken) (c .before .before .before .part-at .ensures) in
     omega arith
 
 loop-again : tie.Need-loop-again Inv-loop μ-loop
 loop-again c =
-    find-on (c .before .before .before .before .before .before .before .before .args .t .now) _ _ _ (c .before .before .before .before .loop-test .taken) (c .before .before .before .part-at .ensures) (c .before .record-of .ensures) _ (c .before .before .before .before .before .before .before .before .args .e) _ _ (c .found-after .ensures) ∙ c .before .before .before .before .before .loop .inv
+    find-on (c .before .before .before .before .before .before .before .args .t .now) _ _ _ (c .before .before .before .before .loop-test .taken) (c .before .before .before .part-at .ensures) (c .before .record-of .ensures) _ (c .before .before .before .before .before .before .before .args .e) _ _ (c .found-after .ensures) ∙ c .before .before .before .before .before .loop .inv
 
 returns : tie.Need-returns Inv-loop μ-loop
-returns c = find-end (c .before .before .before .before .args .t .now) _ (c .before .before .before .before .args .e) _ _ (c .loop-test .left) ∙ c .before .loop .inv
+returns c = find-end (c .before .before .before .args .t .now) _ (c .before .before .before .args .e) _ _ (c .loop-test .left) ∙ c .before .loop .inv
 
 pub find-spec : {M : Type 1} → statement M
 find-spec =

@@ -19,8 +19,8 @@ returns : tie.Need-returns
 unfolding heldAfter
 returns c = rw (c .before .before .x .given .1, c .if1 .taken)
 
-holds-requires : tie.Need-holds-requires
-holds-requires c κs = search needs
+passes-requires : tie.Need-passes-requires
+passes-requires c κs = search needs
 
 enum-told-4 : tie.Need-enum-told-4
 enum-told-4 c = search needs
@@ -45,7 +45,7 @@ returns-4 c = rw (c .enum-told3 .given .1)
 
 returns-5 : tie.Need-returns-5
 unfolding heldAfter
-returns-5 c = rw (c .before .before .before .x .given .1, c .before .if1 .left) (c .holds .ensures)
+returns-5 c = rw (c .before .before .before .x .given .1, c .before .if1 .left) (c .passes .ensures)
 
 returns-6 : tie.Need-returns-6
 unfolding heldAfter
@@ -68,7 +68,7 @@ held-after-spec =
     enum-told-3
     enum-known-x
     returns
-    holds-requires
+    passes-requires
     enum-told-4
     enum-told-5
     enum-told-6

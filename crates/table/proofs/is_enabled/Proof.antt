@@ -1,90 +1,14 @@
-use mathlib.Core.Bool.{true}
-use mathlib.Core.Path.{_≡_, refl, sym, _∙_}
-use Prim.Native.Nat.{_-_}
-use native.Mathlib.Omega.{arith}
-use lib.ListN.{length, drop}
+use mathlib.Core.Path.{_∙_}
 use borrow.Author.Needs.{needs}
-use Rattle.records.specs.Walk.{next-place}
-use Rattle.records.specs.declared.Notation.the-variants as notations
-use Rattle.table_format.specs.Format.{records}
-use Rattle.table.specs.Bits.{values}
-use Rattle.table.specs.Enabled.{enabledFrom, enabled-rule, enabled-end, enabled-decided, enabled-on}
+use Rattle.table.specs.Enabled.{all-hold}
 use Rattle.table.proofs.is_enabled.Statement.{statement}
 use Rattle.table.proofs.is_enabled.Tie as tie
 
-abbrev Inv-loop : tie.InvT-loop
-Inv-loop t from v at₀ held₀ at held = enabledFrom (values v) held (records (drop at t)) ≡ enabledFrom (values v) true (records (drop from t))
+all-pass-requires : tie.Need-all-pass-requires
+all-pass-requires c κs = search needs
 
-abbrev μ-loop : tie.MeasureT-loop
-μ-loop t from v at₀ held₀ at held = length t - at
-
-loop-holds : tie.Need-loop-holds Inv-loop μ-loop
-loop-holds c = refl
-
-part-at-requires : tie.Need-part-at-requires Inv-loop μ-loop
-part-at-requires c κs = search needs
-
-add-next : tie.Need-add-next Inv-loop μ-loop
-add-next c =
-    let n = next-place notations.Table (c .before .before .before .before .before .args .t .now) _ _ (c .before .loop-test .taken) (c .part-at .ensures) in
-    record { fits = omega arith }
-
-sub-record-of : tie.Need-sub-record-of Inv-loop μ-loop
-sub-record-of c = search needs
-
-part-record-of-start : tie.Need-part-record-of-start Inv-loop μ-loop
-part-record-of-start c = search needs
-
-part-record-of-end : tie.Need-part-record-of-end Inv-loop μ-loop
-part-record-of-end c =
-    let n = next-place notations.Table (c .before .before .before .before .before .args .t .now) _ _ (c .before .loop-test .taken) (c .part-at .ensures) in
-    omega arith
-
-record-of-requires : tie.Need-record-of-requires Inv-loop μ-loop
-record-of-requires c κs = search needs
-
-is-decided-requires : tie.Need-is-decided-requires Inv-loop μ-loop
-is-decided-requires c κs = search needs
-
-returns : tie.Need-returns Inv-loop μ-loop
-returns c =
-    enabled-decided (c .before .before .before .before .before .before .before .before .before .args .t .now) _ _ _ (c .before .before .before .before .before .loop-test .taken) (c .before .before .before .before .part-at .ensures) (c .before .before .record-of .ensures) _ _ _ (c .before .is-decided .ensures) (c .if1 .taken) ∙
-    c .before .before .before .before .before .before .loop .inv ∙
-    enabled-rule _ _
-
-held-after-requires : tie.Need-held-after-requires Inv-loop μ-loop
-held-after-requires c κs = search needs
-
-loop-less : tie.Need-loop-less Inv-loop μ-loop
-loop-less c =
-    let n = next-place notations.Table (c .before .before .before .before .before .before .before .before .before .before .args .t .now) _ _ (c .before .before .before .before .before .before .loop-test .taken) (c .before .before .before .before .before .part-at .ensures) in
-    omega arith
-
-loop-again : tie.Need-loop-again Inv-loop μ-loop
-loop-again c =
-    rw (c .held-after .ensures)
-    (enabled-on (c .before .before .before .before .before .before .before .before .before .before .args .t .now) _ _ _ (c .before .before .before .before .before .before .loop-test .taken) (c .before .before .before .before .before .part-at .ensures) (c .before .before .before .record-of .ensures) _ _ _ (c .before .before .is-decided .ensures) (c .before .if1 .left) ∙
-    c .before .before .before .before .before .before .before .loop .inv)
-
-returns-2 : tie.Need-returns-2 Inv-loop μ-loop
-returns-2 c = enabled-end _ _ (c .before .before .before .before .args .t .now) _ (c .loop-test .left) ∙ c .before .loop .inv ∙ enabled-rule _ _
+returns : tie.Need-returns
+returns c = c .all-pass .ensures ∙ all-hold _ _
 
 pub is-enabled-spec : {M : Type 1} → statement M
-is-enabled-spec =
-    tie.close
-    (tie.spec
-    Inv-loop
-    μ-loop
-    loop-holds
-    part-at-requires
-    add-next
-    sub-record-of
-    part-record-of-start
-    part-record-of-end
-    record-of-requires
-    is-decided-requires
-    returns
-    held-after-requires
-    loop-less
-    loop-again
-    returns-2)
+is-enabled-spec = tie.close (tie.spec all-pass-requires returns)

@@ -22,9 +22,6 @@ returns-2 c = c .tick .ensures ∙ step-ticks _ _ (c .before .before .before .be
 all-bits-requires : tie.Need-all-bits-requires
 all-bits-requires c κs = search needs
 
-slice-aggregate-find : tie.Need-slice-aggregate-find
-slice-aggregate-find c = search needs
-
 find-requires : tie.Need-find-requires
 find-requires c κs = search needs
 
@@ -65,7 +62,6 @@ step-spec =
     tick-requires
     returns-2
     all-bits-requires
-    slice-aggregate-find
     find-requires
     refused-requires-2
     returns-3

@@ -5,7 +5,7 @@ use lib.ListN.{length}
 use borrow.Author.Needs.{needs}
 use Rattle.table_format.specs.Format.{records}
 use Rattle.table_reader.specs.Reading.{countRules}
-use Rattle.table_reader.specs.Laws.{left, count-place, count-fits, count-on, count-end}
+use Rattle.table_reader.specs.Laws.{left, step-place, count-fits, count-on, count-end}
 use Rattle.table_reader.proofs.count_rules.Statement.{statement}
 use Rattle.table_reader.proofs.count_rules.Tie as tie
 
@@ -26,18 +26,18 @@ rules-in-requires c κs = search needs
 
 add-n : tie.Need-add-n Inv-loop μ-loop
 add-n c =
-    let p = count-place (c .before .before .before .before .before .args .table .now) _ _ _ (c .before .before .loop-test .taken) (c .before .step-at .ensures) (c .rules-in .ensures) in
+    let p = step-place (c .before .before .before .before .before .args .table .now) _ _ (c .before .before .loop-test .taken) (c .before .step-at .ensures) in
     let m = count-fits (c .before .before .before .before .before .args .table .now) _ _ _ (c .before .before .loop-test .taken) (c .before .step-at .ensures) (c .rules-in .ensures) in
     record { fits = omega arith }
 
 loop-less : tie.Need-loop-less Inv-loop μ-loop
 loop-less c =
-    let p = count-place (c .before .before .before .before .before .args .table .now) _ _ _ (c .before .before .loop-test .taken) (c .before .step-at .ensures) (c .rules-in .ensures) in
+    let p = step-place (c .before .before .before .before .before .args .table .now) _ _ (c .before .before .loop-test .taken) (c .before .step-at .ensures) in
     omega arith
 
 loop-again : tie.Need-loop-again Inv-loop μ-loop
 loop-again c =
-    let p = count-place (c .before .before .before .before .before .args .table .now) _ _ _ (c .before .before .loop-test .taken) (c .before .step-at .ensures) (c .rules-in .ensures) in
+    let p = step-place (c .before .before .before .before .before .args .table .now) _ _ (c .before .before .loop-test .taken) (c .before .step-at .ensures) in
     let m = count-fits (c .before .before .before .before .before .args .table .now) _ _ _ (c .before .before .loop-test .taken) (c .before .step-at .ensures) (c .rules-in .ensures) in
     (p .1, omega arith, count-on (c .before .before .before .before .before .args .table .now) _ _ _ (c .before .before .loop-test .taken) (c .before .step-at .ensures) (c .rules-in .ensures) _ ∙ c .before .before .before .loop .inv .2)
 

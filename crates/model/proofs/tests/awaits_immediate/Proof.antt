@@ -1,0 +1,55 @@
+use Rattle.model.specs.TestLaws.{immediate-some, immediate-none}
+use Rattle.model.specs.Jobs.{holdsStart}
+use borrow.Author.Count.{below-more}
+use native.Mathlib.Omega.{arith}
+use Prim.Native.Nat.{ℕ, _<_, _≤_, _-_}
+use mathlib.Core.Bool.{false}
+use mathlib.Core.Path.{_≡_, sym, _∙_}
+use borrow.Author.Needs.{needs}
+use Rattle.model.proofs.tests.awaits_immediate.Statement.{statement}
+use Rattle.model.proofs.tests.awaits_immediate.Tie as tie
+
+abbrev Inv-loop : tie.InvT-loop
+Inv-loop m s t n c₀ c = (c ≤ n) × ((k : ℕ) → k < c → holdsStart m s t k ≡ false)
+
+abbrev μ-loop : tie.MeasureT-loop
+μ-loop m s t n c₀ c = n - c
+
+size-requires : tie.Need-size-requires Inv-loop μ-loop
+size-requires c κs = search needs
+
+loop-holds : tie.Need-loop-holds Inv-loop μ-loop
+loop-holds c = (omega arith, λ k l. absurd (omega arith))
+
+holds-start-requires : tie.Need-holds-start-requires Inv-loop μ-loop
+holds-start-requires c κs = search needs
+
+returns : tie.Need-returns Inv-loop μ-loop
+returns c = immediate-some _ _ _ _ _ (c .before .before .before .before .size .ensures .0) _ (c .before .before .loop-test .taken) (c .before .holds-start .ensures) (c .if1 .taken)
+
+add-c : tie.Need-add-c Inv-loop μ-loop
+add-c c = search needs
+
+loop-less : tie.Need-loop-less Inv-loop μ-loop
+loop-less c = search needs
+
+loop-again : tie.Need-loop-again Inv-loop μ-loop
+loop-again c = (omega arith, below-more _ _ (c .before .before .before .loop .inv .1) (sym (c .before .holds-start .ensures) ∙ c .if1 .left))
+
+returns-2 : tie.Need-returns-2 Inv-loop μ-loop
+returns-2 c = immediate-none _ _ _ _ _ (c .before .before .size .ensures .0) (c .loop-test .left) (c .before .loop .inv .1)
+
+pub awaits-immediate-spec : {M : Type 1} → statement M
+awaits-immediate-spec =
+    tie.close
+    (tie.spec
+    Inv-loop
+    μ-loop
+    size-requires
+    loop-holds
+    holds-start-requires
+    returns
+    add-c
+    loop-less
+    loop-again
+    returns-2)

@@ -1,0 +1,30 @@
+use Rattle.model.specs.TestLaws.{start-by}
+use mathlib.Core.Path.{_∙_}
+use borrow.Author.Needs.{needs}
+use Rattle.model.proofs.tests.start_fault.Statement.{statement}
+use Rattle.model.proofs.tests.start_fault.Tie as tie
+
+view-of-requires : tie.Need-view-of-requires
+view-of-requires c κs = search needs
+
+starts-alone-requires : tie.Need-starts-alone-requires
+starts-alone-requires c κs = search needs
+
+awaits-immediate-requires : tie.Need-awaits-immediate-requires
+awaits-immediate-requires c κs = search needs
+
+fault-of-requires : tie.Need-fault-of-requires
+fault-of-requires c κs = search needs
+
+returns : tie.Need-returns
+returns c = c .fault-of .ensures ∙ rw (c .before .before .before .starts-alone .ensures) (start-by _ _ _ _ (c .before .before .before .before .view-of .ensures) _ _ (c .before .awaits-immediate .ensures))
+
+pub start-fault-spec : {M : Type 1} → statement M
+start-fault-spec =
+    tie.close
+    (tie.spec
+    view-of-requires
+    starts-alone-requires
+    awaits-immediate-requires
+    fault-of-requires
+    returns)

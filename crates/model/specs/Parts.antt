@@ -1,0 +1,39 @@
+-- What the code reads of a state at once, and the records that it makes of one.
+use mathlib.Core.Bool.{false}
+use Prim.Native.Nat.{ℕ}
+use Rattle.numbers.specs.declared.Duration.{Duration}
+use Rattle.numbers.specs.Lists.{item, store}
+use Rattle.numbers.specs.Values.{duration}
+use Rattle.model_format.specs.Model.{maxThreads}
+use Rattle.model.specs.declared.Threads.{Threads}
+use Rattle.model.specs.declared.Job.{Job}
+
+abbrev pub noJob : Job
+noJob = record { active = false; code = 0; dispatched = duration 0; length = duration 0; spent = duration 0 }
+
+-- the job of thread t, with its state code
+unfoldable pub jobOf : Threads → ℕ → Job
+jobOf x t = record {
+  active = item maxThreads (x .active) t false;
+  code = item maxThreads (x .code) t 0;
+  dispatched = item maxThreads (x .dispatched) t (duration 0);
+  length = item maxThreads (x .length) t (duration 0);
+  spent = item maxThreads (x .spent) t (duration 0);
+}
+
+-- ---- one thread's items changed
+unfoldable pub setCode : Threads → ℕ → ℕ → Threads
+setCode x t code = record { active = x .active; code = store maxThreads (x .code) t code; dispatched = x .dispatched; length = x .length; spent = x .spent; behavior = x .behavior; missed = x .missed }
+
+unfoldable pub setDispatch : Threads → ℕ → ℕ → Duration → Threads
+setDispatch x t code now = record { active = x .active; code = store maxThreads (x .code) t code; dispatched = store maxThreads (x .dispatched) t now; length = x .length; spent = x .spent; behavior = x .behavior; missed = x .missed }
+
+-- a job of the given length, of which nothing is spent
+unfoldable pub setJob : Threads → ℕ → ℕ → Duration → Threads
+setJob x t code length = record { active = x .active; code = store maxThreads (x .code) t code; dispatched = x .dispatched; length = store maxThreads (x .length) t length; spent = store maxThreads (x .spent) t (duration 0); behavior = x .behavior; missed = x .missed }
+
+unfoldable pub setBehavior : Threads → ℕ → ℕ → Threads
+setBehavior x t to = record { active = x .active; code = x .code; dispatched = x .dispatched; length = x .length; spent = x .spent; behavior = store maxThreads (x .behavior) t to; missed = x .missed }
+
+unfoldable pub setMissed : Threads → ℕ → ℕ → Threads
+setMissed x t n = record { active = x .active; code = x .code; dispatched = x .dispatched; length = x .length; spent = x .spent; behavior = x .behavior; missed = store maxThreads (x .missed) t n }

@@ -1,0 +1,377 @@
+// The test of each event.
+
+use crate::Clock;
+use crate::Job;
+use crate::State;
+use crate::Threads;
+use crate::View;
+use crate::parts::job_of;
+use crate::parts::mark_at;
+use crate::parts::size;
+use model_format::ModeTransition;
+use model_format::Thread;
+use model_format::Timing;
+use model_format::is_kind;
+use model_format::source_thread;
+use model_format::switch_at;
+use model_format::target_thread;
+use model_format::thread_at;
+use numbers::is_multiple;
+ghost use mathlib.Core.Path.{_≡_};
+ghost use Prim.Native.Nat.{_+_};
+ghost use lib.Dec.{eqb};
+ghost use Rattle.numbers.specs.Lists.{item, anyBelow};
+ghost use Rattle.model_format.specs.Model.{noThread};
+ghost use Rattle.model.specs.Parts.{jobOf};
+ghost use Rattle.model.specs.Jobs as jobs;
+ghost use Rattle.model.specs.Tests as tests;
+
+fn wide(n: u8) -> usize
+    ensures { λ r. ⌜ r ≡ n ⌝ }
+{
+    n as usize
+}
+
+fn job_at(s: State, t: usize) -> Job
+    ensures { λ r. ⌜ r ≡ jobOf (s .threads) t ⌝ }
+{
+    let y = s.threads;
+    job_of(y, t)
+}
+
+fn view_of(m: Timing, s: State, t: usize) -> View
+    ensures { λ r. ⌜ r ≡ jobs.viewOf m s t ⌝ }
+{
+    let x = thread_at(m, t);
+    let j = job_at(s, t);
+    let k = s.clock;
+    View {
+        clock: k,
+        thread: x,
+        job: j,
+    }
+}
+
+fn activates(j: Job) -> bool
+    ensures { λ r. ⌜ r ≡ jobs.activates j ⌝ }
+{
+    j.active & (j.code == 0)
+}
+
+fn deactivates(j: Job) -> bool
+    ensures { λ r. ⌜ r ≡ jobs.deactivates j ⌝ }
+{
+    !j.active & (j.code == 1)
+}
+
+fn completes(j: Job) -> bool
+    ensures { λ r. ⌜ r ≡ jobs.completes j ⌝ }
+{
+    (j.code == 3) & (j.spent.0 == j.length.0)
+}
+
+// The sum of two durations may need more than their 32 bits.
+fn falls_due(dispatched: u32, deadline: u32, now: u32) -> bool
+    ensures { λ r. ⌜ r ≡ eqb (dispatched + deadline) now ⌝ }
+{
+    (dispatched as u64) + (deadline as u64) == (now as u64)
+}
+
+fn due_in(v: View) -> bool
+    ensures { λ r. ⌜ r ≡ jobs.dueIn v ⌝ }
+{
+    falls_due(v.job.dispatched.0, v.thread.deadline.0, v.clock.now.0)
+}
+
+fn periodic_in(v: View) -> bool
+    ensures { λ r. ⌜ r ≡ jobs.periodicIn v ⌝ }
+{
+    is_multiple(v.clock.now.0, v.thread.period.0)
+}
+
+// What DISPATCH asks of the thread alone, and START but for the processor and the length.
+fn dispatches_alone(v: View) -> bool
+    ensures { λ r. ⌜ r ≡ jobs.dispatchesAlone v ⌝ }
+{
+    (v.job.code == 1) & (v.job.active & periodic_in(v))
+}
+
+fn starts_alone(v: View) -> bool
+    ensures { λ r. ⌜ r ≡ jobs.startsAlone v ⌝ }
+{
+    (v.job.code == 2) & !due_in(v)
+}
+
+fn meets(v: View) -> bool
+    ensures { λ r. ⌜ r ≡ jobs.meets v ⌝ }
+{
+    (v.job.code == 4) & due_in(v)
+}
+
+fn misses(v: View) -> bool
+    ensures { λ r. ⌜ r ≡ jobs.misses v ⌝ }
+{
+    let late = (v.job.code == 2) | ((v.job.code == 3) & (v.job.spent.0 != v.job.length.0));
+    due_in(v) & late
+}
+
+// Whether a thread's clock, code and job leave room for an event of it, whatever its connections say: so a quiet tick looks at none.
+fn may_act(k: Clock, x: Thread, j: Job) -> bool
+    ensures { λ r. ⌜ r ≡ jobs.mayAct k x j ⌝ }
+{
+    let code = j.code;
+    match code {
+        0 => j.active,
+        1 => !j.active | is_multiple(k.now.0, x.period.0),
+        2 => (k.cpu == 255) | falls_due(j.dispatched.0, x.deadline.0, k.now.0),
+        3 => (j.spent.0 == j.length.0) | falls_due(j.dispatched.0, x.deadline.0, k.now.0),
+        4 => falls_due(j.dispatched.0, x.deadline.0, k.now.0),
+        _ => false,
+    }
+}
+
+// Of the source of a connection: DISPATCH waits for its deadline, START for its job.
+fn due_with_job(v: View) -> bool
+    ensures { λ r. ⌜ r ≡ jobs.dueWithJob v ⌝ }
+{
+    (((v.job.code == 2) | (v.job.code == 3)) | (v.job.code == 4)) & due_in(v)
+}
+
+fn beside_runs(v: View, j: Job) -> bool
+    ensures { λ r. ⌜ r ≡ jobs.besideRuns v j ⌝ }
+{
+    ((v.job.code == 2) | (v.job.code == 3)) & (v.job.dispatched.0 == j.dispatched.0)
+}
+
+fn beside_comes(v: View, j: Job) -> bool
+    ensures { λ r. ⌜ r ≡ jobs.besideComes v j ⌝ }
+{
+    let waiting = (v.job.code == 0) | (v.job.code == 1);
+    (j.dispatched.0 == v.clock.now.0) & (v.job.active & (waiting & periodic_in(v)))
+}
+
+// A live connection of a kind into thread t.
+pub fn feeds(m: Timing, s: State, kind: u8, t: usize, c: usize) -> bool
+    ensures { λ r. ⌜ r ≡ tests.feeds m s kind t c ⌝ }
+{
+    let l = s.live;
+    let live = mark_at(l, c);
+    let to = wide(target_thread(m, c));
+    is_kind(m, kind, c) & ((to == t) & live)
+}
+
+fn holds_dispatch(m: Timing, s: State, t: usize, c: usize) -> bool
+    ensures { λ r. ⌜ r ≡ jobs.holdsDispatch m s t c ⌝ }
+{
+    if !feeds(m, s, 1, t, c) {
+        return false;
+    }
+    let u = wide(source_thread(m, c));
+    let v = view_of(m, s, u);
+    due_with_job(v)
+}
+
+fn holds_start(m: Timing, s: State, t: usize, c: usize) -> bool
+    ensures { λ r. ⌜ r ≡ jobs.holdsStart m s t c ⌝ }
+{
+    if !feeds(m, s, 0, t, c) {
+        return false;
+    }
+    let j = job_at(s, t);
+    let u = wide(source_thread(m, c));
+    let v = view_of(m, s, u);
+    beside_runs(v, j) | beside_comes(v, j)
+}
+
+pub fn awaits_delayed(m: Timing, s: State, t: usize) -> bool
+    ensures { λ r. ⌜ r ≡ tests.awaitsDelayed m s t ⌝ }
+{
+    let n = size(m.connections);
+    let mut c: usize = 0;
+    while c < n {
+        if holds_dispatch(m, s, t, c) {
+            return true;
+        }
+        c += 1;
+    }
+    false
+}
+
+pub fn awaits_immediate(m: Timing, s: State, t: usize) -> bool
+    ensures { λ r. ⌜ r ≡ tests.awaitsImmediate m s t ⌝ }
+{
+    let n = size(m.connections);
+    let mut c: usize = 0;
+    while c < n {
+        if holds_start(m, s, t, c) {
+            return true;
+        }
+        c += 1;
+    }
+    false
+}
+
+pub fn can_activate(s: State, t: usize) -> bool
+    ensures { λ r. ⌜ r ≡ tests.canActivate s t ⌝ }
+{
+    let j = job_at(s, t);
+    activates(j)
+}
+
+pub fn can_deactivate(s: State, t: usize) -> bool
+    ensures { λ r. ⌜ r ≡ tests.canDeactivate s t ⌝ }
+{
+    let j = job_at(s, t);
+    deactivates(j)
+}
+
+pub fn can_dispatch(m: Timing, s: State, t: usize) -> bool
+    ensures { λ r. ⌜ r ≡ tests.canDispatch m s t ⌝ }
+{
+    let v = view_of(m, s, t);
+    let alone = dispatches_alone(v);
+    alone & !awaits_delayed(m, s, t)
+}
+
+// The first step of START's test that fails, by what each step has found.
+fn fault_of(v: View, ready: bool, waits: bool, n: u32) -> u8
+    ensures { λ r. ⌜ r ≡ jobs.faultOf v ready waits n ⌝ }
+{
+    if !ready {
+        return 1;
+    }
+    if v.clock.cpu != 255 {
+        return 2;
+    }
+    if waits {
+        return 3;
+    }
+    if (v.thread.bcet.0 <= n) & (n <= v.thread.wcet.0) {
+        0
+    } else {
+        4
+    }
+}
+
+// 1 state, 2 processor, 3 connections, 4 length; 0 where START is enabled.
+pub fn start_fault(m: Timing, s: State, t: usize, n: u32) -> u8
+    ensures { λ r. ⌜ r ≡ tests.startFault m s t n ⌝ }
+{
+    let v = view_of(m, s, t);
+    let alone = starts_alone(v);
+    let ready = (t < m.threads) & alone;
+    let waits = awaits_immediate(m, s, t);
+    fault_of(v, ready, waits, n)
+}
+
+pub fn can_complete(s: State, t: usize) -> bool
+    ensures { λ r. ⌜ r ≡ tests.canComplete s t ⌝ }
+{
+    let j = job_at(s, t);
+    completes(j)
+}
+
+pub fn can_meet_deadline(m: Timing, s: State, t: usize) -> bool
+    ensures { λ r. ⌜ r ≡ tests.canMeetDeadline m s t ⌝ }
+{
+    let v = view_of(m, s, t);
+    meets(v)
+}
+
+pub fn can_miss(m: Timing, s: State, t: usize) -> bool
+    ensures { λ r. ⌜ r ≡ tests.canMiss m s t ⌝ }
+{
+    let v = view_of(m, s, t);
+    misses(v)
+}
+
+fn enters(k: Clock, x: ModeTransition, q: usize) -> bool
+    ensures { λ r. ⌜ r ≡ jobs.enters k x q ⌝ }
+{
+    (k.phase == 1) & ((k.pending as usize == q) & is_multiple(k.now.0, x.h1.0))
+}
+
+fn leaves(k: Clock, x: ModeTransition, q: usize) -> bool
+    ensures { λ r. ⌜ r ≡ jobs.leaves k x q ⌝ }
+{
+    let late = k.now.0 != k.entered.0;
+    (k.phase == 2) & ((k.pending as usize == q) & (late & is_multiple(k.now.0, x.h2.0)))
+}
+
+pub fn can_enter(m: Timing, s: State, q: usize) -> bool
+    ensures { λ r. ⌜ r ≡ tests.canEnter m s q ⌝ }
+{
+    let k = s.clock;
+    let x = switch_at(m, q);
+    enters(k, x, q)
+}
+
+pub fn can_leave(m: Timing, s: State, q: usize) -> bool
+    ensures { λ r. ⌜ r ≡ tests.canLeave m s q ⌝ }
+{
+    let k = s.clock;
+    let x = switch_at(m, q);
+    leaves(k, x, q)
+}
+
+// Some event of thread t; START with the shortest length.
+pub fn thread_busy(m: Timing, s: State, t: usize) -> bool
+    ensures { λ r. ⌜ r ≡ tests.threadBusy m s t ⌝ }
+{
+    let x = thread_at(m, t);
+    let starts = start_fault(m, s, t, x.bcet.0) == 0;
+    let late = can_meet_deadline(m, s, t) | can_miss(m, s, t);
+    let ends = can_complete(s, t) | late;
+    let runs = can_dispatch(m, s, t) | (starts | ends);
+    can_activate(s, t) | (can_deactivate(s, t) | runs)
+}
+
+pub fn switch_busy(m: Timing, s: State, q: usize) -> bool
+    ensures { λ r. ⌜ r ≡ tests.switchBusy m s q ⌝ }
+{
+    can_enter(m, s, q) | can_leave(m, s, q)
+}
+
+fn is_calm(k: Clock, l: [Thread; 16], y: Threads, t: usize) -> bool
+    ensures { λ r. ⌜ r ≡ jobs.isCalm k l y t ⌝ }
+{
+    if 16 <= t {
+        return true;
+    }
+    let x = l[t];
+    let j = job_of(y, t);
+    !may_act(k, x, j)
+}
+
+fn threads_busy(m: Timing, s: State) -> bool
+    ensures { λ r. ⌜ r ≡ anyBelow (m .threads) (tests.threadBusy m s) ⌝ }
+{
+    let n = size(m.threads);
+    let k = s.clock;
+    let l = m.thread;
+    let y = s.threads;
+    let mut t: usize = 0;
+    while t < n {
+        if !is_calm(k, l, y, t) {
+            if thread_busy(m, s, t) {
+                return true;
+            }
+        }
+        t += 1;
+    }
+    false
+}
+
+// Some event but REQUEST. Of the mode transitions only the pending one has any.
+pub fn is_busy(m: Timing, s: State) -> bool
+    ensures { λ r. ⌜ r ≡ tests.isBusy m s ⌝ }
+{
+    if threads_busy(m, s) {
+        return true;
+    }
+    let q = wide(s.clock.pending);
+    if m.switches <= q {
+        return false;
+    }
+    switch_busy(m, s, q)
+}

@@ -1,0 +1,78 @@
+use mathlib.Core.Path.{_≡_, _∙_}
+use Prim.Native.Nat.{_-_, _≤_}
+use native.Mathlib.Omega.{arith}
+use lib.ListN.{length}
+use borrow.Author.Needs.{needs}
+use Rattle.numbers.specs.Lists.{firstBelow}
+use Rattle.records.specs.Walk.{next-place}
+use Rattle.records.specs.declared.Notation.the-variants as notations
+use Rattle.table_format.specs.Table.{tableOf}
+use Rattle.table.specs.Bits.{values}
+use Rattle.table.specs.Machine.{isBusy}
+use Rattle.table.specs.Ticking.{later, quietFrom, quiet-begin, quiet-on, quiet-end}
+use Rattle.table.proofs.quiet_ticks.Statement.{statement}
+use Rattle.table.proofs.quiet_ticks.Tie as tie
+
+abbrev Inv-loop : tie.InvT-loop
+Inv-loop t v n limit₀ at₀ limit at = quietFrom t (values v) limit at ≡ firstBelow n (λ i. isBusy (later i (values v)) (tableOf t .rules))
+
+abbrev μ-loop : tie.MeasureT-loop
+μ-loop t v n limit₀ at₀ limit at = length t - at
+
+loop-holds : tie.Need-loop-holds Inv-loop μ-loop
+loop-holds c = quiet-begin (c .before .args .t .now) _ _
+
+part-at-requires : tie.Need-part-at-requires Inv-loop μ-loop
+part-at-requires c κs = search needs
+
+add-next : tie.Need-add-next Inv-loop μ-loop
+add-next c =
+    let n = next-place notations.Table (c .before .before .before .before .args .t .now) _ _ (c .before .loop-test .taken) (c .part-at .ensures) in
+    record { fits = omega arith }
+
+sub-record-of : tie.Need-sub-record-of Inv-loop μ-loop
+sub-record-of c = search needs
+
+part-record-of-start : tie.Need-part-record-of-start Inv-loop μ-loop
+part-record-of-start c = search needs
+
+part-record-of-end : tie.Need-part-record-of-end Inv-loop μ-loop
+part-record-of-end c =
+    let n = next-place notations.Table (c .before .before .before .before .args .t .now) _ _ (c .before .loop-test .taken) (c .part-at .ensures) in
+    omega arith
+
+record-of-requires : tie.Need-record-of-requires Inv-loop μ-loop
+record-of-requires c κs = search needs
+
+ticks-to-record-requires : tie.Need-ticks-to-record-requires Inv-loop μ-loop
+ticks-to-record-requires c κs = search needs
+
+loop-less : tie.Need-loop-less Inv-loop μ-loop
+loop-less c =
+    let n = next-place notations.Table (c .before .before .before .before .before .before .before .args .t .now) _ _ (c .before .before .before .before .loop-test .taken) (c .before .before .before .part-at .ensures) in
+    omega arith
+
+loop-again : tie.Need-loop-again Inv-loop μ-loop
+loop-again c =
+    quiet-on (c .before .before .before .before .before .before .before .args .t .now) _ _ _ (c .before .before .before .before .loop-test .taken) (c .before .before .before .part-at .ensures) (c .before .record-of .ensures) _ _ _ (c .ticks-to-record .ensures) ∙ c .before .before .before .before .before .loop .inv
+
+returns : tie.Need-returns Inv-loop μ-loop
+returns c = quiet-end (c .before .before .before .args .t .now) _ _ _ (c .loop-test .left) ∙ c .before .loop .inv
+
+pub quiet-ticks-spec : {M : Type 1} → statement M
+quiet-ticks-spec =
+    tie.close
+    (tie.spec
+    Inv-loop
+    μ-loop
+    loop-holds
+    part-at-requires
+    add-next
+    sub-record-of
+    part-record-of-start
+    part-record-of-end
+    record-of-requires
+    ticks-to-record-requires
+    loop-less
+    loop-again
+    returns)
