@@ -5,3 +5,5 @@ pub mod Jobs
 pub mod TestLaws
 pub mod Effects
 pub mod Machine
+pub mod EffectLaws
+pub mod MachineLaws

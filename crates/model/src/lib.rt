@@ -1,12 +1,20 @@
 // A model's machine: the state, one event on it, and a run.
 
+mod effects;
+mod machine;
 mod parts;
+mod setters;
 mod tests;
 
+pub use effects::start_state;
+pub use machine::run_model;
+pub use machine::step;
+pub use machine::ticks;
 use model_format::Thread;
 use numbers::Duration;
 use numbers::Value;
 use records::Cause;
+use records::Refusal;
 pub use tests::awaits_delayed;
 pub use tests::awaits_immediate;
 pub use tests::can_activate;
@@ -62,6 +70,13 @@ pub struct State {
 // The answer to an event, and the state one event further, or as it was where the event is refused.
 pub struct Stepped {
     pub answer: Cause,
+    pub state: State,
+}
+
+// Where a run has come to: the events taken, the refusal that stopped it, the state.
+pub struct Ran {
+    pub taken: usize,
+    pub refusal: Refusal,
     pub state: State,
 }
 

@@ -7,7 +7,7 @@ use numbers::Duration;
 use numbers::Value;
 ghost use mathlib.Core.Path.{_≡_};
 ghost use Prim.Native.Nat.{_<_};
-ghost use Rattle.numbers.specs.Lists.{item, store};
+ghost use Rattle.numbers.specs.Lists.{item};
 ghost use Rattle.numbers.specs.Values.{natural};
 ghost use Rattle.model.specs.Parts as parts;
 ghost use mathlib.Core.Bool.{false};
@@ -74,17 +74,6 @@ pub fn value_at(l: [Value; 32], i: usize) -> Value
     ensures { λ r. ⌜ r ≡ item 32 l i (natural 0) ⌝ }
 {
     if i < 32 { l[i] } else { Value(0) }
-}
-
-pub fn with_value(l: [Value; 32], i: usize, v: Value) -> [Value; 32]
-    ensures { λ r. ⌜ r ≡ store 32 l i v ⌝ }
-{
-    if 32 <= i {
-        return l;
-    }
-    let mut q = l;
-    q[i] = v;
-    q
 }
 
 pub fn with_code(x: Threads, t: usize, code: u8) -> Threads

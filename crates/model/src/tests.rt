@@ -8,6 +8,7 @@ use crate::View;
 use crate::parts::job_of;
 use crate::parts::mark_at;
 use crate::parts::size;
+use crate::setters::wide;
 use model_format::ModeTransition;
 use model_format::Thread;
 use model_format::Timing;
@@ -25,12 +26,6 @@ ghost use Rattle.model_format.specs.Model.{noThread};
 ghost use Rattle.model.specs.Parts.{jobOf};
 ghost use Rattle.model.specs.Jobs as jobs;
 ghost use Rattle.model.specs.Tests as tests;
-
-fn wide(n: u8) -> usize
-    ensures { λ r. ⌜ r ≡ n ⌝ }
-{
-    n as usize
-}
 
 fn job_at(s: State, t: usize) -> Job
     ensures { λ r. ⌜ r ≡ jobOf (s .threads) t ⌝ }

@@ -64,7 +64,7 @@ Lockstep m a b d s v (x ∷ l) =
 pub record Demand3 (m : Model) (script table : List ℕ) : Type 0 where
   pub accepted : readTable table ≡ noRefusal
   pub lockstep :
-    Lockstep (m .timing) (modelMachine m) (tableMachine (tableOf table .rules)) noneYet (startState (m .timing)) (startVariables (tableOf table)) (parts Script script)
+      Lockstep (m .timing) (modelMachine m) (tableMachine (tableOf table .rules)) noneYet (startState (m .timing)) (startVariables (tableOf table)) (parts Script script)
   pub taken : runModel m script .taken ≡ runTable table script .taken
   pub refusal : runModel m script .refusal ≡ runTable table script .refusal
   pub clock : nowOf (runModel m script .state) ≡ clockOf (runTable table script .state)

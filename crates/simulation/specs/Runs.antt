@@ -35,24 +35,24 @@ same-clock m d s v h = ap (λ (x : Value). bitsOf (x .0)) (sym (h .now))
 module _ (m : Timing) (a : Machine State) (b : Machine Variables)
     (alike : (d : Dispatched) (s : State) (v : Variables) → Match m d s (v .value) → Alike m d s v)
     (agree : (d : Dispatched) (s : State) (v : Variables) (e : Event) → Match m d s (v .value) → Agree m a b d s v e)
-    where
-  pub lockstep : (l : List (List ℕ)) (d : Dispatched) (s : State) (v : Variables) → Match m d s (v .value) → Lockstep m a b d s v l
-  unfolding Lockstep
-  lockstep [] d s v h = alike d s v h
-  lockstep (x ∷ l) d s v h =
-      let g = agree d s v (eventOf x) h in
-      (alike d s v h, g .answer, lockstep l (andAfter d (eventOf x) (a .answer s (eventOf x))) (a .after s (eventOf x)) (b .after v (eventOf x)) (g .states))
+  where
+    pub lockstep : (l : List (List ℕ)) (d : Dispatched) (s : State) (v : Variables) → Match m d s (v .value) → Lockstep m a b d s v l
+    unfolding Lockstep
+    lockstep [] d s v h = alike d s v h
+    lockstep (x ∷ l) d s v h =
+        let g = agree d s v (eventOf x) h in
+        (alike d s v h, g .answer, lockstep l (andAfter d (eventOf x) (a .answer s (eventOf x))) (a .after s (eventOf x)) (b .after v (eventOf x)) (g .states))
 
-  pub same-run : (l : List (List ℕ)) (d : Dispatched) (s : State) (v : Variables) (k p : ℕ) → Match m d s (v .value) → SameEnd (runFrom a s k p l) (runFrom b v k p l)
-  unfolding runFrom
-  same-run [] d s v k p h = record { taken = refl; refusal = refl; clock = same-clock m d s v h }
-  same-run (x ∷ l) d s v k p h =
-      let e = eventOf x in
-      let g = agree d s v e h in
-      rw (← g .answer)
-      (by-answer (isNone (a .answer s e)) (same-run l (andAfter d e (a .answer s e)) (a .after s e) (b .after v e) (k + 1) (p + length x) (g .states))
-      (record { taken = refl; refusal = refl; clock = same-clock m d s v h }))
-    where
-      by-answer : (c : Bool) {r t : Ended State} {q u : Ended Variables} → SameEnd r q → SameEnd t u → SameEnd (cond c r t) (cond c q u)
-      by-answer true y n = y
-      by-answer false y n = n
+    pub same-run : (l : List (List ℕ)) (d : Dispatched) (s : State) (v : Variables) (k p : ℕ) → Match m d s (v .value) → SameEnd (runFrom a s k p l) (runFrom b v k p l)
+    unfolding runFrom
+    same-run [] d s v k p h = record { taken = refl; refusal = refl; clock = same-clock m d s v h }
+    same-run (x ∷ l) d s v k p h =
+        let e = eventOf x in
+        let g = agree d s v e h in
+        rw (← g .answer)
+        (by-answer (isNone (a .answer s e)) (same-run l (andAfter d e (a .answer s e)) (a .after s e) (b .after v e) (k + 1) (p + length x) (g .states))
+        (record { taken = refl; refusal = refl; clock = same-clock m d s v h }))
+      where
+        by-answer : (c : Bool) {r t : Ended State} {q u : Ended Variables} → SameEnd r q → SameEnd t u → SameEnd (cond c r t) (cond c q u)
+        by-answer true y n = y
+        by-answer false y n = n

@@ -45,12 +45,12 @@ module _ (m : Timing) (rules : List Rule) (d : Dispatched)
     (quiet : (s : State) (v : List Value) → Match m d s v → table-machine.isBusy v rules ≡ tests.isBusy m s)
     (one-tick : (s : State) (v : List Value) → Match m d s v → tests.isBusy m s ≡ false → nowOf s < lastClock → Match m d (tick m s) (tickVariables v))
     (s₀ : State) (v₀ : Variables) (h₀ : Match m d s₀ (v₀ .value))
-    where
-  pub ticks-agree : (n : ℕ) (s : State) (v : List Value) → Match m d s v → Agreed m d (model-machine.ticks m s₀ n s) (table-machine.ticks rules v₀ n v)
-  unfolding model-machine.ticks table-machine.ticks
-  ticks-agree zero s v h = record { answer = refl; states = h }
-  ticks-agree (suc n) s v h =
-      rw (quiet s v h, same-below m d s v h)
-      (by-test m d (tests.isBusy m s) (λ b. record { answer = refl; states = h₀ })
-      (λ b. by-test m d (ltb (nowOf s) lastClock) (λ l. ticks-agree n (tick m s) (tickVariables v) (one-tick s v h b (ltb-true (nowOf s) lastClock l)))
-      (λ l. record { answer = refl; states = h₀ })))
+  where
+    pub ticks-agree : (n : ℕ) (s : State) (v : List Value) → Match m d s v → Agreed m d (model-machine.ticks m s₀ n s) (table-machine.ticks rules v₀ n v)
+    unfolding model-machine.ticks table-machine.ticks
+    ticks-agree zero s v h = record { answer = refl; states = h }
+    ticks-agree (suc n) s v h =
+        rw (quiet s v h, same-below m d s v h)
+        (by-test m d (tests.isBusy m s) (λ b. record { answer = refl; states = h₀ })
+        (λ b. by-test m d (ltb (nowOf s) lastClock) (λ l. ticks-agree n (tick m s) (tickVariables v) (one-tick s v h b (ltb-true (nowOf s) lastClock l)))
+        (λ l. record { answer = refl; states = h₀ })))

@@ -103,10 +103,10 @@ startRules m t =
       low = threadAt m t .bcet .0;
       high = threadAt m t .wcet .0;
       clauses =
-        stateIs t waitingExecution ∷ plain (equals (cpuVarFor t) (constant none)) ∷ plain (differs (dueVar t) (variable nowVar)) ∷
-        perInto m immediate t (λ c. besideClause m t c ∷ comingClause m t c ∷ []);
+          stateIs t waitingExecution ∷ plain (equals (cpuVarFor t) (constant none)) ∷ plain (differs (dueVar t) (variable nowVar)) ∷
+          perInto m immediate t (λ c. besideClause m t c ∷ comingClause m t c ∷ []);
       updates =
-        setTo (stateVar t) execution ∷ setTo (cpuVarFor t) t ∷ update (endVar t) (sumOf (variable nowVar) chosenLength) ∷ perInput m t (startPort m);
+          setTo (stateVar t) execution ∷ setTo (cpuVarFor t) t ∷ update (endVar t) (sumOf (variable nowVar) chosenLength) ∷ perInput m t (startPort m);
     } ∷ []
 
 -- ---- "5: per transition of the thread State, End=Now, behaviour state, atoms, per earlier one with equal from a clause of negated

@@ -8,7 +8,6 @@ ghost use lib.ListN.{length};
 ghost use Rattle.numbers.specs.Values.{u16To, u32To, bitsOf};
 ghost use Rattle.table_format.specs.Format.{operandTo, recordTo};
 ghost use Rattle.writer.specs.Written.{farthest, Wrote};
-
 use numbers::Value;
 use records::Operand;
 use table_format::Atom;
@@ -21,7 +20,11 @@ use table_format::Update;
 fn advance(at: usize, n: usize) -> usize
     ensures { λ r. ⌜ r ≡ min (at + n) farthest ⌝ }
 {
-    if 18446744073709551615 - n < at { 18446744073709551615 } else { at + n }
+    if 18446744073709551615 - n < at {
+        18446744073709551615
+    } else {
+        at + n
+    }
 }
 
 pub fn put_byte(d: &mut [u8], at: usize, b: u8) -> usize

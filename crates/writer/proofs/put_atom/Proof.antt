@@ -26,9 +26,9 @@ unfolding recordTo
 returns c =
     let h : length (c .before .before .before .before .before .before .before .before .before .before .before .before .before .before .before .before .before .before .args .d .now) ≤ farthest = search needs in
     and-then _ _ h (and-then _ _ h (and-then _ _ h (c .before .before .before .before .before .before .before .before .before .before .before .before .before .before .put-byte .ensures)
-      (c .before .before .before .before .before .before .before .before .before .before .put-byte2 .ensures))
-      (c .before .before .before .before .before .before .put-u16 .ensures))
-      (c .before .before .put-operand .ensures)
+    (c .before .before .before .before .before .before .before .before .before .before .put-byte2 .ensures))
+    (c .before .before .before .before .before .before .put-u16 .ensures))
+    (c .before .before .put-operand .ensures)
 
 pub put-atom-spec : {M : Type 1} → statement M
 put-atom-spec =

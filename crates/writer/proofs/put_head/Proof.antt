@@ -29,10 +29,10 @@ unfolding recordTo
 returns c =
     let h : length (c .before .before .before .before .before .before .before .before .before .before .before .before .before .before .before .before .before .before .before .before .before .args .d .now) ≤ farthest = search needs in
     and-then _ _ h (and-then _ _ h (and-then _ _ h (and-then _ _ h (c .before .before .before .before .before .before .before .before .before .before .before .before .before .before .before .before .before .before .put-byte .ensures)
-      (c .before .before .before .before .before .before .before .before .before .before .before .before .before .before .put-byte2 .ensures))
-      (c .before .before .before .before .before .before .before .before .before .before .put-byte3 .ensures))
-      (c .before .before .before .before .before .before .put-u32 .ensures))
-      (c .before .before .put-u322 .ensures)
+    (c .before .before .before .before .before .before .before .before .before .before .before .before .before .before .put-byte2 .ensures))
+    (c .before .before .before .before .before .before .before .before .before .before .put-byte3 .ensures))
+    (c .before .before .before .before .before .before .put-u32 .ensures))
+    (c .before .before .put-u322 .ensures)
 
 pub put-head-spec : {M : Type 1} → statement M
 put-head-spec =

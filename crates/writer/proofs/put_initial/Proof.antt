@@ -23,8 +23,8 @@ unfolding recordTo
 returns c =
     let h : length (c .before .before .before .before .before .before .before .before .before .before .before .before .before .before .args .d .now) ≤ farthest = search needs in
     and-then _ _ h (and-then _ _ h (c .before .before .before .before .before .before .before .before .before .before .put-byte .ensures)
-      (c .before .before .before .before .before .before .put-u16 .ensures))
-      (c .before .before .put-value .ensures)
+    (c .before .before .before .before .before .before .put-u16 .ensures))
+    (c .before .before .put-value .ensures)
 
 pub put-initial-spec : {M : Type 1} → statement M
 put-initial-spec =

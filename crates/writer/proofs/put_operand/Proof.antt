@@ -18,7 +18,7 @@ returns : tie.Need-returns
 returns c =
     let h : length (c .before .before .before .before .before .before .before .before .before .before .args .d .now) ≤ farthest = search needs in
     and-then _ _ h (c .before .before .before .before .before .before .put-byte .ensures)
-      (c .before .before .put-value .ensures)
+    (c .before .before .put-value .ensures)
 
 pub put-operand-spec : {M : Type 1} → statement M
 put-operand-spec = tie.close (tie.spec put-byte-requires put-value-requires same-length returns)

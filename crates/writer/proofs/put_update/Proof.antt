@@ -35,12 +35,12 @@ unfolding recordTo
 returns c =
     let h : length (c .before .before .before .before .before .before .before .before .before .before .before .before .before .before .before .before .before .before .before .before .before .before .before .before .before .before .before .before .before .before .before .args .d .now) ≤ farthest = search needs in
     and-then _ _ h (and-then _ _ h (and-then _ _ h (and-then _ _ h (and-then _ _ h (and-then _ _ h (c .before .before .before .before .before .before .before .before .before .before .before .before .before .before .before .before .before .before .before .before .before .before .before .before .before .before .put-byte .ensures)
-      (c .before .before .before .before .before .before .before .before .before .before .before .before .before .before .before .before .before .before .before .before .before .before .put-u16 .ensures))
-      (c .before .before .before .before .before .before .before .before .before .before .before .before .before .before .before .before .before .before .put-byte2 .ensures))
-      (c .before .before .before .before .before .before .before .before .before .before .before .before .before .before .put-u162 .ensures))
-      (c .before .before .before .before .before .before .before .before .before .before .put-byte3 .ensures))
-      (c .before .before .before .before .before .before .put-operand .ensures))
-      (c .before .before .put-operand2 .ensures)
+    (c .before .before .before .before .before .before .before .before .before .before .before .before .before .before .before .before .before .before .before .before .before .before .put-u16 .ensures))
+    (c .before .before .before .before .before .before .before .before .before .before .before .before .before .before .before .before .before .before .put-byte2 .ensures))
+    (c .before .before .before .before .before .before .before .before .before .before .before .before .before .before .put-u162 .ensures))
+    (c .before .before .before .before .before .before .before .before .before .before .put-byte3 .ensures))
+    (c .before .before .before .before .before .before .put-operand .ensures))
+    (c .before .before .put-operand2 .ensures)
 
 pub put-update-spec : {M : Type 1} → statement M
 put-update-spec =

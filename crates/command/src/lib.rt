@@ -1,0 +1,123 @@
+// What the programs do around the listings: they read the files, print, and tell what failed.
+
+use libc::STDOUT_FILENO;
+ghost use mathlib.Core.Path.{_≡_};
+ghost use lib.ListN.{length};
+ghost use Rattle.io.specs.Counts.{Counts};
+
+// How many bytes of a file were read. Where it could not be opened or read, the reason has been told.
+struct Input {
+    pub length: usize,
+    pub good: bool,
+}
+
+struct Inputs {
+    pub model: usize,
+    pub script: usize,
+    pub good: bool,
+}
+
+fn failed(what: &[u8]) -> Input
+    ensures { λ r. ⌜ r .length ≡ 0 ⌝ }
+{
+    os::fail(what);
+    Input {
+        length: 0,
+        good: false,
+    }
+}
+
+// A short count may be the end of the file or a failure: one more read tells which.
+fn is_ended(fd: i32) -> bool {
+    let mut one = [0u8; 1];
+    libc::read(fd, &mut one) >= 0
+}
+
+fn read_open(fd: i32, path: &[u8], buf: &mut [u8]) -> Input
+    ensures { λ r. ⌜ Counts (r .length) (now (buf .exit)) ⌝ }
+{
+    let n = io::read_full(fd, buf);
+    if !is_ended(fd) {
+        return failed(path);
+    }
+    Input {
+        length: n,
+        good: true,
+    }
+}
+
+// The start of a file, as much as the buffer has room for.
+fn read_file(path: &[u8], buf: &mut [u8]) -> Input
+    ensures { λ r. ⌜ Counts (r .length) (now (buf .exit)) ⌝ }
+{
+    let fd = os::open_read(path);
+    if fd < 0 {
+        return failed(path);
+    }
+    let r = read_open(fd, path, buf);
+    libc::close(fd);
+    r
+}
+
+// The file that argument i names, or the one of the given name where there is no such argument.
+fn read_argument(i: usize, name: &[u8], buf: &mut [u8]) -> Input
+    ensures { λ r. ⌜ Counts (r .length) (now (buf .exit)) ⌝ }
+{
+    if os::arg_count() <= i {
+        return read_file(name, buf);
+    }
+    let mut path = io::buffer();
+    let n = os::arg(i, &mut path);
+    if os::errno() != 0 {
+        return failed(b"argument");
+    }
+    read_file(&path[..n], buf)
+}
+
+// The model and the script: the first two arguments.
+fn read_inputs(model: &mut [u8], script: &mut [u8]) -> Inputs
+    ensures { λ r. ⌜ (Counts (r .model) (now (model .exit))) × (Counts (r .script) (now (script .exit))) ⌝ }
+{
+    let m = read_argument(1, b"model.bin", model);
+    let s = read_argument(2, b"script.bin", script);
+    let a = m.good;
+    let b = s.good;
+    Inputs {
+        model: m.length,
+        script: s.length,
+        good: a & b,
+    }
+}
+
+// The first n bytes of a buffer.
+fn print_start(buf: &[u8], n: usize) {
+    if buf.len() < n {
+        io::write_all(libc::STDERR_FILENO, b"listing: too long\n");
+        return;
+    }
+    if !io::write_all(STDOUT_FILENO, &buf[..n]) {
+        os::fail(b"standard output");
+    }
+}
+
+// Room for any listing: 65,536 bytes hold at most 32,768 events, and a line has at most 26 bytes.
+fn listing_buffer() -> [u8; 1048576]
+    ensures { λ r. ⌜ 1048576 ≡ length r ⌝ }
+{
+    [0; 1048576]
+}
+
+// The program `steps`.
+pub fn steps_main() {
+    let mut model = io::large_buffer();
+    let mut script = io::large_buffer();
+    let r = read_inputs(&mut model, &mut script);
+    if !r.good {
+        return;
+    }
+    let m = r.model;
+    let s = r.script;
+    let mut out = listing_buffer();
+    let n = printing::steps_listing(&model[..m], &script[..s], &mut out);
+    print_start(&out, n);
+}

@@ -1,0 +1,128 @@
+// What the effects set in a state, beyond the items of single threads. A number past an array's end stores nothing.
+
+use crate::Clock;
+use crate::Ports;
+use crate::State;
+use crate::parts::with_code;
+use numbers::Value;
+ghost use mathlib.Core.Path.{_≡_};
+ghost use Prim.Native.Nat.{_+_, _*_, min};
+ghost use Rattle.numbers.specs.Lists.{item};
+ghost use Rattle.model.specs.State as state;
+ghost use Rattle.model.specs.EffectLaws as laws;
+
+// How many of n items an array of the given room holds.
+pub fn within(n: usize, room: usize) -> usize
+    ensures { λ r. ⌜ r ≡ min n room ⌝ }
+{
+    if n < room { n } else { room }
+}
+
+// The place of an atom or assignment j of transition k; 256 for every place past the room, so that no sum wraps.
+pub fn place(k: usize, j: usize) -> usize
+    ensures { λ r. ⌜ r ≡ min (k * 4 + j) 256 ⌝ }
+{
+    if 64 <= k {
+        return 256;
+    }
+    if 256 <= j {
+        return 256;
+    }
+    let i = k * 4 + j;
+    if i < 256 { i } else { 256 }
+}
+
+pub fn wide(n: u8) -> usize
+    ensures { λ r. ⌜ r ≡ n ⌝ }
+{
+    n as usize
+}
+
+pub fn wide16(n: u16) -> usize
+    ensures { λ r. ⌜ r ≡ n ⌝ }
+{
+    n as usize
+}
+
+pub fn wide32(n: u32) -> usize
+    ensures { λ r. ⌜ r ≡ n ⌝ }
+{
+    n as usize
+}
+
+pub fn owner_at(l: [u8; 32], i: usize) -> u8
+    ensures { λ r. ⌜ r ≡ item 32 l i 0 ⌝ }
+{
+    if i < 32 { l[i] } else { 0 }
+}
+
+pub fn put_input(p: Ports, i: usize, v: Value) -> Ports
+    ensures { λ r. ⌜ r ≡ laws.putInput p i v ⌝ }
+{
+    if 32 <= i {
+        return p;
+    }
+    let mut q = p;
+    q.input[i] = v;
+    q
+}
+
+pub fn put_buffer(p: Ports, i: usize, v: Value) -> Ports
+    ensures { λ r. ⌜ r ≡ laws.putBuffer p i v ⌝ }
+{
+    if 32 <= i {
+        return p;
+    }
+    let mut q = p;
+    q.buffer[i] = v;
+    q
+}
+
+pub fn put_output(p: Ports, i: usize, v: Value) -> Ports
+    ensures { λ r. ⌜ r ≡ laws.putOutput p i v ⌝ }
+{
+    if 32 <= i {
+        return p;
+    }
+    let mut q = p;
+    q.output[i] = v;
+    q
+}
+
+pub fn put_local(p: Ports, i: usize, v: Value) -> Ports
+    ensures { λ r. ⌜ r ≡ laws.putLocal p i v ⌝ }
+{
+    if 32 <= i {
+        return p;
+    }
+    let mut q = p;
+    q.local[i] = v;
+    q
+}
+
+pub fn with_cpu(c: Clock, cpu: u8) -> Clock
+    ensures { λ r. ⌜ r ≡ laws.setCpu c cpu ⌝ }
+{
+    let mut d = c;
+    d.cpu = cpu;
+    d
+}
+
+pub fn with_phase(c: Clock, phase: u8, pending: u8) -> Clock
+    ensures { λ r. ⌜ r ≡ laws.setPhase c phase pending ⌝ }
+{
+    let mut d = c;
+    d.phase = phase;
+    d.pending = pending;
+    d
+}
+
+pub fn with_thread_code(s: State, t: usize, code: u8) -> State
+    ensures { λ r. ⌜ r ≡ state.withCode s t code ⌝ }
+{
+    let x = s.threads;
+    let y = with_code(x, t, code);
+    let mut q = s;
+    q.threads = y;
+    q
+}

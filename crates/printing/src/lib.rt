@@ -1,0 +1,100 @@
+// The listings of the programs, written into a lent slice.
+
+use listing::Line;
+use model::State;
+use model_format::Model;
+use records::Cause;
+use records::Event;
+use records::Notation;
+ghost use mathlib.Core.Path.{_≡_};
+ghost use Prim.Native.Nat.{_≤_};
+ghost use Rattle.listing.specs.Listing.{line, lastLine, listing};
+ghost use Rattle.listing.specs.Lines.{textOf};
+ghost use Rattle.model.specs.State.{nowOf};
+ghost use Rattle.model.specs.Machine.{startState, machineOf};
+ghost use Rattle.programs.specs.Programs.{stepsListing};
+ghost use Rattle.writer.specs.Written.{Wrote};
+
+fn put_text(d: &mut [u8], at: usize, t: &[u8]) -> usize
+    ensures { λ r. ⌜ Wrote (now (d .entry)) at (now (t .entry)) (now (d .exit)) r ⌝ }
+{
+    let mut p = at;
+    let mut i = 0;
+    while i < t.len() {
+        p = writer::put_byte(d, p, t[i]);
+        i += 1;
+    }
+    p
+}
+
+fn put_line(d: &mut [u8], at: usize, l: Line) -> usize
+    requires { ⌜ l .start ≤ 96 ⌝ }
+    ensures { λ r. ⌜ Wrote (now (d .entry)) at (textOf l) (now (d .exit)) r ⌝ }
+{
+    let b = l.bytes;
+    let a = l.start;
+    put_text(d, at, &b[a..])
+}
+
+fn put_event(d: &mut [u8], at: usize, step: u64, clock: u32, e: Event) -> usize
+    ensures { λ r. ⌜ Wrote (now (d .entry)) at (line step clock e) (now (d .exit)) r ⌝ }
+{
+    put_line(d, at, listing::event_line(step, clock, e))
+}
+
+fn put_last(d: &mut [u8], at: usize, taken: u64, c: Cause, clock: u32) -> usize
+    ensures { λ r. ⌜ Wrote (now (d .entry)) at (lastLine taken c clock) (now (d .exit)) r ⌝ }
+{
+    put_line(d, at, listing::last_line(taken, c, clock))
+}
+
+fn now_of(s: State) -> u32
+    ensures { λ r. ⌜ r ≡ nowOf s ⌝ }
+{
+    let k = s.clock;
+    let n = k.now;
+    n.0
+}
+
+// The listing of a model's run, event by event.
+pub fn run_listing(m: Model, script: &[u8], d: &mut [u8]) -> usize
+    ensures { λ r. ⌜ Wrote (now (d .entry)) 0 (listing (machineOf m) nowOf (startState (m .timing)) (now (script .entry))) (now (d .exit)) r ⌝ }
+{
+    let x = m.timing;
+    let mut s = model::start_state(x);
+    let mut taken: u64 = 0;
+    let mut p = 0;
+    let mut at = 0;
+    while p < script.len() {
+        let w = Notation::Script;
+        let n = records::part_at(w, script, p);
+        let q = p + n;
+        let e = records::event_of(&script[p..q]);
+        let a = model::step(m, s, e);
+        let c = a.answer;
+        if !records::is_none(c) {
+            return put_last(d, at, taken, c, now_of(s));
+        }
+        let t = a.state;
+        taken += 1;
+        at = put_event(d, at, taken, now_of(t), e);
+        s = t;
+        p = q;
+    }
+    let c = Cause::None;
+    put_last(d, at, taken, c, now_of(s))
+}
+
+// What `steps` prints: the run of the model that the bytes hold, or the last line alone where the model is refused.
+pub fn steps_listing(model: &[u8], script: &[u8], d: &mut [u8]) -> usize
+    ensures { λ r. ⌜ Wrote (now (d .entry)) 0 (stepsListing (now (model .entry)) (now (script .entry))) (now (d .exit)) r ⌝ }
+{
+    let r = model_format::read_model(model);
+    let f = r.refusal;
+    let c = f.cause;
+    if records::is_none(c) {
+        let m = r.model;
+        return run_listing(m, script, d);
+    }
+    put_last(d, 0, 0, c, 0)
+}

@@ -1,0 +1,5 @@
+// `steps` on files that its arguments name.
+
+fn main() {
+    command::steps_main()
+}

@@ -1,0 +1,5 @@
+// `steps` on two empty files.
+
+fn main() {
+    command::steps_main()
+}
