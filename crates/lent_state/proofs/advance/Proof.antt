@@ -1,0 +1,27 @@
+-- By the walk of a function that is lent a view.
+use contract.Running.{givenOf, tables, tablesOf}
+use denote.Triple.Spec.{tripleOf}
+use denote.Triple.Table.{entered, cited}
+use Rattle.model.specs.Machine.{step}
+use Rattle.model.proofs.step.Symbol as stepped
+use Rattle.model.proofs.step.Met as stepped-thm
+use Rattle.lent_state.specs.View.{viewAfter}
+use Rattle.lent_state.proofs.Data.{model, state, event, answer, model-laws, state-laws, event-laws, answer-laws}
+use Rattle.lent_state.proofs.Lent.{Step, After, lent-meets}
+use Rattle.lent_state.proofs.view_after.Symbol as after
+use Rattle.lent_state.proofs.view_after.Met as after-thm
+use Rattle.lent_state.proofs.advance.Key as key
+use Rattle.lent_state.proofs.advance as advance
+use Rattle.lent_state.proofs.advance.Statement as stated
+use Rattle.lent_state.proofs.advance.Code as code
+
+pub advance-spec : {M : Type 1} → stated.statement M
+unfolding code.routine tablesOf
+advance-spec 𝓤 H 𝓜 𝓖 𝓡 =
+    let W = givenOf 𝓤 H 𝓜 𝓖 in
+    entered 𝓤 H (tripleOf 𝓤 H (𝓖 .A) advance.signature (advance.spec 𝓤 H (𝓖 .A) (𝓜 .mem) (𝓡 .run)))
+    (tables 𝓤 H 𝓜 𝓡 code.env .C) (tables 𝓤 H 𝓜 𝓡 code.env .Λ) key.name code.function (code.unfolded 𝓤 H 𝓜 𝓡)
+    (lent-meets model state event answer step viewAfter 𝓤 H (𝓖 .A) W (model-laws 𝓤 H (𝓖 .A) W) (state-laws 𝓤 H (𝓖 .A) W) (event-laws 𝓤 H (𝓖 .A) W) (answer-laws 𝓤 H (𝓖 .A) W) stepped.name after.name
+    (tablesOf 𝓤 H 𝓜 (tables 𝓤 H 𝓜 𝓡 code.env))
+    (cited 𝓤 H (Step model state event answer step viewAfter 𝓤 H (𝓖 .A)) 𝓜 𝓡 code.env stepped.name stepped.routine code.calls-model·step (stepped-thm.met 𝓤 H 𝓜 𝓖 𝓡))
+    (cited 𝓤 H (After model state event answer step viewAfter 𝓤 H (𝓖 .A)) 𝓜 𝓡 code.env after.name after.routine code.calls-lent-state·view-after (after-thm.met 𝓤 H 𝓜 𝓖 𝓡)))

@@ -1,0 +1,64 @@
+-- A view of a state stays one: after any event it shows the state after it, and counts it where it was taken.
+use mathlib.Core.Path.{_≡_, refl}
+use mathlib.Core.Bool.{Bool, true, false, cond}
+use Prim.Native.Nat.{ℕ, zero, suc}
+use native.Mathlib.Omega.{arith}
+use lib.Dec.{eqb, ltb}
+use Rattle.numbers.specs.Values.{oneMore}
+use Rattle.records.specs.declared.Cause.{Cause}
+use Rattle.records.specs.declared.Cause.the-variants.{BrokenEvent, NotEnabled, LastClock}
+use Rattle.records.specs.declared.Event.{Event}
+use Rattle.records.specs.Events.{tickKind, isBroken, lastClock}
+use Rattle.records.specs.Refusals.{numberOf, isNone}
+use Rattle.model_format.specs.declared.Timing.{Timing}
+use Rattle.model_format.specs.declared.Model.{Model}
+use Rattle.model.specs.declared.State.{State}
+use Rattle.model.specs.declared.Stepped.{Stepped}
+use Rattle.model.specs.State.{nowOf}
+use Rattle.model.specs.Tests.{isBusy}
+use Rattle.model.specs.Effects.{tick}
+use Rattle.model.specs.Machine.{isEnabled, effect, refuse, take, ticks, step}
+use Rattle.lent_state.specs.View.{viewOf, viewAfter}
+
+-- ---- a refused event leaves the state as it was
+Keeps : State → Stepped → Type 0
+Keeps s r = isNone (r .answer) ≡ false → r .state ≡ s
+
+either : (s : State) (b : Bool) (x y : Stepped) → Keeps s x → Keeps s y → Keeps s (cond b x y)
+either s true x y p q = p
+either s false x y p q = q
+
+refused : (s : State) (c : Cause) → Keeps s (refuse c s)
+unfolding Keeps
+refused s c h = refl
+
+taken : (s x : State) → Keeps s (take x)
+unfolding Keeps numberOf
+taken s x h = let z : _≡_ {A = ℕ} 0 1 = cc in absurd (omega arith)
+
+ticks-keep : (m : Timing) (s₀ : State) (n : ℕ) (s : State) → Keeps s₀ (ticks m s₀ n s)
+unfolding ticks
+ticks-keep m s₀ zero s = taken s₀ s
+ticks-keep m s₀ (suc n) s =
+    let r = ticks m s₀ n (tick m s) in
+    let late = cond (ltb (nowOf s) lastClock) r (refuse LastClock s₀) in
+    either s₀ (isBusy m s) (refuse NotEnabled s₀) late (refused s₀ NotEnabled)
+    (either s₀ (ltb (nowOf s) lastClock) r (refuse LastClock s₀) (ticks-keep m s₀ n (tick m s)) (refused s₀ LastClock))
+
+step-keeps : (m : Model) (s : State) (e : Event) → Keeps s (step m s e)
+unfolding step
+step-keeps m s e =
+    let r = ticks (m .timing) s (e .amount) s in
+    let x = cond (isEnabled (m .timing) s e) (take (effect m s e)) (refuse NotEnabled s) in
+    either s (isBroken e) (refuse BrokenEvent s) (cond (eqb (e .kind) tickKind) r x) (refused s BrokenEvent)
+    (either s (eqb (e .kind) tickKind) r x (ticks-keep (m .timing) s (e .amount) s)
+    (either s (isEnabled (m .timing) s e) (take (effect m s e)) (refuse NotEnabled s) (taken s (effect m s e)) (refused s NotEnabled)))
+
+-- ----
+pub view-shows : (m : Model) (s : State) (e : Event) (k : ℕ) → viewAfter (viewOf s k) (step m s e) ≡ viewOf (step m s e .state) (cond (isNone (step m s e .answer)) (oneMore k) k)
+unfolding viewAfter Keeps
+view-shows m s e k = go (step m s e) (isNone (step m s e .answer)) refl (step-keeps m s e)
+  where
+    go : (r : Stepped) (b : Bool) → isNone (r .answer) ≡ b → Keeps s r → cond (isNone (r .answer)) (viewOf (r .state) (oneMore k)) (viewOf s k) ≡ viewOf (r .state) (cond (isNone (r .answer)) (oneMore k) k)
+    go r true h p = rw h
+    go r false h p = rw (h, p h)
