@@ -3,7 +3,10 @@
 use libc::STDOUT_FILENO;
 ghost use mathlib.Core.Path.{_≡_};
 ghost use lib.ListN.{length};
+ghost use mathlib.Core.Bool.{false};
 ghost use Rattle.io.specs.Counts.{Counts};
+ghost use Rattle.programs.specs.Programs.{stepsListing, rulesListing};
+ghost use Rattle.command.specs.Shows.{Shows};
 
 // How many bytes of a file were read. Where it could not be opened or read, the reason has been told.
 struct Input {
@@ -15,6 +18,25 @@ struct Inputs {
     pub model: usize,
     pub script: usize,
     pub good: bool,
+}
+
+// What a program came to: how many bytes of its files were read, whether both could be, and how many bytes it printed.
+pub struct Shown {
+    pub model: usize,
+    pub script: usize,
+    pub good: bool,
+    pub printed: usize,
+}
+
+fn nothing(model: usize, script: usize) -> Shown
+    ensures { λ r. ⌜ r ≡ record { model = model; script = script; good = false; printed = 0 } ⌝ }
+{
+    Shown {
+        model: model,
+        script: script,
+        good: false,
+        printed: 0,
+    }
 }
 
 fn failed(what: &[u8]) -> Input
@@ -101,23 +123,48 @@ fn print_start(buf: &[u8], n: usize) {
 }
 
 // Room for any listing: 65,536 bytes hold at most 32,768 events, and a line has at most 26 bytes.
-fn listing_buffer() -> [u8; 1048576]
+pub fn listing_buffer() -> [u8; 1048576]
     ensures { λ r. ⌜ 1048576 ≡ length r ⌝ }
 {
     [0; 1048576]
 }
 
-// The program `steps`.
-pub fn steps_main() {
-    let mut model = io::large_buffer();
-    let mut script = io::large_buffer();
-    let r = read_inputs(&mut model, &mut script);
-    if !r.good {
-        return;
-    }
+// The program `steps`, with room for its two files and for what it prints: `out` up to `printed` goes to standard output.
+pub fn steps_main(model: &mut [u8], script: &mut [u8], out: &mut [u8]) -> Shown
+    ensures { λ r. ⌜ Shows stepsListing (now (model .exit)) (now (script .exit)) (now (out .entry)) r (now (out .exit)) ⌝ }
+{
+    let r = read_inputs(model, script);
     let m = r.model;
     let s = r.script;
-    let mut out = listing_buffer();
-    let n = printing::steps_listing(&model[..m], &script[..s], &mut out);
-    print_start(&out, n);
+    if !r.good {
+        return nothing(m, s);
+    }
+    let n = printing::steps_listing(&model[..m], &script[..s], out);
+    print_start(out, n);
+    Shown {
+        model: m,
+        script: s,
+        good: true,
+        printed: n,
+    }
+}
+
+// The program `rules`, likewise.
+pub fn rules_main(model: &mut [u8], script: &mut [u8], out: &mut [u8]) -> Shown
+    ensures { λ r. ⌜ Shows rulesListing (now (model .exit)) (now (script .exit)) (now (out .entry)) r (now (out .exit)) ⌝ }
+{
+    let r = read_inputs(model, script);
+    let m = r.model;
+    let s = r.script;
+    if !r.good {
+        return nothing(m, s);
+    }
+    let n = printing::rules_listing(&model[..m], &script[..s], out);
+    print_start(out, n);
+    Shown {
+        model: m,
+        script: s,
+        good: true,
+        printed: n,
+    }
 }

@@ -135,10 +135,10 @@ fn check(m: Model, start: State, script: &[u8]) {
 }
 
 fn check_run(bytes: &[u8], script: &[u8]) {
-    let read = model_format::read_model(bytes);
+    let read = model_reader::read_model(bytes);
     let m = read.model;
     let x = m.timing;
-    let s = model::start_state(x);
+    let s = model_machine::start_state(x);
     check(m, s, script);
 }
 

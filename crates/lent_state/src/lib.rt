@@ -61,7 +61,7 @@ pub fn view_after(v: View, r: Stepped) -> View
 pub fn advance(view: &mut View, m: Model, s: State, e: Event) -> Stepped
     ensures { λ r. ⌜ (r ≡ step m s e) × (now (view .exit) ≡ viewAfter (now (view .entry)) (step m s e)) ⌝ }
 {
-    let r = model::step(m, s, e);
+    let r = model_machine::step(m, s, e);
     *view = view_after(*view, r);
     r
 }

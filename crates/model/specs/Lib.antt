@@ -5,5 +5,3 @@ pub mod Jobs
 pub mod TestLaws
 pub mod Effects
 pub mod Machine
-pub mod EffectLaws
-pub mod MachineLaws

@@ -1,20 +1,33 @@
-// A model's machine: the state, one event on it, and a run.
+// A model's state, and the test of each event.
 
-mod effects;
-mod machine;
 mod parts;
 mod setters;
 mod tests;
 
-pub use effects::start_state;
-pub use machine::run_model;
-pub use machine::step;
-pub use machine::ticks;
 use model_format::Thread;
 use numbers::Duration;
 use numbers::Value;
+pub use parts::behavior_of;
+pub use parts::job_of;
+pub use parts::missed_of;
+pub use parts::value_at;
+pub use parts::with_behavior;
+pub use parts::with_dispatch;
+pub use parts::with_job;
+pub use parts::with_missed;
 use records::Cause;
-use records::Refusal;
+pub use setters::owner_at;
+pub use setters::put_buffer;
+pub use setters::put_input;
+pub use setters::put_local;
+pub use setters::put_output;
+pub use setters::wide;
+pub use setters::wide16;
+pub use setters::wide32;
+pub use setters::with_cpu;
+pub use setters::with_phase;
+pub use setters::with_thread_code;
+pub use setters::within;
 pub use tests::awaits_delayed;
 pub use tests::awaits_immediate;
 pub use tests::can_activate;
@@ -73,20 +86,13 @@ pub struct Stepped {
     pub state: State,
 }
 
-// Where a run has come to: the events taken, the refusal that stopped it, the state.
-pub struct Ran {
-    pub taken: usize,
-    pub refusal: Refusal,
-    pub state: State,
-}
-
 // A thread's job, as the tests ask for it.
-struct Job {
-    active: bool,
-    code: u8,
-    dispatched: Duration,
-    length: Duration,
-    spent: Duration,
+pub struct Job {
+    pub active: bool,
+    pub code: u8,
+    pub dispatched: Duration,
+    pub length: Duration,
+    pub spent: Duration,
 }
 
 // What the tests of a thread ask for: the clock, the thread's record and its job.

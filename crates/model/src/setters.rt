@@ -6,30 +6,16 @@ use crate::State;
 use crate::parts::with_code;
 use numbers::Value;
 ghost use mathlib.Core.Path.{_≡_};
-ghost use Prim.Native.Nat.{_+_, _*_, min};
+ghost use Prim.Native.Nat.{min};
 ghost use Rattle.numbers.specs.Lists.{item};
 ghost use Rattle.model.specs.State as state;
-ghost use Rattle.model.specs.EffectLaws as laws;
+ghost use Rattle.model.specs.Parts as parts;
 
 // How many of n items an array of the given room holds.
 pub fn within(n: usize, room: usize) -> usize
     ensures { λ r. ⌜ r ≡ min n room ⌝ }
 {
     if n < room { n } else { room }
-}
-
-// The place of an atom or assignment j of transition k; 256 for every place past the room, so that no sum wraps.
-pub fn place(k: usize, j: usize) -> usize
-    ensures { λ r. ⌜ r ≡ min (k * 4 + j) 256 ⌝ }
-{
-    if 64 <= k {
-        return 256;
-    }
-    if 256 <= j {
-        return 256;
-    }
-    let i = k * 4 + j;
-    if i < 256 { i } else { 256 }
 }
 
 pub fn wide(n: u8) -> usize
@@ -57,7 +43,7 @@ pub fn owner_at(l: [u8; 32], i: usize) -> u8
 }
 
 pub fn put_input(p: Ports, i: usize, v: Value) -> Ports
-    ensures { λ r. ⌜ r ≡ laws.putInput p i v ⌝ }
+    ensures { λ r. ⌜ r ≡ parts.putInput p i v ⌝ }
 {
     if 32 <= i {
         return p;
@@ -68,7 +54,7 @@ pub fn put_input(p: Ports, i: usize, v: Value) -> Ports
 }
 
 pub fn put_buffer(p: Ports, i: usize, v: Value) -> Ports
-    ensures { λ r. ⌜ r ≡ laws.putBuffer p i v ⌝ }
+    ensures { λ r. ⌜ r ≡ parts.putBuffer p i v ⌝ }
 {
     if 32 <= i {
         return p;
@@ -79,7 +65,7 @@ pub fn put_buffer(p: Ports, i: usize, v: Value) -> Ports
 }
 
 pub fn put_output(p: Ports, i: usize, v: Value) -> Ports
-    ensures { λ r. ⌜ r ≡ laws.putOutput p i v ⌝ }
+    ensures { λ r. ⌜ r ≡ parts.putOutput p i v ⌝ }
 {
     if 32 <= i {
         return p;
@@ -90,7 +76,7 @@ pub fn put_output(p: Ports, i: usize, v: Value) -> Ports
 }
 
 pub fn put_local(p: Ports, i: usize, v: Value) -> Ports
-    ensures { λ r. ⌜ r ≡ laws.putLocal p i v ⌝ }
+    ensures { λ r. ⌜ r ≡ parts.putLocal p i v ⌝ }
 {
     if 32 <= i {
         return p;
@@ -101,7 +87,7 @@ pub fn put_local(p: Ports, i: usize, v: Value) -> Ports
 }
 
 pub fn with_cpu(c: Clock, cpu: u8) -> Clock
-    ensures { λ r. ⌜ r ≡ laws.setCpu c cpu ⌝ }
+    ensures { λ r. ⌜ r ≡ parts.setCpu c cpu ⌝ }
 {
     let mut d = c;
     d.cpu = cpu;
@@ -109,7 +95,7 @@ pub fn with_cpu(c: Clock, cpu: u8) -> Clock
 }
 
 pub fn with_phase(c: Clock, phase: u8, pending: u8) -> Clock
-    ensures { λ r. ⌜ r ≡ laws.setPhase c phase pending ⌝ }
+    ensures { λ r. ⌜ r ≡ parts.setPhase c phase pending ⌝ }
 {
     let mut d = c;
     d.phase = phase;

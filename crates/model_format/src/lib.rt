@@ -1,22 +1,10 @@
-// A timing model as bytes: its records, and reading it into a struct.
+// A timing model: the records of its bytes, and the struct that reading makes of them, with its items by number.
 
 mod blank;
-mod causes;
 mod format;
 mod items;
-mod reader;
 
 pub use blank::empty_model;
-pub use causes::cause_of;
-pub use causes::in_order;
-pub use causes::is_assigned;
-pub use causes::is_connected;
-pub use causes::is_owned_by;
-pub use causes::judged;
-pub use causes::last_transition;
-pub use causes::mask_fits;
-pub use causes::names_item;
-pub use causes::times_fit;
 pub use format::assignment_of;
 pub use format::atom_of;
 pub use format::connection_of;
@@ -37,14 +25,15 @@ pub use items::input_owner;
 pub use items::is_kind;
 pub use items::local_at;
 pub use items::output_owner;
+pub use items::place;
 pub use items::source_thread;
 pub use items::switch_at;
 pub use items::target_thread;
 pub use items::thread_at;
 pub use items::transition_at;
+pub use items::wide;
 use numbers::Duration;
 use numbers::Value;
-pub use reader::read_model;
 use records::Operand;
 use records::Refusal;
 

@@ -1,3 +1,5 @@
 pub mod Places
+pub mod Rules
 pub mod Runs
 pub mod Steps
+pub mod Tables

@@ -8,11 +8,14 @@ use records::Event;
 use records::Notation;
 ghost use mathlib.Core.Path.{_≡_};
 ghost use Prim.Native.Nat.{_≤_};
+ghost use lib.ListN.{length};
 ghost use Rattle.listing.specs.Listing.{line, lastLine, listing};
 ghost use Rattle.listing.specs.Lines.{textOf};
 ghost use Rattle.model.specs.State.{nowOf};
 ghost use Rattle.model.specs.Machine.{startState, machineOf};
-ghost use Rattle.programs.specs.Programs.{stepsListing};
+ghost use Rattle.table_format.specs.Table.{tableOf};
+ghost use Rattle.table.specs.Machine as table-machine;
+ghost use Rattle.programs.specs.Programs.{room, stepsListing, tableListing, rulesListing};
 ghost use Rattle.writer.specs.Written.{Wrote};
 
 fn put_text(d: &mut [u8], at: usize, t: &[u8]) -> usize
@@ -61,7 +64,7 @@ pub fn run_listing(m: Model, script: &[u8], d: &mut [u8]) -> usize
     ensures { λ r. ⌜ Wrote (now (d .entry)) 0 (listing (machineOf m) nowOf (startState (m .timing)) (now (script .entry))) (now (d .exit)) r ⌝ }
 {
     let x = m.timing;
-    let mut s = model::start_state(x);
+    let mut s = model_machine::start_state(x);
     let mut taken: u64 = 0;
     let mut p = 0;
     let mut at = 0;
@@ -70,7 +73,7 @@ pub fn run_listing(m: Model, script: &[u8], d: &mut [u8]) -> usize
         let n = records::part_at(w, script, p);
         let q = p + n;
         let e = records::event_of(&script[p..q]);
-        let a = model::step(m, s, e);
+        let a = model_machine::step(m, s, e);
         let c = a.answer;
         if !records::is_none(c) {
             return put_last(d, at, taken, c, now_of(s));
@@ -89,12 +92,74 @@ pub fn run_listing(m: Model, script: &[u8], d: &mut [u8]) -> usize
 pub fn steps_listing(model: &[u8], script: &[u8], d: &mut [u8]) -> usize
     ensures { λ r. ⌜ Wrote (now (d .entry)) 0 (stepsListing (now (model .entry)) (now (script .entry))) (now (d .exit)) r ⌝ }
 {
-    let r = model_format::read_model(model);
+    let r = model_reader::read_model(model);
     let f = r.refusal;
     let c = f.cause;
     if records::is_none(c) {
         let m = r.model;
         return run_listing(m, script, d);
+    }
+    put_last(d, 0, 0, c, 0)
+}
+
+// The listing of a table's run, event by event.
+pub fn run_table_listing(table: &[u8], script: &[u8], d: &mut [u8]) -> usize
+    ensures { λ r. ⌜ Wrote (now (d .entry)) 0 (listing (table-machine.machineOf (tableOf (now (table .entry)) .rules)) table-machine.clockOf (table-machine.startVariables (tableOf (now (table .entry)))) (now (script .entry))) (now (d .exit)) r ⌝ }
+{
+    let mut s = table::start_variables(table);
+    let mut taken: u64 = 0;
+    let mut p = 0;
+    let mut at = 0;
+    while p < script.len() {
+        let w = Notation::Script;
+        let n = records::part_at(w, script, p);
+        let q = p + n;
+        let e = records::event_of(&script[p..q]);
+        let a = table::step(table, s, e);
+        let c = a.answer;
+        if !records::is_none(c) {
+            return put_last(d, at, taken, c, table::clock_of(s));
+        }
+        let t = a.state;
+        taken += 1;
+        at = put_event(d, at, taken, table::clock_of(t), e);
+        s = t;
+        p = q;
+    }
+    let c = Cause::None;
+    put_last(d, at, taken, c, table::clock_of(s))
+}
+
+// The run of the table that the bytes hold, or the last line alone where the table is refused.
+pub fn table_listing(table: &[u8], script: &[u8], d: &mut [u8]) -> usize
+    ensures { λ r. ⌜ Wrote (now (d .entry)) 0 (tableListing (now (table .entry)) (now (script .entry))) (now (d .exit)) r ⌝ }
+{
+    let f = table_format::read_table(table);
+    let c = f.cause;
+    if records::is_none(c) {
+        return run_table_listing(table, script, d);
+    }
+    put_last(d, 0, 0, c, 0)
+}
+
+// Room for a table that `rules` makes.
+fn table_room() -> [u8; 65536]
+    ensures { λ r. ⌜ room ≡ length r ⌝ }
+{
+    [0; 65536]
+}
+
+// What `rules` prints: the run of the table made from the model that the bytes hold, or the last line alone where none is made.
+pub fn rules_listing(model: &[u8], script: &[u8], d: &mut [u8]) -> usize
+    ensures { λ r. ⌜ Wrote (now (d .entry)) 0 (rulesListing (now (model .entry)) (now (script .entry))) (now (d .exit)) r ⌝ }
+{
+    let mut table = table_room();
+    let r = translator::translate(model, &mut table);
+    let f = r.refusal;
+    let c = f.cause;
+    if records::is_none(c) {
+        let n = r.bytes;
+        return table_listing(&table[..n], script, d);
     }
     put_last(d, 0, 0, c, 0)
 }

@@ -115,7 +115,7 @@ was-translated model room e = go (isNone (readModel model .refusal .cause)) (ltb
     go true false f g = record { accepted = f; bytes = rw (f, g) }
     go false b f g = absurd (never (sym f ∙ rw f at e))
 
-written-is : (model out : List ℕ) → isNone (translated model (length out) .refusal .cause) ≡ true → writtenTable model out ≡ tableBytes (readModel model .model)
+pub written-is : (model out : List ℕ) → isNone (translated model (length out) .refusal .cause) ≡ true → writtenTable model out ≡ tableBytes (readModel model .model)
 unfolding outputAfter
 written-is model out e =
     let t = was-translated model (length out) e in

@@ -1,5 +1,8 @@
 // `steps` on two empty files.
 
 fn main() {
-    command::steps_main()
+    let mut model = io::large_buffer();
+    let mut script = io::large_buffer();
+    let mut out = command::listing_buffer();
+    command::steps_main(&mut model, &mut script, &mut out);
 }

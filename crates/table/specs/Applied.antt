@@ -8,7 +8,7 @@ use native.Mathlib.Decide.{ℕ-discrete}
 use lib.ListN.{getD, set, length, take, drop, replicate, length-set}
 use lib.Seq.{getD-set-same, getD-set-other}
 use lib.Dec.{eqb, leb}
-use borrow.Author.Tests.{eq-eqb, ne-eqb}
+use borrow.Author.Tests.{eq-eqb, ne-eqb, eqb-false}
 use Rattle.numbers.specs.declared.Value.{Value}
 use Rattle.numbers.specs.Lists.{store}
 use Rattle.numbers.specs.Values.{value, signed}
@@ -23,7 +23,7 @@ use Rattle.table_format.specs.declared.Record.the-variants.{Initial, Head, Clau
 use Rattle.table_format.specs.Variables.{variables}
 use Rattle.table_format.specs.Format.{recordOf, records}
 use Rattle.table_format.specs.Table.{Rule, gather}
-use Rattle.table_format.specs.Laws.{records-at, records-end}
+use Rattle.table_format.specs.Laws.{kindOf, records-at, records-end}
 use Rattle.table.specs.declared.Written.{Written}
 use Rattle.table.specs.Rules.{applies, newValue, Write, writes, writtenTo, inconsistent, written}
 use Rattle.table.specs.Bits.{values, values-store}
@@ -112,15 +112,6 @@ writesOf n v (Change u) = writes n v (u ∷ [])
 writesOf n v Cut = []
 writesOf n v Unknown = []
 
-unfoldable pub isHead : Record → Bool
-isHead (Initial x) = false
-isHead (Head h) = true
-isHead Clause = false
-isHead (Atomic a) = false
-isHead (Change u) = false
-isHead Cut = false
-isHead Unknown = false
-
 abbrev pub marks : ℕ
 marks = 65536
 
@@ -163,18 +154,30 @@ module _ (n : ℕ) (old : List Value) (u : Update) (b : Bool) (e : b ≡ applies
         marks = λ q j. marked-one m (u .target) (rw q l) j;
       })
 
-pub record-left : (n : ℕ) (old : List Value) (x : Record) (v : List ℕ) (m : List Bool) → writesOf n old x ≡ [] → Applied (writesOf n old x) false v v m m
-record-left n old x v m e = rw e (applied-none v m)
+pub record-left : (n : ℕ) (old : List Value) (x : Record) (v : List ℕ) (m : List Bool) → (kindOf x ≡ 36 → ⊥) → Applied (writesOf n old x) false v v m m
+unfolding kindOf writesOf
+record-left n old (Initial x) v m k = applied-none v m
+record-left n old (Head x) v m k = applied-none v m
+record-left n old Clause v m k = applied-none v m
+record-left n old (Atomic x) v m k = applied-none v m
+record-left n old (Change x) v m k = absurd (k refl)
+record-left n old Cut v m k = applied-none v m
+record-left n old Unknown v m k = applied-none v m
+
+pub record-applied : (n : ℕ) (old : List Value) (x : Record) (u : Update) (r : Bool) (v v′ : List ℕ) (m m′ : List Bool) → x ≡ Change u →
+    Applied (writes n old (u ∷ [])) r v v′ m m′ → Applied (writesOf n old x) r v v′ m m′
+unfolding writesOf
+record-applied n old x u r v v′ m m′ e a = rw e a
 
 -- ---- the loop: what is still to be written, from the record at p on
 abbrev pub writesFrom : ℕ → List Value → List ℕ → ℕ → List Write
 writesFrom n old s p = writes n old (gather (records (drop p s)) .updates)
 
-writes-step : (n : ℕ) (old : List Value) (x : Record) (l : List Record) → isHead x ≡ false →
+writes-step : (n : ℕ) (old : List Value) (x : Record) (l : List Record) → (kindOf x ≡ 33 → ⊥) →
     writes n old (gather (x ∷ l) .updates) ≡ writesOf n old x ++ writes n old (gather l .updates)
-unfolding gather writesOf isHead writes
+unfolding gather writesOf kindOf writes
 writes-step n old (Initial x) l h = refl
-writes-step n old (Head x) l h = let z : _≡_ {A = ℕ} 0 1 = cc in absurd (omega arith)
+writes-step n old (Head x) l h = absurd (h refl)
 writes-step n old Clause l h = refl
 writes-step n old (Atomic a) l h = refl
 writes-step n old (Change u) l h = go (applies old u)
@@ -187,15 +190,18 @@ writes-step n old (Change u) l h = go (applies old u)
 writes-step n old Cut l h = refl
 writes-step n old Unknown l h = refl
 
-writes-head : (n : ℕ) (old : List Value) (x : Record) (l : List Record) → isHead x ≡ true → writes n old (gather (x ∷ l) .updates) ≡ []
-unfolding gather isHead writes
-writes-head n old (Initial x) l h = let z : _≡_ {A = ℕ} 0 1 = cc in absurd (omega arith)
+no-head : {A : Type 0} (k : ℕ) → eqb k 33 ≡ false → k ≡ 33 → A
+no-head k e f = absurd (eqb-false k 33 e f)
+
+writes-head : (n : ℕ) (old : List Value) (x : Record) (l : List Record) → kindOf x ≡ 33 → writes n old (gather (x ∷ l) .updates) ≡ []
+unfolding gather kindOf writes
+writes-head n old (Initial x) l h = no-head 32 refl h
 writes-head n old (Head x) l h = refl
-writes-head n old Clause l h = let z : _≡_ {A = ℕ} 0 1 = cc in absurd (omega arith)
-writes-head n old (Atomic a) l h = let z : _≡_ {A = ℕ} 0 1 = cc in absurd (omega arith)
-writes-head n old (Change u) l h = let z : _≡_ {A = ℕ} 0 1 = cc in absurd (omega arith)
-writes-head n old Cut l h = let z : _≡_ {A = ℕ} 0 1 = cc in absurd (omega arith)
-writes-head n old Unknown l h = let z : _≡_ {A = ℕ} 0 1 = cc in absurd (omega arith)
+writes-head n old Clause l h = no-head 34 refl h
+writes-head n old (Atomic a) l h = no-head 35 refl h
+writes-head n old (Change u) l h = no-head 36 refl h
+writes-head n old Cut l h = no-head 0 refl h
+writes-head n old Unknown l h = no-head 0 refl h
 
 written-append : (a b : List Write) (v : List Value) → written (a ++ b) v ≡ written b (written a v)
 unfolding written
@@ -222,13 +228,13 @@ module _ (w : List Write) (old : List Value) (v : List ℕ) (m : List Bool) wher
   writing-done l i e = record { twice = rw e at (i .twice); bits = λ z. rw e at (i .bits) }
 
   module _ (n : ℕ) (s : List ℕ) (q : List Value) (p k : ℕ) (x : Record) (h : p < length s) (e : k ≡ partLengthAt notations.Table s p)
-      (f : x ≡ recordOf (take (p + k - p) (drop p s))) (i : Writing w old (writesFrom n q s p) v m) (d : Bool) (g : d ≡ isHead x) where
-    pub writing-head : d ≡ true → Result w old (record { twice = false; bits = v })
+      (f : x ≡ recordOf (take (p + k - p) (drop p s))) (i : Writing w old (writesFrom n q s p) v m) (d : ℕ) (g : d ≡ kindOf x) where
+    pub writing-head : d ≡ 33 → Result w old (record { twice = false; bits = v })
     writing-head t = writing-done (writesFrom n q s p) i (rw (records-at s p k x h e f) (writes-head n q x (records (drop (p + k) s)) (sym g ∙ t)))
 
-    module _ (t : d ≡ false) (r : Bool) (v′ : List ℕ) (m′ : List Bool) (a : Applied (writesOf n q x) r v v′ m m′) where
+    module _ (t : d ≡ 33 → ⊥) (r : Bool) (v′ : List ℕ) (m′ : List Bool) (a : Applied (writesOf n q x) r v v′ m m′) where
       left : writesFrom n q s p ≡ writesOf n q x ++ writesFrom n q s (p + k)
-      left = rw (records-at s p k x h e f) (writes-step n q x (records (drop (p + k) s)) (sym g ∙ t))
+      left = rw (records-at s p k x h e f) (writes-step n q x (records (drop (p + k) s)) (λ z. t (g ∙ z)))
 
       clash-left : (clashes (isMarked m) (writesOf n q x) || clashes (λ j. writtenTo j (writesOf n q x) || isMarked m j) (writesFrom n q s (p + k))) ≡ inconsistent w
       clash-left = sym (clashes-append (writesOf n q x) (writesFrom n q s (p + k)) (isMarked m)) ∙ (rw left at (i .twice))

@@ -19,7 +19,7 @@ use Rattle.table_format.specs.declared.Record.the-variants.{Initial, Head, Clau
 use Rattle.table_format.specs.Variables.{nowVar}
 use Rattle.table_format.specs.Format.{recordOf, records}
 use Rattle.table_format.specs.Table.{Rule, gather, tableOf}
-use Rattle.table_format.specs.Laws.{records-at, records-end}
+use Rattle.table_format.specs.Laws.{kindOf, records-at, records-end}
 use Rattle.table.specs.declared.Found.{Found}
 use Rattle.table.specs.Rules.{holds, clauseHolds, allHold, enabledRules}
 use Rattle.table.specs.Machine.{isBusy}
@@ -69,14 +69,9 @@ module _ (v : List Value) (a : Atom) (f : Bool) where
     passes-other h = rw (e, ← g, h)
 
 -- ---- the walk over them, from the record after the head on: b is whether the last clause holds, as far as its atoms are read
-unfoldable pub isDecided : Bool → Record → Bool
-isDecided b (Initial x) = false
-isDecided b (Head h) = true
-isDecided b Clause = not b
-isDecided b (Atomic a) = false
-isDecided b (Change u) = false
-isDecided b Cut = false
-isDecided b Unknown = false
+-- k is the kind of a record: at a head the clauses are over, at a clause the one before may have failed
+unfoldable pub isDecided : Bool → ℕ → Bool
+isDecided b k = eqb k 33 || (eqb k 34 && not b)
 
 unfoldable pub heldAfter : Bool → List Value → Bool → Record → Bool
 heldAfter free v b (Initial x) = b
@@ -87,13 +82,36 @@ heldAfter free v b (Change u) = b
 heldAfter free v b Cut = b
 heldAfter free v b Unknown = b
 
+module _ (free : Bool) (v : List Value) (b : Bool) (x : Record) where
+  pub held-clause : x ≡ Clause → false ≡ heldAfter free v b x
+  unfolding heldAfter
+  held-clause e = rw e
+
+  pub held-open : (a : Atom) → x ≡ Atomic a → b ≡ true → true ≡ heldAfter free v b x
+  unfolding heldAfter
+  held-open a e h = rw (e, h)
+
+  pub held-atom : (a : Atom) → x ≡ Atomic a → b ≡ false → passes free v a ≡ heldAfter free v b x
+  unfolding heldAfter
+  held-atom a e h = rw (e, h)
+
+pub held-other : (free : Bool) (v : List Value) (b : Bool) (x : Record) → (kindOf x ≡ 34 → ⊥) → (kindOf x ≡ 35 → ⊥) → b ≡ heldAfter free v b x
+unfolding kindOf heldAfter
+held-other free v b (Initial x) h k = refl
+held-other free v b (Head x) h k = refl
+held-other free v b Clause h k = absurd (h refl)
+held-other free v b (Atomic x) h k = absurd (k refl)
+held-other free v b (Change x) h k = refl
+held-other free v b Cut h k = refl
+held-other free v b Unknown h k = refl
+
 unfoldable pub passFrom : Bool → List Value → Bool → List Record → Bool
 passFrom free v b [] = b
-passFrom free v b (x ∷ l) = let r = passFrom free v (heldAfter free v b x) l in cond (isDecided b x) b r
+passFrom free v b (x ∷ l) = let r = passFrom free v (heldAfter free v b x) l in cond (isDecided b (kindOf x)) b r
 
 pass-is-data : (free : Bool) (v : List Value) (l : List Record) (b : Bool) →
     passFrom free v b l ≡ ((b || somePasses free v (gather l .atoms)) && allPass free v (gather l .clauses))
-unfolding passFrom isDecided heldAfter gather somePasses allPass
+unfolding passFrom isDecided kindOf heldAfter gather somePasses allPass
 pass-is-data free v [] true = refl
 pass-is-data free v [] false = refl
 pass-is-data free v (Initial x ∷ l) b = pass-is-data free v l b
@@ -115,7 +133,7 @@ unfolding passFrom
 pass-end free v b s p h = rw (records-end s p h)
 
 module _ (s : List ℕ) (p m : ℕ) (x : Record) (h : p < length s) (e : m ≡ partLengthAt notations.Table s p) (f : x ≡ recordOf (take (p + m - p) (drop p s))) where
-  module _ (free : Bool) (v : List Value) (b d : Bool) (g : d ≡ isDecided b x) where
+  module _ (free : Bool) (v : List Value) (b d : Bool) (g : d ≡ isDecided b (kindOf x)) where
     pub pass-decided : d ≡ true → b ≡ passFrom free v b (records (drop p s))
     unfolding passFrom
     pass-decided t = rw (records-at s p m x h e f, ← g, t)
@@ -147,6 +165,21 @@ foundAfter s v e f q (Atomic a) = f
 foundAfter s v e f q (Change u) = f
 foundAfter s v e f q Cut = f
 foundAfter s v e f q Unknown = f
+
+pub found-head : (s : List ℕ) (v : List Value) (e : Event) (f : Found) (q : ℕ) (x : Record) (h : RuleHead) → x ≡ Head h →
+    foundRule s v e f q h ≡ foundAfter s v e f q x
+unfolding foundAfter
+found-head s v e f q x h g = rw g
+
+pub found-same : (s : List ℕ) (v : List Value) (e : Event) (f : Found) (q : ℕ) (x : Record) → (kindOf x ≡ 33 → ⊥) → f ≡ foundAfter s v e f q x
+unfolding kindOf foundAfter
+found-same s v e f q (Initial x) k = refl
+found-same s v e f q (Head h) k = absurd (k refl)
+found-same s v e f q Clause k = refl
+found-same s v e f q (Atomic a) k = refl
+found-same s v e f q (Change u) k = refl
+found-same s v e f q Cut k = refl
+found-same s v e f q Unknown k = refl
 
 -- none, one or more: all that firing asks of a list of rules
 pub data Choice : Type 0 where
@@ -236,6 +269,16 @@ stopsTick s v q (Atomic a) = false
 stopsTick s v q (Change u) = false
 stopsTick s v q Cut = false
 stopsTick s v q Unknown = false
+
+pub stops-never : (s : List ℕ) (v : List Value) (q : ℕ) (x : Record) → (kindOf x ≡ 33 → ⊥) → stopsTick s v q x ≡ false
+unfolding kindOf stopsTick
+stops-never s v q (Initial x) k = refl
+stops-never s v q (Head h) k = absurd (k refl)
+stops-never s v q Clause k = refl
+stops-never s v q (Atomic a) k = refl
+stops-never s v q (Change u) k = refl
+stops-never s v q Cut k = refl
+stops-never s v q Unknown k = refl
 
 pub busy-step : (s : List ℕ) (v : List Value) (q : ℕ) (x : Record) →
     isBusy v (gather (x ∷ records (drop q s)) .rules) ≡ (stopsTick s v q x || isBusy v (gather (records (drop q s)) .rules))

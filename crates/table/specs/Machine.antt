@@ -13,7 +13,7 @@ use Rattle.records.specs.declared.Event.{Event}
 use Rattle.records.specs.declared.Refusal.{Refusal}
 use Rattle.records.specs.Refusals.{isNone, noRefusal}
 use Rattle.records.specs.Events.{startKind, requestKind, tickKind, isBroken, lastClock}
-use Rattle.records.specs.Run.{Machine, Ended, Stage, run, stages}
+use Rattle.records.specs.Run.{Machine, Ended, Stage, Tally, run, stages, tally}
 use Rattle.table_format.specs.declared.InitialValue.{InitialValue}
 use Rattle.table_format.specs.Variables.{variables, nowVar}
 use Rattle.table_format.specs.Table.{Rule, Table, tableOf}
@@ -84,3 +84,6 @@ runTable table script = run (machineOf (tableOf table .rules)) (startVariables (
 -- and the loop that goes on after refusals
 unfoldable pub tableStages : List ℕ → List ℕ → List (Stage Variables)
 tableStages table script = stages (machineOf (tableOf table .rules)) (startVariables (tableOf table)) script
+
+unfoldable pub tallyTable : List ℕ → List ℕ → Tally Variables
+tallyTable table script = tally (machineOf (tableOf table .rules)) (startVariables (tableOf table)) script

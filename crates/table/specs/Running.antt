@@ -18,17 +18,19 @@ use Rattle.records.specs.declared.Cause.the-variants.{BrokenEvent, NotEnabled, 
 use Rattle.records.specs.declared.Event.{Event}
 use Rattle.records.specs.Format.{partLengthAt}
 use Rattle.records.specs.Events.{isBroken, lastClock}
-use Rattle.records.specs.Run.{Ended}
+use Rattle.records.specs.Run.{Ended, Tally}
+use Rattle.table_format.specs.declared.InitialValue.{InitialValue}
 use Rattle.table_format.specs.declared.RuleHead.{RuleHead}
 use Rattle.table_format.specs.declared.Record.{Record}
 use Rattle.table_format.specs.declared.Record.the-variants.{Initial, Head, Clause, Atomic, Change, Cut, Unknown}
 use Rattle.table_format.specs.Variables.{variables, nowVar}
 use Rattle.table_format.specs.Format.{recordOf, records}
 use Rattle.table_format.specs.Table.{Rule, gather, tableOf}
-use Rattle.table_format.specs.Laws.{records-at, records-end}
+use Rattle.table_format.specs.Laws.{kindOf, records-at, records-end}
 use Rattle.table.specs.declared.Variables.{Variables}
 use Rattle.table.specs.declared.Stepped.{Stepped}
 use Rattle.table.specs.declared.Ran.{Ran}
+use Rattle.table.specs.declared.Tallied.{Tallied}
 use Rattle.table.specs.declared.Found.{Found}
 use Rattle.table.specs.declared.Written.{Written}
 use Rattle.table.specs.Rules.{enabledRules, writes, inconsistent, written}
@@ -155,6 +157,20 @@ initialAfter v (Change u) = v
 initialAfter v Cut = v
 initialAfter v Unknown = v
 
+pub initial-none : (v : List Value) (x : Record) → (kindOf x ≡ 32 → ⊥) → v ≡ initialAfter v x
+unfolding kindOf initialAfter
+initial-none v (Initial x) k = absurd (k refl)
+initial-none v (Head h) k = refl
+initial-none v Clause k = refl
+initial-none v (Atomic a) k = refl
+initial-none v (Change u) k = refl
+initial-none v Cut k = refl
+initial-none v Unknown k = refl
+
+pub initial-one : (v : List Value) (x : Record) (y : InitialValue) → x ≡ Initial y → store variables v (y .variable) (y .value) ≡ initialAfter v x
+unfolding initialAfter
+initial-one v x y e = rw e
+
 begun-step : (v : List Value) (x : Record) (l : List Record) → begun (gather l .initial) (initialAfter v x) ≡ begun (gather (x ∷ l) .initial) v
 unfolding begun initialAfter gather
 begun-step v (Initial x) l = refl
@@ -181,3 +197,6 @@ start-end s p v h = rw (records-end s p h)
 -- ---- a run's end, as the definitions have it
 abbrev pub endedOf : Ran → Ended Variables
 endedOf r = record { taken = r .taken; refusal = r .refusal; state = r .state }
+
+abbrev pub tallyOf : Tallied → Tally Variables
+tallyOf r = record { taken = r .taken; refused = r .refused; state = r .state }

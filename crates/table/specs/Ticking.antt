@@ -20,13 +20,14 @@ use Rattle.records.specs.Format.{partLengthAt}
 use Rattle.table_format.specs.declared.RuleHead.{RuleHead}
 use Rattle.table_format.specs.declared.Atom.{Atom}
 use Rattle.table_format.specs.declared.Record.{Record}
+use Rattle.table_format.specs.declared.Record.the-variants.{Head}
 use Rattle.table_format.specs.Variables.{variables, nowVar}
 use Rattle.table_format.specs.Format.{recordOf, records}
 use Rattle.table_format.specs.Table.{Rule, gather, tableOf}
-use Rattle.table_format.specs.Laws.{records-at, records-end}
+use Rattle.table_format.specs.Laws.{kindOf, records-at, records-end}
 use Rattle.table.specs.Rules.{valueOf, operandValue, holds, clauseHolds, allHold}
 use Rattle.table.specs.Machine.{isBusy, now}
-use Rattle.table.specs.Enabled.{clausesAt, readsClock, passes, somePasses, allPass, ruleStops, stopsTick, busy-step}
+use Rattle.table.specs.Enabled.{clausesAt, readsClock, passes, somePasses, allPass, ruleStops, stopsTick, stops-never, busy-step}
 
 -- the variables one tick later, and i ticks later
 abbrev pub oneTick : List Value → List Value
@@ -191,9 +192,13 @@ module _ (s : List ℕ) (v : List Value) (n q : ℕ) where
       rule-first = first-same n (λ i. allHold (later i v) (clausesAt s q)) (λ i. ruleStops s (later i v) q h) (λ i. rw (ne-eqb (h .kind) 8 e))
 
 -- ---- the walk over the rules
-pub record-never : (s : List ℕ) (v : List Value) (n q : ℕ) (x : Record) → ((w : List Value) → stopsTick s w q x ≡ false) →
-    n ≡ firstBelow n (λ i. stopsTick s (later i v) q x)
-record-never s v n q x h = sym (first-none n (λ i. stopsTick s (later i v) q x) (λ k b. h (later k v)))
+pub record-never : (s : List ℕ) (v : List Value) (n q : ℕ) (x : Record) → (kindOf x ≡ 33 → ⊥) → n ≡ firstBelow n (λ i. stopsTick s (later i v) q x)
+record-never s v n q x h = sym (first-none n (λ i. stopsTick s (later i v) q x) (λ k b. stops-never s (later k v) q x h))
+
+pub record-first : (s : List ℕ) (v : List Value) (n q : ℕ) (x : Record) (h : RuleHead) → x ≡ Head h →
+    firstBelow n (λ i. ruleStops s (later i v) q h) ≡ firstBelow n (λ i. stopsTick s (later i v) q x)
+unfolding stopsTick
+record-first s v n q x h e = rw e
 
 -- how many of n ticks are quiet, as far as the rules from p on tell
 abbrev pub quietFrom : List ℕ → List Value → ℕ → ℕ → ℕ

@@ -9,7 +9,6 @@ use records::Operand;
 use records::Refusal;
 use table_format::Atom;
 use table_format::InitialValue;
-use table_format::Record;
 use table_format::RuleHead;
 use table_format::Update;
 ghost use mathlib.Core.Path.{_≡_};
@@ -20,15 +19,15 @@ ghost use Rattle.numbers.specs.Lists.{store, firstBelow};
 ghost use Rattle.numbers.specs.Values.{value, signed, natural, plus, lessValue};
 ghost use Rattle.records.specs.Events.{lastClock};
 ghost use Rattle.table_format.specs.Variables.{variables};
-ghost use Rattle.table_format.specs.Format.{records};
+ghost use Rattle.table_format.specs.Format.{recordOf, records};
 ghost use Rattle.table_format.specs.Table.{tableOf, gather};
 ghost use Rattle.table.specs.Rules as rules;
 ghost use Rattle.table.specs.Machine as machine;
 ghost use Rattle.table.specs.Bits.{values};
 ghost use Rattle.table.specs.Enabled.{readsClock, passes, isDecided, heldAfter, allPass, clausesAt, isAsked, oneMore, ruleAt, rulesFound, choice, foundRule, foundAfter, ruleStops, stopsTick};
 ghost use Rattle.table.specs.Ticking.{oneTick, later};
-ghost use Rattle.table.specs.Applied.{isHead, writesOf, Applied, Result, headAllows};
-ghost use Rattle.table.specs.Running.{initialAfter, endedOf};
+ghost use Rattle.table.specs.Applied.{writesOf, Applied, Result, headAllows};
+ghost use Rattle.table.specs.Running.{initialAfter, endedOf, tallyOf};
 
 // The environment variables by number.
 pub struct Variables {
@@ -45,6 +44,13 @@ pub struct Stepped {
 pub struct Ran {
     pub taken: usize,
     pub refusal: Refusal,
+    pub state: Variables,
+}
+
+// What a run that goes on after refusals came to: the events taken, the events refused, and the variables.
+pub struct Tallied {
+    pub taken: usize,
+    pub refused: usize,
     pub state: Variables,
 }
 
@@ -172,39 +178,28 @@ fn passes(free: bool, v: &[u32; 288], a: Atom) -> bool
     holds(v, a)
 }
 
-// The clauses of a rule are over, or one of them fails: `held` is then whether the rule is enabled.
-fn is_decided(held: bool, x: Record) -> bool
-    ensures { λ r. ⌜ r ≡ isDecided held x ⌝ }
+// The clauses of a rule are over at a record of kind k, or one of them fails: `held` is then whether the rule is enabled.
+fn is_decided(held: bool, k: u8) -> bool
+    ensures { λ r. ⌜ r ≡ isDecided held k ⌝ }
 {
-    match x {
-        Record::Initial(_) => false,
-        Record::Head(_) => true,
-        Record::Clause => !held,
-        Record::Atomic(_) => false,
-        Record::Change(_) => false,
-        Record::Cut => false,
-        Record::Unknown => false,
-    }
+    (k == 33) | ((k == 34) & !held)
 }
 
-// Whether the last clause holds, as far as its atoms are read.
-fn held_after(free: bool, v: &[u32; 288], held: bool, x: Record) -> bool
-    ensures { λ r. ⌜ r ≡ heldAfter free (values (now (v .entry))) held x ⌝ }
+// Whether the last clause holds after the part x, as far as its atoms are read.
+fn held_after(free: bool, v: &[u32; 288], held: bool, x: &[u8]) -> bool
+    ensures { λ r. ⌜ r ≡ heldAfter free (values (now (v .entry))) held (recordOf (now (x .entry))) ⌝ }
 {
-    match x {
-        Record::Initial(_) => held,
-        Record::Head(_) => held,
-        Record::Clause => false,
-        Record::Atomic(a) => {
-            if held {
-                return true;
-            }
-            passes(free, v, a)
-        }
-        Record::Change(_) => held,
-        Record::Cut => held,
-        Record::Unknown => held,
+    let k = table_format::kind_of(x);
+    if k == 34 {
+        return false;
     }
+    if k != 35 {
+        return held;
+    }
+    if held {
+        return true;
+    }
+    passes(free, v, table_format::atom_of(x))
 }
 
 // Whether all clauses hold of the rule whose records after its head begin at `from`.
@@ -217,11 +212,10 @@ fn all_pass(t: &[u8], from: usize, free: bool, v: &[u32; 288]) -> bool
         let w = Notation::Table;
         let n = records::part_at(w, t, at);
         let next = at + n;
-        let x = table_format::record_of(&t[at..next]);
-        if is_decided(held, x) {
+        if is_decided(held, table_format::kind_of(&t[at..next])) {
             return held;
         }
-        held = held_after(free, v, held, x);
+        held = held_after(free, v, held, &t[at..next]);
         at = next;
     }
     held
@@ -279,18 +273,13 @@ fn found_rule(t: &[u8], v: &[u32; 288], e: Event, f: Found, next: usize, h: Rule
     one_more(f, next, h)
 }
 
-fn found_after(t: &[u8], v: &[u32; 288], e: Event, f: Found, next: usize, x: Record) -> Found
-    ensures { λ r. ⌜ r ≡ foundAfter (now (t .entry)) (values (now (v .entry))) e f next x ⌝ }
+fn found_after(t: &[u8], v: &[u32; 288], e: Event, f: Found, next: usize, x: &[u8]) -> Found
+    ensures { λ r. ⌜ r ≡ foundAfter (now (t .entry)) (values (now (v .entry))) e f next (recordOf (now (x .entry))) ⌝ }
 {
-    match x {
-        Record::Initial(_) => f,
-        Record::Head(h) => found_rule(t, v, e, f, next, h),
-        Record::Clause => f,
-        Record::Atomic(_) => f,
-        Record::Change(_) => f,
-        Record::Cut => f,
-        Record::Unknown => f,
+    if table_format::kind_of(x) != 33 {
+        return f;
     }
+    found_rule(t, v, e, f, next, table_format::head_of(x))
 }
 
 // The enabled rules of an event, by one walk over the table.
@@ -313,8 +302,7 @@ fn find(t: &[u8], v: &[u32; 288], e: Event) -> Found
         let w = Notation::Table;
         let n = records::part_at(w, t, at);
         let next = at + n;
-        let x = table_format::record_of(&t[at..next]);
-        f = found_after(t, v, e, f, next, x);
+        f = found_after(t, v, e, f, next, &t[at..next]);
         at = next;
     }
     f
@@ -379,33 +367,14 @@ fn apply_record(
     old: &[u32; 288],
     new: &mut [u32; 288],
     marks: &mut [bool; 65536],
-    x: Record,
+    x: &[u8],
 ) -> bool
-    ensures { λ r. ⌜ Applied (writesOf n (values (now (old .entry))) x) r (now (new .entry)) (now (new .exit)) (now (marks .entry)) (now (marks .exit)) ⌝ }
+    ensures { λ r. ⌜ Applied (writesOf n (values (now (old .entry))) (recordOf (now (x .entry)))) r (now (new .entry)) (now (new .exit)) (now (marks .entry)) (now (marks .exit)) ⌝ }
 {
-    match x {
-        Record::Initial(_) => false,
-        Record::Head(_) => false,
-        Record::Clause => false,
-        Record::Atomic(_) => false,
-        Record::Change(u) => apply_update(n, old, new, marks, u),
-        Record::Cut => false,
-        Record::Unknown => false,
+    if table_format::kind_of(x) != 36 {
+        return false;
     }
-}
-
-fn is_head(x: Record) -> bool
-    ensures { λ r. ⌜ r ≡ isHead x ⌝ }
-{
-    match x {
-        Record::Initial(_) => false,
-        Record::Head(_) => true,
-        Record::Clause => false,
-        Record::Atomic(_) => false,
-        Record::Change(_) => false,
-        Record::Cut => false,
-        Record::Unknown => false,
-    }
+    apply_update(n, old, new, marks, table_format::update_of(x))
 }
 
 // Whether the updates of a rule have a target twice, and the variables after them where not.
@@ -425,14 +394,13 @@ fn apply_updates(t: &[u8], from: usize, n: u32, old: [u32; 288]) -> Written
         let w = Notation::Table;
         let m = records::part_at(w, t, at);
         let next = at + m;
-        let x = table_format::record_of(&t[at..next]);
-        if is_head(x) {
+        if table_format::kind_of(&t[at..next]) == 33 {
             return Written {
                 twice: false,
                 bits: new,
             };
         }
-        if apply_record(n, &old, &mut new, &mut marks, x) {
+        if apply_record(n, &old, &mut new, &mut marks, &t[at..next]) {
             return Written {
                 twice: true,
                 bits: new,
@@ -552,18 +520,13 @@ fn ticks_to_rule(t: &[u8], v: &[u32; 288], limit: u32, next: usize, h: RuleHead)
     ticks_to_enabled(t, next, v, limit)
 }
 
-fn ticks_to_record(t: &[u8], v: &[u32; 288], limit: u32, next: usize, x: Record) -> u32
-    ensures { λ r. ⌜ r ≡ firstBelow limit (λ i. stopsTick (now (t .entry)) (later i (values (now (v .entry)))) next x) ⌝ }
+fn ticks_to_record(t: &[u8], v: &[u32; 288], limit: u32, next: usize, x: &[u8]) -> u32
+    ensures { λ r. ⌜ r ≡ firstBelow limit (λ i. stopsTick (now (t .entry)) (later i (values (now (v .entry)))) next (recordOf (now (x .entry)))) ⌝ }
 {
-    match x {
-        Record::Initial(_) => limit,
-        Record::Head(h) => ticks_to_rule(t, v, limit, next, h),
-        Record::Clause => limit,
-        Record::Atomic(_) => limit,
-        Record::Change(_) => limit,
-        Record::Cut => limit,
-        Record::Unknown => limit,
+    if table_format::kind_of(x) != 33 {
+        return limit;
     }
+    ticks_to_rule(t, v, limit, next, table_format::head_of(x))
 }
 
 // How many of n ticks pass before some rule stops them, by one walk over the table.
@@ -576,8 +539,7 @@ fn quiet_ticks(t: &[u8], v: &[u32; 288], n: u32) -> u32
         let w = Notation::Table;
         let m = records::part_at(w, t, at);
         let next = at + m;
-        let x = table_format::record_of(&t[at..next]);
-        limit = ticks_to_record(t, v, limit, next, x);
+        limit = ticks_to_record(t, v, limit, next, &t[at..next]);
         at = next;
     }
     limit
@@ -639,18 +601,13 @@ fn put_initial(v: &mut [u32; 288], y: InitialValue)
     put(v, j as usize, bits_of(z));
 }
 
-fn begin_with(v: &mut [u32; 288], x: Record)
-    ensures { λ r. ⌜ values (now (v .exit)) ≡ initialAfter (values (now (v .entry))) x ⌝ }
+fn begin_with(v: &mut [u32; 288], x: &[u8])
+    ensures { λ r. ⌜ values (now (v .exit)) ≡ initialAfter (values (now (v .entry))) (recordOf (now (x .entry))) ⌝ }
 {
-    match x {
-        Record::Initial(y) => put_initial(v, y),
-        Record::Head(_) => {}
-        Record::Clause => {}
-        Record::Atomic(_) => {}
-        Record::Change(_) => {}
-        Record::Cut => {}
-        Record::Unknown => {}
+    if table_format::kind_of(x) != 32 {
+        return;
     }
+    put_initial(v, table_format::initial_of(x));
 }
 
 // The variables as the table's start records have them.
@@ -663,8 +620,7 @@ pub fn start_variables(t: &[u8]) -> Variables
         let w = Notation::Table;
         let n = records::part_at(w, t, at);
         let next = at + n;
-        let x = table_format::record_of(&t[at..next]);
-        begin_with(&mut v, x);
+        begin_with(&mut v, &t[at..next]);
         at = next;
     }
     variables_of(v)
@@ -719,4 +675,34 @@ pub fn run_table(t: &[u8], script: &[u8]) -> Ran
     let c = Cause::None;
     let h = Holder::Model;
     ended(k, c, h, 0, 0, s)
+}
+
+// The run that goes on after refusals: each event on the variables that the one before it left, taken or refused.
+pub fn run_on(t: &[u8], script: &[u8]) -> Tallied
+    ensures { λ r. ⌜ tallyOf r ≡ machine.tallyTable (now (t .entry)) (now (script .entry)) ⌝ }
+{
+    let mut s = start_variables(t);
+    let mut k: usize = 0;
+    let mut r: usize = 0;
+    let mut at: usize = 0;
+    while at < script.len() {
+        let w = Notation::Script;
+        let n = records::part_at(w, script, at);
+        let next = at + n;
+        let e = records::event_of(&script[at..next]);
+        let o = step(t, s, e);
+        let c = o.answer;
+        s = o.state;
+        at = next;
+        if records::is_none(c) {
+            k += 1;
+        } else {
+            r += 1;
+        }
+    }
+    Tallied {
+        taken: k,
+        refused: r,
+        state: s,
+    }
 }

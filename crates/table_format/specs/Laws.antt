@@ -8,7 +8,7 @@ use lib.ListN.{getD, length, take, drop}
 use lib.Dec.{eqb, ltb, leb}
 use lib.IntN.{pos}
 use lib.Signed.{ltZ}
-use borrow.Author.Tests.{eq-eqb, ne-eqb, lt-ltb, le-ltb}
+use borrow.Author.Tests.{ne-eqb, lt-ltb, le-ltb, eqb-true, eqb-false}
 use Rattle.numbers.specs.declared.Value.{Value}
 use Rattle.numbers.specs.Values.{u16At, u32At, valueAt}
 use Rattle.records.specs.declared.Notation.the-variants as notations
@@ -63,7 +63,7 @@ module _ (x : List ℕ) where
     record-cut z l = rw (← f, ← b, ne-eqb m 0 z, lt-ltb _ m l)
 
     module _ (z : m ≡ 0 → ⊥) (l : m ≤ length x) where
-      record-whole : recordOfWhole k x ≡ recordOf x
+      pub record-whole : recordOfWhole k x ≡ recordOf x
       unfolding recordOf
       record-whole = rw (← f, ← b, ne-eqb m 0 z, le-ltb _ m l)
 
@@ -81,6 +81,84 @@ module _ (x : List ℕ) where
 
       pub record-update : (y : Update) → (k ≡ 32 → ⊥) → (k ≡ 33 → ⊥) → (k ≡ 34 → ⊥) → (k ≡ 35 → ⊥) → y ≡ updateOf x → Change y ≡ recordOf x
       record-update y h1 h2 h3 h4 e = rw (e, ← record-whole, ne-eqb k 32 h1, ne-eqb k 33 h2, ne-eqb k 34 h3, ne-eqb k 35 h4)
+
+-- ---- the kind of a record: walks that look for one kind decode no other
+unfoldable pub kindOf : Record → ℕ
+kindOf (Initial x) = 32
+kindOf (Head h) = 33
+kindOf Clause = 34
+kindOf (Atomic a) = 35
+kindOf (Change u) = 36
+kindOf Cut = 0
+kindOf Unknown = 0
+
+size-kind : (k : ℕ) (x : List ℕ) → (recordSize notations.Table k ≡ 0 → ⊥) → kindOf (recordOfWhole k x) ≡ k
+unfolding kindOf recordSize
+size-kind k x = go (eqb k 32) (eqb k 33) (eqb k 34) (eqb k 35) (eqb k 36) (eqb-true k 32) (eqb-true k 33) (eqb-true k 34) (eqb-true k 35) (eqb-true k 36)
+  where
+    go : (a b c d e : Bool) → (a ≡ true → k ≡ 32) → (b ≡ true → k ≡ 33) → (c ≡ true → k ≡ 34) → (d ≡ true → k ≡ 35) → (e ≡ true → k ≡ 36) →
+        (_≡_ {A = ℕ} (cond a 7 (cond b 11 (cond c 1 (cond d 9 (cond e 17 0))))) 0 → ⊥) →
+        kindOf (cond a (Initial (initialOf x)) (cond b (Head (headOf x)) (cond c Clause (cond d (Atomic (atomOf x)) (Change (updateOf x)))))) ≡ k
+    go true b c d e f g h i j z = sym (f refl)
+    go false true c d e f g h i j z = sym (g refl)
+    go false false true d e f g h i j z = sym (h refl)
+    go false false false true e f g h i j z = sym (i refl)
+    go false false false false true f g h i j z = sym (j refl)
+    go false false false false false f g h i j z = absurd (z refl)
+
+module _ (x : List ℕ) where
+  module _ (k m : ℕ) (f : k ≡ getD x 0 0) (b : m ≡ recordSize notations.Table k) where
+    pub kind-unknown : m ≡ 0 → 0 ≡ kindOf (recordOf x)
+    unfolding kindOf
+    kind-unknown z = rw (← record-unknown x k m f b z)
+
+    pub kind-cut : (m ≡ 0 → ⊥) → length x < m → 0 ≡ kindOf (recordOf x)
+    unfolding kindOf
+    kind-cut z l = rw (← record-cut x k m f b z l)
+
+    pub kind-whole : (m ≡ 0 → ⊥) → m ≤ length x → k ≡ kindOf (recordOf x)
+    kind-whole z l = rw (← record-whole x k m f b z l) (sym (size-kind k x (λ e. z (b ∙ e))))
+
+  -- what a part of a known kind holds
+  by-kind : (k : ℕ) → k ≡ kindOf (recordOf x) → 0 < k → recordOf x ≡ recordOfWhole k x
+  unfolding recordOf
+  by-kind k e h = go (eqb m 0) (ltb (length x) m) refl e
+    where
+      m : ℕ
+      m = recordSize notations.Table (getD x 0 0)
+
+      r : Record
+      r = recordOfWhole (getD x 0 0) x
+
+      none : k ≡ 0 → ⊥
+      none z = omega arith
+
+      go : (a b : Bool) → eqb m 0 ≡ a → k ≡ kindOf (cond a Unknown (cond b Cut r)) → cond a Unknown (cond b Cut r) ≡ recordOfWhole k x
+      go true b f g = absurd (none (zero-kind g))
+        where
+          zero-kind : k ≡ kindOf Unknown → k ≡ 0
+          zero-kind q = unfold kindOf in q
+      go false true f g = absurd (none (zero-kind g))
+        where
+          zero-kind : k ≡ kindOf Cut → k ≡ 0
+          zero-kind q = unfold kindOf in q
+      go false false f g = ap (λ (j : ℕ). recordOfWhole j x) (sym (g ∙ size-kind (getD x 0 0) x (eqb-false m 0 f)))
+
+  module _ (k : ℕ) (e : k ≡ kindOf (recordOf x)) where
+    pub is-initial : k ≡ 32 → (y : InitialValue) → y ≡ initialOf x → recordOf x ≡ Initial y
+    is-initial f y g = by-kind 32 (sym f ∙ e) (omega arith) ∙ ap Initial (sym g)
+
+    pub is-head : k ≡ 33 → (y : RuleHead) → y ≡ headOf x → recordOf x ≡ Head y
+    is-head f y g = by-kind 33 (sym f ∙ e) (omega arith) ∙ ap Head (sym g)
+
+    pub is-clause : k ≡ 34 → recordOf x ≡ Clause
+    is-clause f = by-kind 34 (sym f ∙ e) (omega arith)
+
+    pub is-atom : k ≡ 35 → (y : Atom) → y ≡ atomOf x → recordOf x ≡ Atomic y
+    is-atom f y g = by-kind 35 (sym f ∙ e) (omega arith) ∙ ap Atomic (sym g)
+
+    pub is-update : k ≡ 36 → (y : Update) → y ≡ updateOf x → recordOf x ≡ Change y
+    is-update f y g = by-kind 36 (sym f ∙ e) (omega arith) ∙ ap Change (sym g)
 
 -- ---- fields
 module _ (c : Bool) (o : Operand) where

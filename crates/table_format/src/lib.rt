@@ -15,6 +15,7 @@ ghost use Rattle.records.specs.Events.{startKind};
 ghost use Rattle.records.specs.Refusals.{inModel};
 ghost use Rattle.table_format.specs.Variables.{isVariable};
 ghost use Rattle.table_format.specs.Format.{initialOf, headOf, atomOf, updateOf, recordOf};
+ghost use Rattle.table_format.specs.Laws.{kindOf};
 ghost use Rattle.table_format.specs.Reading.{namesVariable, operandFits, initialFits, headFits, atomFits, updateFits, judged, causeOf, nextContext, readTable};
 
 // Kind 20, a start: the value with which an environment variable begins.
@@ -124,6 +125,22 @@ pub fn update_of(x: &[u8]) -> Update
         first: a,
         second: b,
     }
+}
+
+// The kind of the record that a part holds; 0 where it is cut or unknown. A walk that looks for one kind need decode no other.
+pub fn kind_of(x: &[u8]) -> u8
+    ensures { λ r. ⌜ r ≡ kindOf (recordOf (now (x .entry))) ⌝ }
+{
+    let k = numbers::byte_at(x, 0);
+    let w = Notation::Table;
+    let m = records::record_size(w, k);
+    if m == 0 {
+        return 0;
+    }
+    if x.len() < m {
+        return 0;
+    }
+    k
 }
 
 // The record that a part holds, whatever its bytes.

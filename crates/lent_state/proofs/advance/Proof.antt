@@ -3,8 +3,8 @@ use contract.Running.{givenOf, tables, tablesOf}
 use denote.Triple.Spec.{tripleOf}
 use denote.Triple.Table.{entered, cited}
 use Rattle.model.specs.Machine.{step}
-use Rattle.model.proofs.step.Symbol as stepped
-use Rattle.model.proofs.step.Met as stepped-thm
+use Rattle.model_machine.proofs.step.Symbol as stepped
+use Rattle.model_machine.proofs.step.Met as stepped-thm
 use Rattle.lent_state.specs.View.{viewAfter}
 use Rattle.lent_state.proofs.Data.{model, state, event, answer, model-laws, state-laws, event-laws, answer-laws}
 use Rattle.lent_state.proofs.Lent.{Step, After, lent-meets}
@@ -23,5 +23,5 @@ advance-spec 𝓤 H 𝓜 𝓖 𝓡 =
     (tables 𝓤 H 𝓜 𝓡 code.env .C) (tables 𝓤 H 𝓜 𝓡 code.env .Λ) key.name code.function (code.unfolded 𝓤 H 𝓜 𝓡)
     (lent-meets model state event answer step viewAfter 𝓤 H (𝓖 .A) W (model-laws 𝓤 H (𝓖 .A) W) (state-laws 𝓤 H (𝓖 .A) W) (event-laws 𝓤 H (𝓖 .A) W) (answer-laws 𝓤 H (𝓖 .A) W) stepped.name after.name
     (tablesOf 𝓤 H 𝓜 (tables 𝓤 H 𝓜 𝓡 code.env))
-    (cited 𝓤 H (Step model state event answer step viewAfter 𝓤 H (𝓖 .A)) 𝓜 𝓡 code.env stepped.name stepped.routine code.calls-model·step (stepped-thm.met 𝓤 H 𝓜 𝓖 𝓡))
+    (cited 𝓤 H (Step model state event answer step viewAfter 𝓤 H (𝓖 .A)) 𝓜 𝓡 code.env stepped.name stepped.routine code.calls-model-machine·step (stepped-thm.met 𝓤 H 𝓜 𝓖 𝓡))
     (cited 𝓤 H (After model state event answer step viewAfter 𝓤 H (𝓖 .A)) 𝓜 𝓡 code.env after.name after.routine code.calls-lent-state·view-after (after-thm.met 𝓤 H 𝓜 𝓖 𝓡)))

@@ -2,12 +2,6 @@ use borrow.Author.Needs.{needs}
 use Rattle.printing.specs.Steps.{steps-run, steps-refused}
 use Rattle.printing.proofs.steps_listing.Statement.{statement}
 use Rattle.printing.proofs.steps_listing.Tie as tie
-use Rattle.printing.proofs.steps_listing.Reads as reads
-use Rattle.printing.proofs.steps_listing.Lts as lts
-use Rattle.model_format.proofs.read_model.Reads as read-model-reads
-use Rattle.printing.proofs.put_last.Reads as put-last-reads
-use Rattle.printing.proofs.run_listing.Reads as run-listing-reads
-use Rattle.records.proofs.is_none.Reads as is-none-reads
 
 -- src/lib.rt:92:9
 read-model-requires : tie.Need-read-model-requires

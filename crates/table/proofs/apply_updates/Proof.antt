@@ -1,5 +1,5 @@
 use mathlib.Core.Bool.{false}
-use mathlib.Core.Path.{_≡_, refl, sym, _∙_}
+use mathlib.Core.Path.{refl}
 use Prim.Native.Nat.{_-_}
 use native.Mathlib.Omega.{arith}
 use lib.ListN.{length, drop, replicate, length-replicate}
@@ -28,33 +28,41 @@ add-next c =
     let n = next-place notations.Table (c .before .before .before .before .args .t .now) _ _ (c .before .loop-test .taken) (c .part-at .ensures) in
     record { fits = omega arith }
 
-sub-record-of : tie.Need-sub-record-of Inv-loop μ-loop
-sub-record-of c = search needs
+sub-kind-of : tie.Need-sub-kind-of Inv-loop μ-loop
+sub-kind-of c = search needs
 
-part-record-of-start : tie.Need-part-record-of-start Inv-loop μ-loop
-part-record-of-start c = search needs
+part-kind-of-start : tie.Need-part-kind-of-start Inv-loop μ-loop
+part-kind-of-start c = search needs
 
-part-record-of-end : tie.Need-part-record-of-end Inv-loop μ-loop
-part-record-of-end c =
+part-kind-of-end : tie.Need-part-kind-of-end Inv-loop μ-loop
+part-kind-of-end c =
     let n = next-place notations.Table (c .before .before .before .before .args .t .now) _ _ (c .before .loop-test .taken) (c .part-at .ensures) in
     omega arith
 
-record-of-requires : tie.Need-record-of-requires Inv-loop μ-loop
-record-of-requires c κs = search needs
-
-is-head-requires : tie.Need-is-head-requires Inv-loop μ-loop
-is-head-requires c κs = search needs
+kind-of-requires : tie.Need-kind-of-requires Inv-loop μ-loop
+kind-of-requires c κs = search needs
 
 returns : tie.Need-returns Inv-loop μ-loop
 returns c =
-    writing-head _ _ _ _ _ (c .before .before .before .before .before .before .before .before .args .t .now) _ _ _ _ (c .before .before .before .before .before .loop-test .taken) (c .before .before .before .before .part-at .ensures) (c .before .before .record-of .ensures) (c .before .before .before .before .before .before .loop .inv) _ (c .before .is-head .ensures) (c .if1 .taken)
+    writing-head _ _ _ _ _ (c .before .before .before .before .before .before .before .args .t .now) _ _ _ _ (c .before .before .before .before .loop-test .taken) (c .before .before .before .part-at .ensures) refl (c .before .before .before .before .before .loop .inv) _ (c .before .kind-of .ensures) (c .if1 .taken)
+
+sub-apply-record : tie.Need-sub-apply-record Inv-loop μ-loop
+sub-apply-record c = search needs
+
+part-apply-record-start : tie.Need-part-apply-record-start Inv-loop μ-loop
+part-apply-record-start c = search needs
+
+part-apply-record-end : tie.Need-part-apply-record-end Inv-loop μ-loop
+part-apply-record-end c =
+    let n = next-place notations.Table (c .before .before .before .before .before .before .before .before .before .before .args .t .now) _ _ (c .before .before .before .before .before .before .before .loop-test .taken) (c .before .before .before .before .before .before .part-at .ensures) in
+    omega arith
 
 apply-record-requires : tie.Need-apply-record-requires Inv-loop μ-loop
 apply-record-requires c κs = search needs
 
 returns-2 : tie.Need-returns-2 Inv-loop μ-loop
 returns-2 c =
-    writing-twice _ _ _ _ _ (c .before .before .before .before .before .before .before .before .before .before .before .before .before .args .t .now) _ _ _ _ (c .before .before .before .before .before .before .before .before .before .before .loop-test .taken) (c .before .before .before .before .before .before .before .before .before .part-at .ensures) (c .before .before .before .before .before .before .before .record-of .ensures) (c .before .before .before .before .before .before .before .before .before .before .before .loop .inv) _ (c .before .before .before .before .before .before .is-head .ensures) (c .before .before .before .before .before .if1 .left)
+    writing-twice _ _ _ _ _ (c .before .before .before .before .before .before .before .before .before .before .before .before .before .args .t .now) _ _ _ _ (c .before .before .before .before .before .before .before .before .before .before .loop-test .taken) (c .before .before .before .before .before .before .before .before .before .part-at .ensures) refl (c .before .before .before .before .before .before .before .before .before .before .before .loop .inv) _ (c .before .before .before .before .before .before .before .kind-of .ensures) (c .before .before .before .before .before .before .if1 .left)
     _ _ _ (c .before .apply-record .ensures) (c .if2 .taken)
 
 loop-less : tie.Need-loop-less Inv-loop μ-loop
@@ -64,7 +72,7 @@ loop-less c =
 
 loop-again : tie.Need-loop-again Inv-loop μ-loop
 loop-again c =
-    writing-on _ _ _ _ _ (c .before .before .before .before .before .before .before .before .before .before .before .before .before .args .t .now) _ _ _ _ (c .before .before .before .before .before .before .before .before .before .before .loop-test .taken) (c .before .before .before .before .before .before .before .before .before .part-at .ensures) (c .before .before .before .before .before .before .before .record-of .ensures) (c .before .before .before .before .before .before .before .before .before .before .before .loop .inv) _ (c .before .before .before .before .before .before .is-head .ensures) (c .before .before .before .before .before .if1 .left)
+    writing-on _ _ _ _ _ (c .before .before .before .before .before .before .before .before .before .before .before .before .before .args .t .now) _ _ _ _ (c .before .before .before .before .before .before .before .before .before .before .loop-test .taken) (c .before .before .before .before .before .before .before .before .before .part-at .ensures) refl (c .before .before .before .before .before .before .before .before .before .before .before .loop .inv) _ (c .before .before .before .before .before .before .before .kind-of .ensures) (c .before .before .before .before .before .before .if1 .left)
     _ _ _ (c .before .apply-record .ensures) (c .if2 .left)
 
 returns-3 : tie.Need-returns-3 Inv-loop μ-loop
@@ -79,12 +87,14 @@ apply-updates-spec =
     loop-holds
     part-at-requires
     add-next
-    sub-record-of
-    part-record-of-start
-    part-record-of-end
-    record-of-requires
-    is-head-requires
+    sub-kind-of
+    part-kind-of-start
+    part-kind-of-end
+    kind-of-requires
     returns
+    sub-apply-record
+    part-apply-record-start
+    part-apply-record-end
     apply-record-requires
     returns-2
     loop-less

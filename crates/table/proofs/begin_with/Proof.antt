@@ -1,76 +1,28 @@
+use mathlib.Core.Path.{_∙_}
 use borrow.Author.Needs.{needs}
-use Rattle.table.specs.Running.{initialAfter}
+use Rattle.table_format.specs.Laws.{is-initial}
+use Rattle.table.specs.Running.{initial-none, initial-one}
 use Rattle.table.proofs.begin_with.Statement.{statement}
 use Rattle.table.proofs.begin_with.Tie as tie
 
-enum-known-x : tie.Need-enum-known-x
-enum-known-x c = search needs
+kind-of-requires : tie.Need-kind-of-requires
+kind-of-requires c κs = search needs
+
+returns : tie.Need-returns
+returns c = initial-none _ _ (λ e. c .if1 .taken (c .before .kind-of .ensures ∙ e))
+
+initial-of-requires : tie.Need-initial-of-requires
+initial-of-requires c κs = search needs
 
 put-initial-requires : tie.Need-put-initial-requires
 put-initial-requires c κs = search needs
 
-enum-told : tie.Need-enum-told
-enum-told c = search needs
-
-enum-told-2 : tie.Need-enum-told-2
-enum-told-2 c = search needs
-
-enum-told-3 : tie.Need-enum-told-3
-enum-told-3 c = search needs
-
-enum-told-4 : tie.Need-enum-told-4
-enum-told-4 c = search needs
-
-enum-told-5 : tie.Need-enum-told-5
-enum-told-5 c = search needs
-
-enum-told-6 : tie.Need-enum-told-6
-enum-told-6 c = search needs
-
-returns : tie.Need-returns
-unfolding initialAfter
-returns c = rw (c .before .before .before .x .given .1) (c .put-initial .ensures)
-
 returns-2 : tie.Need-returns-2
-unfolding initialAfter
-returns-2 c = rw (c .enum-told .given .1)
-
-returns-3 : tie.Need-returns-3
-unfolding initialAfter
-returns-3 c = rw (c .enum-told2 .given .1)
-
-returns-4 : tie.Need-returns-4
-unfolding initialAfter
-returns-4 c = rw (c .enum-told3 .given .1)
-
-returns-5 : tie.Need-returns-5
-unfolding initialAfter
-returns-5 c = rw (c .enum-told4 .given .1)
-
-returns-6 : tie.Need-returns-6
-unfolding initialAfter
-returns-6 c = rw (c .enum-told5 .given .1)
-
-returns-7 : tie.Need-returns-7
-unfolding initialAfter
-returns-7 c = rw (c .enum-told6 .given .1)
+returns-2 c =
+    c .put-initial .ensures ∙
+    initial-one _ _ _ (is-initial (c .before .before .before .before .before .before .args .x .now) _ (c .before .before .before .before .kind-of .ensures) (c .before .before .before .if1 .left) _ (c .before .initial-of .ensures))
 
 pub begin-with-spec : {M : Type 1} → statement M
 begin-with-spec =
     tie.close
-    (tie.spec
-    enum-known-x
-    put-initial-requires
-    enum-told
-    enum-told-2
-    enum-told-3
-    enum-told-4
-    enum-told-5
-    enum-told-6
-    returns
-    returns-2
-    returns-3
-    returns-4
-    returns-5
-    returns-6
-    returns-7)
+    (tie.spec kind-of-requires returns initial-of-requires put-initial-requires returns-2)

@@ -29,31 +29,28 @@ add-next c =
     let n = next-place notations.Table (c .before .before .before .before .args .t .now) _ _ (c .before .loop-test .taken) (c .part-at .ensures) in
     record { fits = omega arith }
 
-sub-record-of : tie.Need-sub-record-of Inv-loop μ-loop
-sub-record-of c = search needs
+sub-found-after : tie.Need-sub-found-after Inv-loop μ-loop
+sub-found-after c = search needs
 
-part-record-of-start : tie.Need-part-record-of-start Inv-loop μ-loop
-part-record-of-start c = search needs
+part-found-after-start : tie.Need-part-found-after-start Inv-loop μ-loop
+part-found-after-start c = search needs
 
-part-record-of-end : tie.Need-part-record-of-end Inv-loop μ-loop
-part-record-of-end c =
+part-found-after-end : tie.Need-part-found-after-end Inv-loop μ-loop
+part-found-after-end c =
     let n = next-place notations.Table (c .before .before .before .before .args .t .now) _ _ (c .before .loop-test .taken) (c .part-at .ensures) in
     omega arith
-
-record-of-requires : tie.Need-record-of-requires Inv-loop μ-loop
-record-of-requires c κs = search needs
 
 found-after-requires : tie.Need-found-after-requires Inv-loop μ-loop
 found-after-requires c κs = search needs
 
 loop-less : tie.Need-loop-less Inv-loop μ-loop
 loop-less c =
-    let n = next-place notations.Table (c .before .before .before .before .before .before .before .args .t .now) _ _ (c .before .before .before .before .loop-test .taken) (c .before .before .before .part-at .ensures) in
+    let n = next-place notations.Table (c .before .before .before .before .before .before .args .t .now) _ _ (c .before .before .before .loop-test .taken) (c .before .before .part-at .ensures) in
     omega arith
 
 loop-again : tie.Need-loop-again Inv-loop μ-loop
 loop-again c =
-    find-on (c .before .before .before .before .before .before .before .args .t .now) _ _ _ (c .before .before .before .before .loop-test .taken) (c .before .before .before .part-at .ensures) (c .before .record-of .ensures) _ (c .before .before .before .before .before .before .before .args .e) _ _ (c .found-after .ensures) ∙ c .before .before .before .before .before .loop .inv
+    find-on (c .before .before .before .before .before .before .args .t .now) _ _ _ (c .before .before .before .loop-test .taken) (c .before .before .part-at .ensures) refl _ (c .before .before .before .before .before .before .args .e) _ _ (c .found-after .ensures) ∙ c .before .before .before .before .loop .inv
 
 returns : tie.Need-returns Inv-loop μ-loop
 returns c = find-end (c .before .before .before .args .t .now) _ (c .before .before .before .args .e) _ _ (c .loop-test .left) ∙ c .before .loop .inv
@@ -67,10 +64,9 @@ find-spec =
     loop-holds
     part-at-requires
     add-next
-    sub-record-of
-    part-record-of-start
-    part-record-of-end
-    record-of-requires
+    sub-found-after
+    part-found-after-start
+    part-found-after-end
     found-after-requires
     loop-less
     loop-again

@@ -1,76 +1,27 @@
+use mathlib.Core.Path.{_∙_}
 use borrow.Author.Needs.{needs}
-use Rattle.table.specs.Enabled.{foundAfter}
+use Rattle.table_format.specs.Laws.{is-head}
+use Rattle.table.specs.Enabled.{found-head, found-same}
 use Rattle.table.proofs.found_after.Statement.{statement}
 use Rattle.table.proofs.found_after.Tie as tie
 
-enum-told : tie.Need-enum-told
-enum-told c = search needs
+kind-of-requires : tie.Need-kind-of-requires
+kind-of-requires c κs = search needs
 
-enum-known-x : tie.Need-enum-known-x
-enum-known-x c = search needs
+returns : tie.Need-returns
+returns c = found-same (c .before .before .before .before .args .t .now) _ (c .before .before .before .before .args .e) _ _ _ (λ e. c .if1 .taken (c .before .kind-of .ensures ∙ e))
+
+head-of-requires : tie.Need-head-of-requires
+head-of-requires c κs = search needs
 
 found-rule-requires : tie.Need-found-rule-requires
 found-rule-requires c κs = search needs
 
-enum-told-2 : tie.Need-enum-told-2
-enum-told-2 c = search needs
-
-enum-told-3 : tie.Need-enum-told-3
-enum-told-3 c = search needs
-
-enum-told-4 : tie.Need-enum-told-4
-enum-told-4 c = search needs
-
-enum-told-5 : tie.Need-enum-told-5
-enum-told-5 c = search needs
-
-enum-told-6 : tie.Need-enum-told-6
-enum-told-6 c = search needs
-
-returns : tie.Need-returns
-unfolding foundAfter
-returns c = rw (c .enum-told .given .1)
-
 returns-2 : tie.Need-returns-2
-unfolding foundAfter
-returns-2 c = rw (c .before .before .x .given .1) (c .found-rule .ensures)
-
-returns-3 : tie.Need-returns-3
-unfolding foundAfter
-returns-3 c = rw (c .enum-told2 .given .1)
-
-returns-4 : tie.Need-returns-4
-unfolding foundAfter
-returns-4 c = rw (c .enum-told3 .given .1)
-
-returns-5 : tie.Need-returns-5
-unfolding foundAfter
-returns-5 c = rw (c .enum-told4 .given .1)
-
-returns-6 : tie.Need-returns-6
-unfolding foundAfter
-returns-6 c = rw (c .enum-told5 .given .1)
-
-returns-7 : tie.Need-returns-7
-unfolding foundAfter
-returns-7 c = rw (c .enum-told6 .given .1)
+returns-2 c =
+    c .found-rule .ensures ∙
+    found-head (c .before .before .before .before .before .before .args .t .now) _ (c .before .before .before .before .before .before .args .e) _ _ _ _ (is-head (c .before .before .before .before .before .before .args .x .now) _ (c .before .before .before .kind-of .ensures) (c .before .before .if1 .left) _ (c .before .head-of .ensures))
 
 pub found-after-spec : {M : Type 1} → statement M
 found-after-spec =
-    tie.close
-    (tie.spec
-    enum-told
-    enum-known-x
-    found-rule-requires
-    enum-told-2
-    enum-told-3
-    enum-told-4
-    enum-told-5
-    enum-told-6
-    returns
-    returns-2
-    returns-3
-    returns-4
-    returns-5
-    returns-6
-    returns-7)
+    tie.close (tie.spec kind-of-requires returns head-of-requires found-rule-requires returns-2)

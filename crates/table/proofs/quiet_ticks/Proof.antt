@@ -1,4 +1,4 @@
-use mathlib.Core.Path.{_≡_, _∙_}
+use mathlib.Core.Path.{_≡_, refl, _∙_}
 use Prim.Native.Nat.{_-_, _≤_}
 use native.Mathlib.Omega.{arith}
 use lib.ListN.{length}
@@ -30,31 +30,28 @@ add-next c =
     let n = next-place notations.Table (c .before .before .before .before .args .t .now) _ _ (c .before .loop-test .taken) (c .part-at .ensures) in
     record { fits = omega arith }
 
-sub-record-of : tie.Need-sub-record-of Inv-loop μ-loop
-sub-record-of c = search needs
+sub-ticks-to-record : tie.Need-sub-ticks-to-record Inv-loop μ-loop
+sub-ticks-to-record c = search needs
 
-part-record-of-start : tie.Need-part-record-of-start Inv-loop μ-loop
-part-record-of-start c = search needs
+part-ticks-to-record-start : tie.Need-part-ticks-to-record-start Inv-loop μ-loop
+part-ticks-to-record-start c = search needs
 
-part-record-of-end : tie.Need-part-record-of-end Inv-loop μ-loop
-part-record-of-end c =
+part-ticks-to-record-end : tie.Need-part-ticks-to-record-end Inv-loop μ-loop
+part-ticks-to-record-end c =
     let n = next-place notations.Table (c .before .before .before .before .args .t .now) _ _ (c .before .loop-test .taken) (c .part-at .ensures) in
     omega arith
-
-record-of-requires : tie.Need-record-of-requires Inv-loop μ-loop
-record-of-requires c κs = search needs
 
 ticks-to-record-requires : tie.Need-ticks-to-record-requires Inv-loop μ-loop
 ticks-to-record-requires c κs = search needs
 
 loop-less : tie.Need-loop-less Inv-loop μ-loop
 loop-less c =
-    let n = next-place notations.Table (c .before .before .before .before .before .before .before .args .t .now) _ _ (c .before .before .before .before .loop-test .taken) (c .before .before .before .part-at .ensures) in
+    let n = next-place notations.Table (c .before .before .before .before .before .before .args .t .now) _ _ (c .before .before .before .loop-test .taken) (c .before .before .part-at .ensures) in
     omega arith
 
 loop-again : tie.Need-loop-again Inv-loop μ-loop
 loop-again c =
-    quiet-on (c .before .before .before .before .before .before .before .args .t .now) _ _ _ (c .before .before .before .before .loop-test .taken) (c .before .before .before .part-at .ensures) (c .before .record-of .ensures) _ _ _ (c .ticks-to-record .ensures) ∙ c .before .before .before .before .before .loop .inv
+    quiet-on (c .before .before .before .before .before .before .args .t .now) _ _ _ (c .before .before .before .loop-test .taken) (c .before .before .part-at .ensures) refl _ _ _ (c .ticks-to-record .ensures) ∙ c .before .before .before .before .loop .inv
 
 returns : tie.Need-returns Inv-loop μ-loop
 returns c = quiet-end (c .before .before .before .args .t .now) _ _ _ (c .loop-test .left) ∙ c .before .loop .inv
@@ -68,10 +65,9 @@ quiet-ticks-spec =
     loop-holds
     part-at-requires
     add-next
-    sub-record-of
-    part-record-of-start
-    part-record-of-end
-    record-of-requires
+    sub-ticks-to-record
+    part-ticks-to-record-start
+    part-ticks-to-record-end
     ticks-to-record-requires
     loop-less
     loop-again

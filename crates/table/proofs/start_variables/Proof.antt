@@ -1,4 +1,4 @@
-use mathlib.Core.Path.{_≡_, _∙_, ap}
+use mathlib.Core.Path.{_≡_, refl, _∙_}
 use Prim.Native.Nat.{_-_, _≤_}
 use native.Mathlib.Omega.{arith}
 use lib.ListN.{length, drop}
@@ -31,31 +31,28 @@ add-next c =
     let n = next-place notations.Table (c .before .before .before .before .args .t .now) _ _ (c .before .loop-test .taken) (c .part-at .ensures) in
     record { fits = omega arith }
 
-sub-record-of : tie.Need-sub-record-of Inv-loop μ-loop
-sub-record-of c = search needs
+sub-begin-with : tie.Need-sub-begin-with Inv-loop μ-loop
+sub-begin-with c = search needs
 
-part-record-of-start : tie.Need-part-record-of-start Inv-loop μ-loop
-part-record-of-start c = search needs
+part-begin-with-start : tie.Need-part-begin-with-start Inv-loop μ-loop
+part-begin-with-start c = search needs
 
-part-record-of-end : tie.Need-part-record-of-end Inv-loop μ-loop
-part-record-of-end c =
-    let n = next-place notations.Table (c .before .before .before .before .args .t .now) _ _ (c .before .loop-test .taken) (c .part-at .ensures) in
+part-begin-with-end : tie.Need-part-begin-with-end Inv-loop μ-loop
+part-begin-with-end c =
+    let n = next-place notations.Table (c .before .before .before .before .before .args .t .now) _ _ (c .before .before .loop-test .taken) (c .before .part-at .ensures) in
     omega arith
-
-record-of-requires : tie.Need-record-of-requires Inv-loop μ-loop
-record-of-requires c κs = search needs
 
 begin-with-requires : tie.Need-begin-with-requires Inv-loop μ-loop
 begin-with-requires c κs = search needs
 
 loop-less : tie.Need-loop-less Inv-loop μ-loop
 loop-less c =
-    let n = next-place notations.Table (c .before .before .before .before .before .before .before .before .args .t .now) _ _ (c .before .before .before .before .before .loop-test .taken) (c .before .before .before .before .part-at .ensures) in
+    let n = next-place notations.Table (c .before .before .before .before .before .before .before .args .t .now) _ _ (c .before .before .before .before .loop-test .taken) (c .before .before .before .part-at .ensures) in
     omega arith
 
 loop-again : tie.Need-loop-again Inv-loop μ-loop
 loop-again c =
-    rw (start-on (c .before .before .before .before .before .before .before .before .args .t .now) _ _ _ (c .before .before .before .before .before .loop-test .taken) (c .before .before .before .before .part-at .ensures) (c .before .before .record-of .ensures) _ _ (c .begin-with .ensures)) (c .before .before .before .before .before .before .loop .inv)
+    rw (start-on (c .before .before .before .before .before .before .before .args .t .now) _ _ _ (c .before .before .before .before .loop-test .taken) (c .before .before .before .part-at .ensures) refl _ _ (c .begin-with .ensures)) (c .before .before .before .before .before .loop .inv)
 
 variables-of-requires : tie.Need-variables-of-requires Inv-loop μ-loop
 variables-of-requires c κs = search needs
@@ -72,10 +69,9 @@ start-variables-spec =
     loop-holds
     part-at-requires
     add-next
-    sub-record-of
-    part-record-of-start
-    part-record-of-end
-    record-of-requires
+    sub-begin-with
+    part-begin-with-start
+    part-begin-with-end
     begin-with-requires
     loop-less
     loop-again

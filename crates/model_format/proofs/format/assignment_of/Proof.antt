@@ -23,7 +23,7 @@ operand-at-requires-2 c κs = search needs
 
 returns : tie.Need-returns
 unfolding format.assignmentOf
-returns c = cc
+returns c = rw (c .operand-at2 .ensures, c .before .operand-at .ensures, c .before .before .byte-at3 .ensures, c .before .before .before .wide .ensures, c .before .before .before .before .byte-at2 .ensures, c .before .before .before .before .before .byte-at .ensures)
 
 pub assignment-of-spec : {M : Type 1} → statement M
 assignment-of-spec =

@@ -20,7 +20,7 @@ operand-at-requires c κs = search needs
 
 returns : tie.Need-returns
 unfolding format.atomOf
-returns c = cc
+returns c = rw (c .operand-at .ensures, c .before .wide .ensures, c .before .before .byte-at3 .ensures, c .before .before .before .byte-at2 .ensures, c .before .before .before .before .byte-at .ensures)
 
 pub atom-of-spec : {M : Type 1} → statement M
 atom-of-spec =

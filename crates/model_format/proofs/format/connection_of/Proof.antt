@@ -23,7 +23,7 @@ byte-at-requires-4 c κs = search needs
 
 returns : tie.Need-returns
 unfolding format.connectionOf
-returns c = cc
+returns c = rw (c .byte-at4 .ensures, c .before .wide2 .ensures, c .before .before .byte-at3 .ensures, c .before .before .before .wide .ensures, c .before .before .before .before .byte-at2 .ensures, c .before .before .before .before .before .byte-at .ensures)
 
 pub connection-of-spec : {M : Type 1} → statement M
 connection-of-spec =

@@ -11,7 +11,7 @@ byte-at-requires-2 c κs = search needs
 
 returns : tie.Need-returns
 unfolding format.headOf
-returns c = cc
+returns c = rw (c .byte-at2 .ensures, c .before .byte-at .ensures)
 
 pub head-of-spec : {M : Type 1} → statement M
 head-of-spec = tie.close (tie.spec byte-at-requires byte-at-requires-2 returns)

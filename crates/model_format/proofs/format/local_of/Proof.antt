@@ -11,7 +11,7 @@ value-at-requires c κs = search needs
 
 returns : tie.Need-returns
 unfolding format.localOf
-returns c = cc
+returns c = rw (c .value-at .ensures, c .before .byte-at .ensures)
 
 pub local-of-spec : {M : Type 1} → statement M
 local-of-spec = tie.close (tie.spec byte-at-requires value-at-requires returns)

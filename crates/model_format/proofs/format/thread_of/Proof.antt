@@ -26,7 +26,7 @@ byte-at-requires-3 c κs = search needs
 
 returns : tie.Need-returns
 unfolding format.threadOf
-returns c = cc
+returns c = rw (c .byte-at3 .ensures, c .before .byte-at2 .ensures, c .before .before .byte-at .ensures, c .before .before .before .duration-at4 .ensures, c .before .before .before .before .duration-at3 .ensures, c .before .before .before .before .before .duration-at2 .ensures, c .before .before .before .before .before .before .duration-at .ensures)
 
 pub thread-of-spec : {M : Type 1} → statement M
 thread-of-spec =

@@ -14,7 +14,7 @@ byte-at-requires-3 c κs = search needs
 
 returns : tie.Need-returns
 unfolding format.transitionOf
-returns c = cc
+returns c = rw (c .byte-at3 .ensures, c .before .byte-at2 .ensures, c .before .before .byte-at .ensures)
 
 pub transition-of-spec : {M : Type 1} → statement M
 transition-of-spec =

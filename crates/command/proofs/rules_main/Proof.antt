@@ -1,0 +1,69 @@
+use Rattle.command.specs.Shows.{shows-nothing}
+use borrow.Author.Needs.{needs}
+use Rattle.command.proofs.rules_main.Statement.{statement}
+use Rattle.command.proofs.rules_main.Tie as tie
+
+read-inputs-requires : tie.Need-read-inputs-requires
+read-inputs-requires c κs = search needs
+
+nothing-requires : tie.Need-nothing-requires
+nothing-requires c κs = search needs
+
+same-length : tie.Need-same-length
+same-length c = search needs
+
+same-length-2 : tie.Need-same-length-2
+same-length-2 c = search needs
+
+returns : tie.Need-returns
+returns c = shows-nothing _ _ _ (c .nothing .ensures) (c .before .before .before .before .before .before .before .read-inputs .ensures .0) (c .before .before .before .before .before .before .before .read-inputs .ensures .1)
+
+slice-reshare-prefix-rules-listing : tie.Need-slice-reshare-prefix-rules-listing
+slice-reshare-prefix-rules-listing c = search needs
+
+slice-aggregate-rules-listing : tie.Need-slice-aggregate-rules-listing
+slice-aggregate-rules-listing c = search needs
+
+slice-reshare-prefix-rules-listing-2 : tie.Need-slice-reshare-prefix-rules-listing-2
+slice-reshare-prefix-rules-listing-2 c = search needs
+
+slice-aggregate-rules-listing-2 : tie.Need-slice-aggregate-rules-listing-2
+slice-aggregate-rules-listing-2 c = search needs
+
+rules-listing-requires : tie.Need-rules-listing-requires
+rules-listing-requires c κs = search needs
+
+print-start-requires : tie.Need-print-start-requires
+print-start-requires c κs = search needs
+
+same-length-3 : tie.Need-same-length-3
+same-length-3 c = search needs
+
+same-length-4 : tie.Need-same-length-4
+same-length-4 c = search needs
+
+same-length-5 : tie.Need-same-length-5
+same-length-5 c = search needs
+
+returns-2 : tie.Need-returns-2
+returns-2 c = search needs
+
+pub rules-main-spec : {M : Type 1} → statement M
+rules-main-spec =
+    tie.close
+    (tie.spec
+    read-inputs-requires
+    nothing-requires
+    same-length
+    same-length-2
+    returns
+    slice-reshare-prefix-rules-listing
+    slice-aggregate-rules-listing
+    slice-reshare-prefix-rules-listing-2
+    slice-aggregate-rules-listing-2
+    rules-listing-requires
+    print-start-requires
+    same-length-3
+    same-length-4
+    same-length-5
+    returns-2)

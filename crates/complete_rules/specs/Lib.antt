@@ -1,0 +1,6 @@
+pub mod Named
+pub mod Loops
+pub mod Operands
+pub mod Guards
+pub mod Assigned
+pub mod Complete

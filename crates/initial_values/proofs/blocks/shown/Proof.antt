@@ -1,0 +1,23 @@
+use Rattle.initial_values.specs.Blocks.{clock-shown, others-shown}
+use borrow.Author.Needs.{needs}
+use Rattle.initial_values.proofs.blocks.shown.Statement.{statement}
+use Rattle.initial_values.proofs.blocks.shown.Tie as tie
+
+of-clock-requires : tie.Need-of-clock-requires
+of-clock-requires c κs = search needs
+
+count-requires : tie.Need-count-requires
+count-requires c κs = search needs
+
+returns : tie.Need-returns
+returns c = clock-shown _ _ _ (c .before .before .before .if1 .taken) (c .before .of-clock .ensures) (c .count .ensures)
+
+of-thread-requires : tie.Need-of-thread-requires
+of-thread-requires c κs = search needs
+
+returns-2 : tie.Need-returns-2
+returns-2 c = others-shown _ _ _ (c .before .if1 .left) (c .of-thread .ensures)
+
+pub shown-spec : {M : Type 1} → statement M
+shown-spec =
+    tie.close (tie.spec of-clock-requires count-requires returns of-thread-requires returns-2)

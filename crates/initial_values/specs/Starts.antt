@@ -1,0 +1,67 @@
+-- The start records of a table, one variable after the other.
+use mathlib.Core.Path.{_≡_, refl, _∙_, ap}
+use mathlib.Core.Bool.{Bool, true, false, not}
+use mathlib.Core.List.{List, []}
+use Prim.Native.Nat.{ℕ, _≤_}
+use native.Mathlib.Omega.{arith}
+use lib.ListN.{length}
+use lib.Seq.{length-sets}
+use Rattle.numbers.specs.declared.Value.{Value}
+use Rattle.numbers.specs.Lists.{joinBelow, only}
+use Rattle.numbers.specs.Values.{natural, sameValue}
+use Rattle.model_format.specs.declared.Model.{Model}
+use Rattle.model_format.specs.declared.Timing.{Timing}
+use Rattle.model.specs.declared.State.{State}
+use Rattle.model.specs.Machine.{startState}
+use Rattle.table_format.specs.declared.InitialValue.{InitialValue}
+use Rattle.table_format.specs.declared.Record.the-variants.{Initial}
+use Rattle.table_format.specs.Variables.{variables}
+use Rattle.table_format.specs.Format.{recordTo, bytesOf}
+use Rattle.table_format.specs.Table.{initialTo}
+use Rattle.translate.specs.Shown.{standsFor}
+use Rattle.translate.specs.Translate.{initialOf}
+use Rattle.writer.specs.Written.{Wrote, records-one}
+use Rattle.rule_writer.specs.Lists.{WroteInitial, Counted, joins-initial, wrote-none}
+use Rattle.initial_values.specs.Blocks.{SameBits}
+
+-- variable j where its value is not 0
+abbrev pub start : ℕ → Value → List InitialValue
+start j v = only (not (sameValue v (natural 0))) (record { variable = j; value = v })
+
+-- the variables below n in a state
+abbrev pub startsIn : Timing → State → ℕ → List InitialValue
+startsIn m s n = joinBelow n (λ j. start j (standsFor m s j))
+
+-- ---- z says whether the value is 0
+module _ {d : List ℕ} {at : ℕ} (j : ℕ) (v : Value) (z : Bool) (h : z ≡ sameValue v (natural 0)) where
+  pub start-left : z ≡ true → Counted at → WroteInitial d at (start j v) d at
+  start-left t k = rw (← h, t) (wrote-none joins-initial k)
+
+  pub start-wrote : {e : List ℕ} {p : ℕ} → z ≡ false → Wrote d at (recordTo (Initial (record { variable = j; value = v })) []) e p → WroteInitial d at (start j v) e p
+  unfolding initialTo
+  start-wrote t w = rw (← h, t) (records-one (Initial (record { variable = j; value = v })) w)
+
+-- ---- a value is written by its bits
+same-bytes : (b : Bool) (j : ℕ) (v w : Value) → SameBits v w →
+    bytesOf (initialTo (only b (record { variable = j; value = v })) []) ≡ bytesOf (initialTo (only b (record { variable = j; value = w })) [])
+unfolding bytesOf initialTo recordTo
+same-bytes true j v w s = rw (s .bits)
+same-bytes false j v w s = refl
+
+pub start-same : {d e : List ℕ} {at p : ℕ} (j : ℕ) (v w : Value) → SameBits v w → WroteInitial d at (start j v) e p → WroteInitial d at (start j w) e p
+start-same j v w s x = rw (← s .bits, ← same-bytes (not (sameValue v (natural 0))) j v w s) x
+
+-- ---- what is written into keeps its length
+pub keeps-length : {d e bs : List ℕ} {at p : ℕ} → Wrote d at bs e p → length e ≡ length d
+keeps-length {d} {e} {bs} {at} {p} w = ap length (w .bytes) ∙ length-sets d at bs
+
+-- ---- the loop has come to its end
+pub starts-end : {d e : List ℕ} {at p : ℕ} (m : Timing) (s : State) (j : ℕ) → j ≤ variables → variables ≤ j → WroteInitial d at (startsIn m s j) e p →
+    WroteInitial d at (startsIn m s variables) e p
+starts-end m s j h l w = let z : j ≡ variables = omega arith in rw (← z) w
+
+-- ---- all of them, in the state that a model starts in
+pub initial-wrote : {d e : List ℕ} {at p : ℕ} (m : Model) (s : State) → s ≡ startState (m .timing) → WroteInitial d at (startsIn (m .timing) s variables) e p →
+    WroteInitial d at (initialOf m) e p
+unfolding initialOf
+initial-wrote m s e w = rw (← e) w

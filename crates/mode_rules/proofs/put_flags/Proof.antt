@@ -1,0 +1,53 @@
+use Rattle.mode_rules.specs.Modes.{flagUpdate, keeps-length, loop-ends}
+use Rattle.rule_writer.specs.Lists.{WroteUpdates, joins-updates, loop-begins, loop-next}
+use Rattle.numbers.specs.Lists.{joinBelow}
+use native.Mathlib.Omega.{arith}
+use Prim.Native.Nat.{_≤_, _-_}
+use borrow.Author.Needs.{needs}
+use Rattle.mode_rules.proofs.put_flags.Statement.{statement}
+use Rattle.mode_rules.proofs.put_flags.Tie as tie
+
+abbrev Inv-loop : tie.InvT-loop
+Inv-loop d₀ at m old new n p₀ c₀ d p c = (c ≤ n) × WroteUpdates d₀ at (joinBelow c (flagUpdate m old new)) d p
+
+abbrev μ-loop : tie.MeasureT-loop
+μ-loop d₀ at m old new n p₀ c₀ d p c = n - c
+
+count-requires : tie.Need-count-requires Inv-loop μ-loop
+count-requires c κs = search needs
+
+loop-holds : tie.Need-loop-holds Inv-loop μ-loop
+loop-holds c = (omega arith, loop-begins joins-updates _ (search needs))
+
+put-flag-requires : tie.Need-put-flag-requires Inv-loop μ-loop
+put-flag-requires c κs = search needs
+
+add-c : tie.Need-add-c Inv-loop μ-loop
+add-c c = search needs
+
+loop-less : tie.Need-loop-less Inv-loop μ-loop
+loop-less c = search needs
+
+loop-again : tie.Need-loop-again Inv-loop μ-loop
+loop-again c = (omega arith, loop-next joins-updates _ _ (c .before .before .before .before .before .before .before .before .good .0 .0) (c .before .before .before .before .before .loop .inv .1) (c .before .before .put-flag .ensures))
+
+same-length : tie.Need-same-length Inv-loop μ-loop
+same-length c = keeps-length (c .before .loop .inv .1)
+
+returns : tie.Need-returns Inv-loop μ-loop
+returns c = loop-ends _ _ _ _ (c .before .before .count .ensures) (c .before .loop .inv .0) (c .loop-test .left) (c .before .loop .inv .1)
+
+pub put-flags-spec : {M : Type 1} → statement M
+put-flags-spec =
+    tie.close
+    (tie.spec
+    Inv-loop
+    μ-loop
+    count-requires
+    loop-holds
+    put-flag-requires
+    add-c
+    loop-less
+    loop-again
+    same-length
+    returns)

@@ -1,0 +1,83 @@
+use mathlib.Core.Path.{_≡_, _∙_}
+use mathlib.Core.Bool.{false}
+use mathlib.Core.Logic.{⊎-elim}
+use Prim.Native.Nat.{ℕ, _<_, _≤_, _-_}
+use native.Mathlib.Omega.{arith}
+use borrow.Author.Count.{below-more}
+use Rattle.model_effects.specs.Laws.{openAt, transition-within, open-not, open-is, first-is, first-end}
+use borrow.Author.Needs.{needs}
+use Rattle.model_effects.proofs.first_open.Statement.{statement}
+use Rattle.model_effects.proofs.first_open.Tie as tie
+
+abbrev Inv-loop : tie.InvT-loop
+Inv-loop t b p from n k₀ k = (k ≤ n) × ((j : ℕ) → j < k → openAt b p from t j ≡ false)
+
+abbrev μ-loop : tie.MeasureT-loop
+μ-loop t b p from n k₀ k = n - k
+
+behavior-of-requires : tie.Need-behavior-of-requires Inv-loop μ-loop
+behavior-of-requires c κs = search needs
+
+loop-holds : tie.Need-loop-holds Inv-loop μ-loop
+loop-holds c = (omega arith, λ j h. absurd (omega arith))
+
+mul-x : tie.Need-mul-x Inv-loop μ-loop
+mul-x c = search needs
+
+element-copy-out-x : tie.Need-element-copy-out-x Inv-loop μ-loop
+element-copy-out-x c = search needs
+
+transition-at-requires : tie.Need-transition-at-requires Inv-loop μ-loop
+transition-at-requires c κs = search needs
+
+leaves-requires : tie.Need-leaves-requires Inv-loop μ-loop
+leaves-requires c κs = search needs
+
+wide-requires : tie.Need-wide-requires Inv-loop μ-loop
+wide-requires c κs = search needs
+
+guard-holds-requires : tie.Need-guard-holds-requires Inv-loop μ-loop
+guard-holds-requires c κs = search needs
+
+returns : tie.Need-returns Inv-loop μ-loop
+returns c = first-is (c .before .before .before .before .before .before .before .before .before .before .before .args .t1) (c .before .before .before .before .before .before .before .before .before .before .before .args .s) (c .before .before .before .before .before .before .before .before .before .before .before .args .t) _ _ (c .before .before .before .before .before .before .before .before .behavior-of .ensures) (c .before .before .before .before .before .before .before .loop .inv .1) (c .before .before .before .before .before .before .loop-test .taken)
+    (open-is _ (c .before .before .before .before .before .before .before .before .before .before .before .args .s .ports) _ _ _ _ _ (⊎-elim (λ w. transition-within (c .before .before .before .before .before .before .before .before .before .before .before .args .t1) _ _ (w .0 .taken) (w .2)) (λ w. w .2 ∙ w .1 .ensures) (c .before .before .before .before .before .if1 .came)) (c .before .before .before .before .leaves .ensures) _ _ _ (c .before .before .before .if2 .taken) (c .before .before .wide .ensures) (c .before .guard-holds .ensures) (c .if3 .taken))
+
+add-k : tie.Need-add-k Inv-loop μ-loop
+add-k c = search needs
+
+loop-less : tie.Need-loop-less Inv-loop μ-loop
+loop-less c = search needs
+
+loop-again : tie.Need-loop-again Inv-loop μ-loop
+loop-again c = (
+  omega arith,
+  below-more _ _ (c .before .before .before .before .loop .inv .1)
+      (⊎-elim
+      (λ v. open-is _ (c .before .before .before .before .before .before .before .before .args .s .ports) _ _ _ _ _ (⊎-elim (λ w. transition-within (c .before .before .before .before .before .before .before .before .args .t1) _ _ (w .0 .taken) (w .2)) (λ w. w .2 ∙ w .1 .ensures) (c .before .before .if1 .came)) (c .before .leaves .ensures) _ _ _ (v .0 .taken) (v .1 .ensures) (v .2 .ensures) (v .3 .left))
+      (λ v. open-not _ (c .before .before .before .before .before .before .before .before .args .s .ports) _ _ _ _ _ (⊎-elim (λ w. transition-within (c .before .before .before .before .before .before .before .before .args .t1) _ _ (w .0 .taken) (w .2)) (λ w. w .2 ∙ w .1 .ensures) (c .before .before .if1 .came)) (c .before .leaves .ensures) (v .left))
+      (c .if2 .came)),
+)
+
+returns-2 : tie.Need-returns-2 Inv-loop μ-loop
+returns-2 c = first-end (c .before .before .before .before .before .args .t1) (c .before .before .before .before .before .args .s) (c .before .before .before .before .before .args .t) _ _ (c .before .before .behavior-of .ensures) (c .before .loop .inv .1) (c .loop-test .left)
+
+pub first-open-spec : {M : Type 1} → statement M
+first-open-spec =
+    tie.close
+    (tie.spec
+    Inv-loop
+    μ-loop
+    behavior-of-requires
+    loop-holds
+    mul-x
+    element-copy-out-x
+    transition-at-requires
+    leaves-requires
+    wide-requires
+    guard-holds-requires
+    returns
+    add-k
+    loop-less
+    loop-again
+    returns-2)

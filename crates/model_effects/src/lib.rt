@@ -1,0 +1,552 @@
+// What each event does to the state.
+
+use model::Clock;
+use model::Ports;
+use model::State;
+use model::Threads;
+use model::behavior_of;
+use model::job_of;
+use model::missed_of;
+use model::owner_at;
+use model::put_buffer;
+use model::put_input;
+use model::put_local;
+use model::put_output;
+use model::value_at;
+use model::wide;
+use model::wide16;
+use model::wide32;
+use model::with_behavior;
+use model::with_cpu;
+use model::with_dispatch;
+use model::with_job;
+use model::with_missed;
+use model::with_phase;
+use model::with_thread_code;
+use model::within;
+use model_format::Assignment;
+use model_format::Atom;
+use model_format::Behavior;
+use model_format::Connection;
+use model_format::Model;
+use model_format::Timing;
+use model_format::Transition;
+use model_format::assignment_at;
+use model_format::atom_at;
+use model_format::in_mode;
+use model_format::place;
+use model_format::switch_at;
+use model_format::transition_at;
+use numbers::Duration;
+use numbers::Value;
+use numbers::bits;
+use numbers::combine;
+use numbers::compares;
+use numbers::one_more;
+use records::Event;
+use records::Operand;
+ghost use mathlib.Core.Path.{_≡_};
+ghost use Rattle.model.specs.State as state;
+ghost use Rattle.model.specs.Effects as effects;
+ghost use Rattle.model.specs.Machine as machine;
+ghost use Rattle.model_effects.specs.Laws as laws;
+
+// The connections with their Flags: all that a loop over them asks of a model and a state.
+struct Wiring {
+    connections: usize,
+    connection: [Connection; 32],
+    live: [bool; 32],
+}
+
+fn wires_of(m: Timing, s: State) -> Wiring
+    ensures { λ r. ⌜ r ≡ laws.wiringOf m s ⌝ }
+{
+    let n = m.connections;
+    let l = m.connection;
+    let live = s.live;
+    Wiring {
+        connections: n,
+        connection: l,
+        live: live,
+    }
+}
+
+// ---- input ports
+fn feeds_port(x: Connection, live: bool, i: usize) -> bool
+    ensures { λ r. ⌜ r ≡ laws.feedsPort x live i ⌝ }
+{
+    let target = wide16(x.target);
+    let kind = x.kind;
+    (kind == 0) & ((target == i) & live)
+}
+
+fn is_fed_immediately(w: Wiring, i: usize) -> bool
+    ensures { λ r. ⌜ r ≡ laws.isFedBy w i ⌝ }
+{
+    let n = within(w.connections, 32);
+    let mut c: usize = 0;
+    while c < n {
+        let x = w.connection[c];
+        let live = w.live[c];
+        if feeds_port(x, live, i) {
+            return true;
+        }
+        c += 1;
+    }
+    false
+}
+
+// The owner is looked at first: most ports are those of other threads.
+fn is_port(w: Wiring, owner: u8, fed: bool, t: usize, i: usize) -> bool
+    ensures { λ r. ⌜ r ≡ laws.isPortOf w owner fed t i ⌝ }
+{
+    if wide(owner) != t {
+        return false;
+    }
+    let now = is_fed_immediately(w, i);
+    if fed { now } else { !now }
+}
+
+fn take_buffer(p: Ports, mine: bool, i: usize) -> Ports
+    ensures { λ r. ⌜ r ≡ laws.takeBuffer p mine i ⌝ }
+{
+    if mine {
+        let l = p.buffer;
+        let v = value_at(l, i);
+        return put_input(p, i, v);
+    }
+    p
+}
+
+fn freeze(m: Timing, s: State, fed: bool, t: usize) -> Ports
+    ensures { λ r. ⌜ r ≡ effects.freeze m s fed t ⌝ }
+{
+    let w = wires_of(m, s);
+    let n = within(m.inputs, 32);
+    let mut p = s.ports;
+    let mut i: usize = 0;
+    while i < n {
+        let owner = m.input[i];
+        let mine = is_port(w, owner, fed, t, i);
+        p = take_buffer(p, mine, i);
+        i += 1;
+    }
+    p
+}
+
+fn dispatch(m: Timing, s: State, t: usize) -> State
+    ensures { λ r. ⌜ r ≡ effects.dispatch m s t ⌝ }
+{
+    let c = s.clock;
+    let now = c.now;
+    let x = s.threads;
+    let y = with_dispatch(x, t, 2, now);
+    let p = freeze(m, s, false, t);
+    let mut q = s;
+    q.threads = y;
+    q.ports = p;
+    q
+}
+
+// The processor holds the thread's number, a byte.
+fn start(m: Timing, s: State, id: u8, n: u32) -> State
+    ensures { λ r. ⌜ r ≡ effects.start m s id n ⌝ }
+{
+    let t = wide(id);
+    let c = s.clock;
+    let d = with_cpu(c, id);
+    let length = Duration(n);
+    let x = s.threads;
+    let y = with_job(x, t, 3, length);
+    let p = freeze(m, s, true, t);
+    let mut q = s;
+    q.clock = d;
+    q.threads = y;
+    q.ports = p;
+    q
+}
+
+// ---- behaviours
+fn operand_value(p: Ports, o: Operand) -> Value
+    ensures { λ r. ⌜ r ≡ effects.operandValue p o ⌝ }
+{
+    let tag = o.tag;
+    let v = o.value;
+    if tag == 0 {
+        return v;
+    }
+    let i = wide32(bits(v));
+    if tag == 1 {
+        let l = p.input;
+        return value_at(l, i);
+    }
+    let l = p.local;
+    value_at(l, i)
+}
+
+fn left_value(p: Ports, a: Atom) -> Value
+    ensures { λ r. ⌜ r ≡ effects.leftValue p a ⌝ }
+{
+    let i = wide16(a.number);
+    let tag = a.tag;
+    if tag == 1 {
+        let l = p.input;
+        return value_at(l, i);
+    }
+    let l = p.local;
+    value_at(l, i)
+}
+
+fn atom_holds(p: Ports, a: Atom) -> bool
+    ensures { λ r. ⌜ r ≡ effects.atomHolds p a ⌝ }
+{
+    let right = a.right;
+    let x = left_value(p, a);
+    let y = operand_value(p, right);
+    compares(a.op, x, y)
+}
+
+// The first n atoms of transition k hold.
+fn guard_holds(b: Behavior, p: Ports, k: usize, n: usize) -> bool
+    ensures { λ r. ⌜ r ≡ laws.guardHolds b p k n ⌝ }
+{
+    let mut j: usize = 0;
+    while j < n {
+        let i = place(k, j);
+        let a = if i < 256 { b.atom[i] } else { atom_at(b, k, j) };
+        if !atom_holds(p, a) {
+            return false;
+        }
+        j += 1;
+    }
+    true
+}
+
+// Transition x is one of thread t, from the behaviour state given.
+fn leaves(x: Transition, t: usize, from: u8) -> bool
+    ensures { λ r. ⌜ r ≡ laws.leaves x t from ⌝ }
+{
+    let thread = wide(x.thread);
+    let here = x.from;
+    (thread == t) & (here == from)
+}
+
+// Only a transition from the behaviour state has its atoms looked at.
+fn first_open(b: Behavior, s: State, t: usize) -> usize
+    ensures { λ r. ⌜ r ≡ effects.firstOpen b s t ⌝ }
+{
+    let p = s.ports;
+    let y = s.threads;
+    let from = behavior_of(y, t);
+    let n = b.transitions;
+    let mut k: usize = 0;
+    while k < n {
+        let x = if k < 64 {
+            b.transition[k]
+        } else {
+            transition_at(b, k)
+        };
+        if leaves(x, t, from) {
+            let atoms = wide(x.atoms);
+            if guard_holds(b, p, k, atoms) {
+                return k;
+            }
+        }
+        k += 1;
+    }
+    n
+}
+
+// Transition k, or where there is none, one that keeps the behaviour state; the thread of that one is never asked for.
+fn taken_transition(b: Behavior, k: usize, from: u8) -> Transition
+    ensures { λ r. ⌜ r ≡ laws.takenFrom b k from ⌝ }
+{
+    let n = b.transitions;
+    if k < n {
+        return transition_at(b, k);
+    }
+    Transition {
+        thread: 0,
+        from: from,
+        to: from,
+        atoms: 0,
+        assignments: 0,
+    }
+}
+
+fn assigned_value(p: Ports, a: Assignment) -> Value
+    ensures { λ r. ⌜ r ≡ effects.assignedValue p a ⌝ }
+{
+    let first = a.first;
+    let second = a.second;
+    let x = operand_value(p, first);
+    let y = operand_value(p, second);
+    combine(a.op, x, y)
+}
+
+// One assignment, which reads p and writes q.
+fn assign_one(p: Ports, q: Ports, a: Assignment) -> Ports
+    ensures { λ r. ⌜ r ≡ laws.assignOne p q a ⌝ }
+{
+    let v = assigned_value(p, a);
+    let i = wide16(a.number);
+    let tag = a.tag;
+    if tag == 3 {
+        return put_output(q, i, v);
+    }
+    put_local(q, i, v)
+}
+
+fn assign(b: Behavior, p: Ports, k: usize, n: usize) -> Ports
+    ensures { λ r. ⌜ r ≡ effects.assign b p k n ⌝ }
+{
+    let mut q = p;
+    let mut j: usize = 0;
+    while j < n {
+        let i = place(k, j);
+        let a = if i < 256 {
+            b.assignment[i]
+        } else {
+            assignment_at(b, k, j)
+        };
+        q = assign_one(p, q, a);
+        j += 1;
+    }
+    q
+}
+
+// ---- connections
+fn carries(x: Connection, owner: u8, live: bool, kind: u8, t: usize) -> bool
+    ensures { λ r. ⌜ r ≡ laws.carriesFrom x owner live kind t ⌝ }
+{
+    let is = x.kind;
+    let source = wide(owner);
+    (is == kind) & ((source == t) & live)
+}
+
+fn send_one(p: Ports, x: Connection, goes: bool) -> Ports
+    ensures { λ r. ⌜ r ≡ laws.sendOne p x goes ⌝ }
+{
+    if goes {
+        let o = wide16(x.source);
+        let i = wide16(x.target);
+        let l = p.output;
+        let v = value_at(l, o);
+        return put_buffer(p, i, v);
+    }
+    p
+}
+
+fn send(m: Timing, s: State, kind: u8, t: usize, p: Ports) -> Ports
+    ensures { λ r. ⌜ r ≡ effects.send m s kind t p ⌝ }
+{
+    let owners = m.output;
+    let n = within(m.connections, 32);
+    let mut q = p;
+    let mut c: usize = 0;
+    while c < n {
+        let x = m.connection[c];
+        let live = s.live[c];
+        let owner = owner_at(owners, wide16(x.source));
+        let goes = carries(x, owner, live, kind, t);
+        q = send_one(q, x, goes);
+        c += 1;
+    }
+    q
+}
+
+// ---- the end of a job
+fn freed(c: Clock, ran: bool) -> Clock
+    ensures { λ r. ⌜ r ≡ laws.freed c ran ⌝ }
+{
+    if ran { with_cpu(c, 255) } else { c }
+}
+
+fn end_job(m: Timing, s: State, t: usize, code: u8) -> State
+    ensures { λ r. ⌜ r ≡ effects.endJob m s t code ⌝ }
+{
+    let x = s.threads;
+    let j = job_of(x, t);
+    let was = j.code;
+    let c = s.clock;
+    let d = freed(c, was == 3);
+    let none = Duration(0);
+    let y = with_job(x, t, code, none);
+    let mut q = s;
+    q.clock = d;
+    q.threads = y;
+    q
+}
+
+fn rest_code(s: State, t: usize) -> u8
+    ensures { λ r. ⌜ r ≡ effects.restCode s t ⌝ }
+{
+    let x = s.threads;
+    let j = job_of(x, t);
+    let active = j.active;
+    if active { 1 } else { 0 }
+}
+
+fn complete(m: Model, s: State, t: usize) -> State
+    ensures { λ r. ⌜ r ≡ effects.complete m s t ⌝ }
+{
+    let b = m.behavior;
+    let x = m.timing;
+    let k = first_open(b, s, t);
+    let y = s.threads;
+    let from = behavior_of(y, t);
+    let taken = taken_transition(b, k, from);
+    let n = wide(taken.assignments);
+    let old = s.ports;
+    let new = assign(b, old, k, n);
+    let p = send(x, s, 0, t, new);
+    let mut q = end_job(x, s, t, 4);
+    let u = q.threads;
+    let w = with_behavior(u, t, taken.to);
+    q.threads = w;
+    q.ports = p;
+    q
+}
+
+fn meet_deadline(m: Timing, s: State, t: usize) -> State
+    ensures { λ r. ⌜ r ≡ effects.meetDeadline m s t ⌝ }
+{
+    let code = rest_code(s, t);
+    let old = s.ports;
+    let p = send(m, s, 1, t, old);
+    let mut q = with_thread_code(s, t, code);
+    q.ports = p;
+    q
+}
+
+fn miss(m: Timing, s: State, t: usize) -> State
+    ensures { λ r. ⌜ r ≡ effects.miss m s t ⌝ }
+{
+    let x = s.threads;
+    let n = one_more(missed_of(x, t));
+    let code = rest_code(s, t);
+    let mut q = end_job(m, s, t, code);
+    let y = q.threads;
+    let z = with_missed(y, t, n);
+    q.threads = z;
+    q
+}
+
+// ---- modes
+// Pending holds the mode transition's number, a byte.
+fn request(m: Timing, s: State, id: u8) -> State
+    ensures { λ r. ⌜ r ≡ effects.request m s id ⌝ }
+{
+    let x = switch_at(m, wide(id));
+    let from = x.from;
+    let c = s.clock;
+    let phase = c.phase;
+    let mode = c.mode;
+    if (phase == 0) & (mode == from) {
+        let d = with_phase(c, 1, id);
+        let mut q = s;
+        q.clock = d;
+        return q;
+    }
+    s
+}
+
+pub fn active_in(m: Timing, mode: u8, l: [bool; 16]) -> [bool; 16]
+    ensures { λ r. ⌜ r ≡ effects.activeIn m mode l ⌝ }
+{
+    let n = within(m.threads, 16);
+    let mut a = l;
+    let mut t: usize = 0;
+    while t < n {
+        let x = m.thread[t];
+        a[t] = in_mode(x.modes, mode);
+        t += 1;
+    }
+    a
+}
+
+fn in_both(mask: u8, old: u8, new: u8) -> bool
+    ensures { λ r. ⌜ r ≡ effects.inBoth mask old new ⌝ }
+{
+    let before = in_mode(mask, old);
+    let after = in_mode(mask, new);
+    before & after
+}
+
+pub fn live_in(m: Timing, old: u8, new: u8, l: [bool; 32]) -> [bool; 32]
+    ensures { λ r. ⌜ r ≡ effects.liveIn m old new l ⌝ }
+{
+    let n = within(m.connections, 32);
+    let mut a = l;
+    let mut c: usize = 0;
+    while c < n {
+        let x = m.connection[c];
+        a[c] = in_both(x.modes, old, new);
+        c += 1;
+    }
+    a
+}
+
+fn enter(m: Timing, s: State, q: usize) -> State
+    ensures { λ r. ⌜ r ≡ effects.enter m s q ⌝ }
+{
+    let x = switch_at(m, q);
+    let from = x.from;
+    let to = x.to;
+    let c = s.clock;
+    let pending = c.pending;
+    let now = c.now;
+    let mut d = with_phase(c, 2, pending);
+    d.entered = now;
+    let mut y = s.threads;
+    let before = y.active;
+    let active = active_in(m, to, before);
+    y.active = active;
+    let flags = s.live;
+    let live = live_in(m, from, to, flags);
+    let mut r = s;
+    r.clock = d;
+    r.threads = y;
+    r.live = live;
+    r
+}
+
+fn leave(m: Timing, s: State, q: usize) -> State
+    ensures { λ r. ⌜ r ≡ effects.leave m s q ⌝ }
+{
+    let x = switch_at(m, q);
+    let to = x.to;
+    let c = s.clock;
+    let mut d = with_phase(c, 0, 255);
+    d.mode = to;
+    let flags = s.live;
+    let live = live_in(m, to, to, flags);
+    let mut r = s;
+    r.clock = d;
+    r.live = live;
+    r
+}
+
+// ---- one event
+pub fn effect(m: Model, s: State, e: Event) -> State
+    ensures { λ r. ⌜ r ≡ machine.effect m s e ⌝ }
+{
+    let x = m.timing;
+    let id = e.id;
+    let n = e.amount;
+    let t = wide(id);
+    let kind = e.kind;
+    match kind {
+        1 => with_thread_code(s, t, 1),
+        2 => with_thread_code(s, t, 0),
+        3 => dispatch(x, s, t),
+        4 => start(x, s, id, n),
+        5 => complete(m, s, t),
+        6 => meet_deadline(x, s, t),
+        7 => miss(x, s, t),
+        8 => request(x, s, id),
+        9 => enter(x, s, t),
+        10 => leave(x, s, t),
+        _ => s,
+    }
+}

@@ -1,0 +1,67 @@
+use Rattle.model_machine.specs.Laws.{ticks-end, ticks-busy, ticks-late, ticks-on}
+use Rattle.model.specs.Machine as machine
+use mathlib.Core.Path.{_≡_, refl, _∙_}
+use borrow.Author.Needs.{needs}
+use Rattle.model_machine.proofs.machine.ticks.Statement.{statement}
+use Rattle.model_machine.proofs.machine.ticks.Tie as tie
+
+abbrev Inv-loop : tie.InvT-loop
+Inv-loop m s n x₀ k₀ x k = machine.ticks m s k x ≡ machine.ticks m s n s
+
+abbrev μ-loop : tie.MeasureT-loop
+μ-loop m s n x₀ k₀ x k = k
+
+loop-holds : tie.Need-loop-holds Inv-loop μ-loop
+loop-holds c = refl
+
+is-busy-requires : tie.Need-is-busy-requires Inv-loop μ-loop
+is-busy-requires c κs = search needs
+
+answered-requires : tie.Need-answered-requires Inv-loop μ-loop
+answered-requires c κs = search needs
+
+returns : tie.Need-returns Inv-loop μ-loop
+returns c = c .answered .ensures ∙ ticks-busy _ _ _ _ _ (c .before .before .before .before .loop .inv) (c .before .before .before .loop-test .taken) _ (c .before .before .is-busy .ensures) (c .before .if1 .taken)
+
+answered-requires-2 : tie.Need-answered-requires-2 Inv-loop μ-loop
+answered-requires-2 c κs = search needs
+
+returns-2 : tie.Need-returns-2 Inv-loop μ-loop
+returns-2 c = c .answered2 .ensures ∙ ticks-late _ _ _ _ _ (c .before .before .before .before .before .before .loop .inv) (c .before .before .before .before .before .loop-test .taken) _ (c .before .before .before .before .is-busy .ensures) (c .before .before .before .if1 .left) (c .before .if2 .taken)
+
+tick-requires : tie.Need-tick-requires Inv-loop μ-loop
+tick-requires c κs = search needs
+
+sub-k : tie.Need-sub-k Inv-loop μ-loop
+sub-k c = search needs
+
+loop-less : tie.Need-loop-less Inv-loop μ-loop
+loop-less c = search needs
+
+loop-again : tie.Need-loop-again Inv-loop μ-loop
+loop-again c = ticks-on _ _ _ _ _ (c .before .before .before .before .before .before .loop .inv) (c .before .before .before .before .before .loop-test .taken) _ (c .before .before .before .before .is-busy .ensures) _ (c .before .before .before .if1 .left) (c .before .if2 .left) (c .tick .ensures)
+
+answered-requires-3 : tie.Need-answered-requires-3 Inv-loop μ-loop
+answered-requires-3 c κs = search needs
+
+returns-3 : tie.Need-returns-3 Inv-loop μ-loop
+returns-3 c = c .answered3 .ensures ∙ ticks-end _ _ _ _ _ (c .before .before .loop .inv) (c .before .loop-test .left)
+
+pub ticks-spec : {M : Type 1} → statement M
+ticks-spec =
+    tie.close
+    (tie.spec
+    Inv-loop
+    μ-loop
+    loop-holds
+    is-busy-requires
+    answered-requires
+    returns
+    answered-requires-2
+    returns-2
+    tick-requires
+    sub-k
+    loop-less
+    loop-again
+    answered-requires-3
+    returns-3)

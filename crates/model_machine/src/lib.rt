@@ -1,0 +1,28 @@
+// A model's machine: its start, one event, and a run.
+
+mod machine;
+mod start;
+mod tally;
+
+pub use machine::is_enabled;
+pub use machine::run_model;
+pub use machine::step;
+pub use machine::ticks;
+use model::State;
+use records::Refusal;
+pub use start::start_state;
+pub use tally::run_on;
+
+// Where a run has come to: the events taken, the refusal that stopped it, the state.
+pub struct Ran {
+    pub taken: usize,
+    pub refusal: Refusal,
+    pub state: State,
+}
+
+// Where a run that goes on after refusals has come to: the events taken, the events refused, the state.
+pub struct Tallied {
+    pub taken: usize,
+    pub refused: usize,
+    pub state: State,
+}

@@ -1,0 +1,204 @@
+// The machine: time, one event, and a run.
+
+use crate::Ran;
+use crate::start::start_state;
+use model::State;
+use model::Stepped;
+use model::can_activate;
+use model::can_complete;
+use model::can_deactivate;
+use model::can_dispatch;
+use model::can_enter;
+use model::can_leave;
+use model::can_meet_deadline;
+use model::can_miss;
+use model::is_busy;
+use model::start_fault;
+use model::wide;
+use model_effects::effect;
+use model_format::Model;
+use model_format::Timing;
+use numbers::Duration;
+use numbers::one_more;
+use records::Cause;
+use records::Event;
+use records::Holder;
+use records::Notation;
+use records::Refusal;
+use records::event_of;
+use records::is_broken;
+use records::is_none;
+use records::part_at;
+ghost use mathlib.Core.Path.{_≡_};
+ghost use Prim.Native.Nat.{_<_};
+ghost use Rattle.model.specs.Effects as effects;
+ghost use Rattle.model.specs.Machine as machine;
+ghost use Rattle.model_machine.specs.Laws as laws;
+
+// Spent of thread t, one more where it runs: `old` is Spent before the tick.
+fn spend(code: [u8; 16], old: [Duration; 16], l: [Duration; 16], t: usize) -> [Duration; 16]
+    ensures { λ r. ⌜ r ≡ laws.spendAt code old t l ⌝ }
+{
+    if 16 <= t {
+        return l;
+    }
+    let k = code[t];
+    if k != 3 {
+        return l;
+    }
+    let d = old[t];
+    let more = Duration(one_more(d.0));
+    let mut r = l;
+    r[t] = more;
+    r
+}
+
+fn spend_all(code: [u8; 16], old: [Duration; 16], n: usize) -> [Duration; 16]
+    ensures { λ r. ⌜ r ≡ laws.spendAll code old n ⌝ }
+{
+    let mut l = old;
+    let mut t: usize = 0;
+    while t < n {
+        let r = spend(code, old, l, t);
+        l = r;
+        t += 1;
+    }
+    l
+}
+
+fn tick(m: Timing, s: State) -> State
+    requires { ⌜ s .clock .now .0 < 1000000000 ⌝ }
+    ensures { λ r. ⌜ r ≡ effects.tick m s ⌝ }
+{
+    let mut y = s.threads;
+    let code = y.code;
+    let old = y.spent;
+    let l = spend_all(code, old, m.threads);
+    y.spent = l;
+    let mut k = s.clock;
+    let now = Duration(k.now.0 + 1);
+    k.now = now;
+    let mut r = s;
+    r.clock = k;
+    r.threads = y;
+    r
+}
+
+fn answered(c: Cause, s: State) -> Stepped
+    ensures { λ r. ⌜ r ≡ machine.refuse c s ⌝ }
+{
+    Stepped {
+        answer: c,
+        state: s,
+    }
+}
+
+// TICK n: all of its ticks, or none.
+pub fn ticks(m: Timing, s: State, n: u32) -> Stepped
+    ensures { λ r. ⌜ r ≡ machine.ticks m s n s ⌝ }
+{
+    let mut x = s;
+    let mut k = n;
+    while 0 < k {
+        if is_busy(m, x) {
+            let c = Cause::NotEnabled;
+            return answered(c, s);
+        }
+        if 1000000000 <= x.clock.now.0 {
+            let c = Cause::LastClock;
+            return answered(c, s);
+        }
+        x = tick(m, x);
+        k -= 1;
+    }
+    let c = Cause::None;
+    answered(c, x)
+}
+
+// An event that names no item is not enabled.
+pub fn is_enabled(m: Timing, s: State, e: Event) -> bool
+    ensures { λ r. ⌜ r ≡ machine.isEnabled m s e ⌝ }
+{
+    let t = wide(e.id);
+    let thread = t < m.threads;
+    let switch = t < m.switches;
+    let kind = e.kind;
+    match kind {
+        1 => thread & can_activate(s, t),
+        2 => thread & can_deactivate(s, t),
+        3 => thread & can_dispatch(m, s, t),
+        4 => start_fault(m, s, t, e.amount) == 0,
+        5 => thread & can_complete(s, t),
+        6 => thread & can_meet_deadline(m, s, t),
+        7 => thread & can_miss(m, s, t),
+        8 => switch,
+        9 => switch & can_enter(m, s, t),
+        10 => switch & can_leave(m, s, t),
+        _ => false,
+    }
+}
+
+// One event on a state.
+pub fn step(m: Model, s: State, e: Event) -> Stepped
+    ensures { λ r. ⌜ r ≡ machine.step m s e ⌝ }
+{
+    if is_broken(e) {
+        let c = Cause::BrokenEvent;
+        return answered(c, s);
+    }
+    let x = m.timing;
+    if e.kind == 11 {
+        return ticks(x, s, e.amount);
+    }
+    if !is_enabled(x, s, e) {
+        let c = Cause::NotEnabled;
+        return answered(c, s);
+    }
+    let r = effect(m, s, e);
+    let c = Cause::None;
+    answered(c, r)
+}
+
+fn ended(taken: usize, c: Cause, h: Holder, start: usize, end: usize, s: State) -> Ran
+    ensures { λ r. ⌜ r ≡ record { taken = taken; refusal = record { cause = c; holder = h; start = start; end = end }; state = s } ⌝ }
+{
+    let r = Refusal {
+        cause: c,
+        holder: h,
+        start: start,
+        end: end,
+    };
+    Ran {
+        taken: taken,
+        refusal: r,
+        state: s,
+    }
+}
+
+// The run of a model over a script, up to its first refused event.
+pub fn run_model(m: Model, script: &[u8]) -> Ran
+    ensures { λ r. ⌜ laws.endedOf r ≡ machine.runModel m (now (script .entry)) ⌝ }
+{
+    let x = m.timing;
+    let mut s = start_state(x);
+    let mut k: usize = 0;
+    let mut at: usize = 0;
+    while at < script.len() {
+        let w = Notation::Script;
+        let n = part_at(w, script, at);
+        let next = at + n;
+        let e = event_of(&script[at..next]);
+        let o = step(m, s, e);
+        let c = o.answer;
+        if !is_none(c) {
+            let h = Holder::Script;
+            return ended(k, c, h, at, next, s);
+        }
+        s = o.state;
+        k += 1;
+        at = next;
+    }
+    let c = Cause::None;
+    let h = Holder::Model;
+    ended(k, c, h, 0, 0, s)
+}

@@ -1,0 +1,23 @@
+use Rattle.rule_writer.specs.SameBytes.{same-as, wrote-updated}
+use borrow.Author.Needs.{needs}
+use Rattle.rule_writer.proofs.put_copy.Statement.{statement}
+use Rattle.rule_writer.proofs.put_copy.Tie as tie
+
+variable-requires : tie.Need-variable-requires
+variable-requires c κs = search needs
+
+unused-requires : tie.Need-unused-requires
+unused-requires c κs = search needs
+
+put-update-requires : tie.Need-put-update-requires
+put-update-requires c κs = search needs
+
+same-length : tie.Need-same-length
+same-length c = search needs
+
+returns : tie.Need-returns
+returns c = wrote-updated (same-as (c .before .before .before .before .before .variable .ensures)) _ _ _ _ (same-as (c .before .before .before .before .unused .ensures)) (c .before .before .put-update .ensures)
+
+pub put-copy-spec : {M : Type 1} → statement M
+put-copy-spec =
+    tie.close (tie.spec variable-requires unused-requires put-update-requires same-length returns)

@@ -1,0 +1,54 @@
+use Prim.Native.Nat.{_≤_, _-_}
+use native.Mathlib.Omega.{arith}
+use Rattle.numbers.specs.Lists.{joinBelow}
+use Rattle.rule_writer.specs.Lists.{WroteUpdates, joins-updates, loop-begins, loop-next}
+use Rattle.thread_rules.specs.Pieces.{portAtDispatch}
+use Rattle.thread_rules.specs.Laws.{same-room, loop-ends}
+use borrow.Author.Needs.{needs}
+use Rattle.thread_rules.proofs.ports.put_dispatch_ports.Statement.{statement}
+use Rattle.thread_rules.proofs.ports.put_dispatch_ports.Tie as tie
+
+abbrev Inv-loop : tie.InvT-loop
+Inv-loop d₀ at m t n p₀ i₀ d p i = (i ≤ n) × (WroteUpdates d₀ at (joinBelow i (portAtDispatch m t)) d p)
+
+abbrev μ-loop : tie.MeasureT-loop
+μ-loop d₀ at m t n p₀ i₀ d p i = n - i
+
+loop-holds : tie.Need-loop-holds Inv-loop μ-loop
+loop-holds c = (omega arith, loop-begins joins-updates _ (c .before .fits .at .fits))
+
+cast-put-dispatch-port : tie.Need-cast-put-dispatch-port Inv-loop μ-loop
+cast-put-dispatch-port c = search needs
+
+put-dispatch-port-requires : tie.Need-put-dispatch-port-requires Inv-loop μ-loop
+put-dispatch-port-requires c κs = search needs
+
+add-i : tie.Need-add-i Inv-loop μ-loop
+add-i c = search needs
+
+loop-less : tie.Need-loop-less Inv-loop μ-loop
+loop-less c = search needs
+
+loop-again : tie.Need-loop-again Inv-loop μ-loop
+loop-again c = (omega arith, loop-next joins-updates _ (portAtDispatch (c .before .before .before .before .before .before .before .args .m) (c .before .before .before .before .before .before .before .args .t)) (c .before .before .before .before .before .before .before .good .0 .0) (c .before .before .before .before .before .loop .inv .1) (c .before .before .put-dispatch-port .ensures))
+
+same-length : tie.Need-same-length Inv-loop μ-loop
+same-length c = same-room (c .before .loop .inv .1)
+
+returns : tie.Need-returns Inv-loop μ-loop
+returns c = loop-ends joins-updates (portAtDispatch (c .before .before .before .args .m) (c .before .before .before .args .t)) (c .before .loop .inv .0) (c .loop-test .left) (c .before .loop .inv .1)
+
+pub put-dispatch-ports-spec : {M : Type 1} → statement M
+put-dispatch-ports-spec =
+    tie.close
+    (tie.spec
+    Inv-loop
+    μ-loop
+    loop-holds
+    cast-put-dispatch-port
+    put-dispatch-port-requires
+    add-i
+    loop-less
+    loop-again
+    same-length
+    returns)

@@ -1,0 +1,104 @@
+-- Laws of writing a table, and of translating.
+use mathlib.Core.Path.{_≡_, refl, sym, _∙_, ap}
+use mathlib.Core.Bool.{Bool, true, false, cond}
+use mathlib.Core.List.{List, [], _∷_, _++_}
+use Prim.Native.Nat.{ℕ, _+_, _≤_, _<_}
+use native.Mathlib.Omega.{arith}
+use borrow.Author.Tests.{lt-ltb, le-ltb, ltb-false}
+use lib.ListN.{getD, length, take, drop}
+use mir.Syntax.{w8}
+use mir.Val.{Fits}
+use lib.Seq.{sets, sets-eq}
+use lib.Dec.{ltb}
+use Rattle.records.specs.declared.Cause.the-variants.{ShortOutput}
+use Rattle.records.specs.Refusals.{numberOf, isNone, inModel, noRefusal}
+use Rattle.model_format.specs.declared.Model.{Model}
+use Rattle.model_format.specs.declared.ModelRead.{ModelRead}
+use Rattle.model_format.specs.Reading.{readModel}
+use Rattle.model_format.specs.WellFormed.{Bytes, WellFormed}
+use Rattle.model_format.specs.Accepted.{accepted-well-formed}
+use Rattle.table_format.specs.Table.{rulesTo, initialTo}
+use Rattle.table_format.specs.BytesLaws.{initial-append}
+use Rattle.writer.specs.Written.{Wrote, records-then}
+use Rattle.rule_writer.specs.Lists.{WroteRules, WroteInitial, Counted}
+use Rattle.translate.specs.declared.Translation.{Translation}
+use Rattle.translate.specs.Rules.{rulesOf}
+use Rattle.translate.specs.Translate.{initialOf, tableFrom, tableBytes, translated, outputAfter}
+use Rattle.translate.specs.TableLength.{table-short}
+use Rattle.simulation.specs.Compared.{Simulates}
+use Rattle.simulation.specs.Simulation.{written-is, simulates}
+
+-- the start records, then the rules
+pub table-wrote : {d e g : List ℕ} {at p q : ℕ} (m : Model) → Counted (length d) → WroteInitial d at (initialOf m) e p → WroteRules e p (rulesOf m) g q → Wrote d at (tableBytes m) g q
+unfolding tableFrom
+table-wrote m h w x = rw (initial-append (initialOf m) [] (rulesTo (rulesOf m))) (records-then (initialTo (initialOf m) []) (rulesTo (rulesOf m)) (omega arith) w x)
+
+pub length-told : {d e : List ℕ} {r : ℕ} (m : Model) → WellFormed m → Wrote d 0 (tableBytes m) e r → r ≡ length (tableBytes m)
+length-told m w x =
+    let e = x .place in
+    let s = table-short m w in
+    omega arith
+
+-- a slice of bytes is a list of bytes
+pub bytes-known : (s : List ℕ) → ((i : ℕ) → Fits w8 (getD s i 0)) → Bytes s
+bytes-known s f i = f i .fits
+
+-- what translating promises: what it tells, the output afterwards, and demand 3 for every event list
+pub record Translates (model out : List ℕ) (result : Translation) (after : List ℕ) : Type 0 where
+  pub told : result ≡ translated model (length out)
+  pub output : after ≡ outputAfter model out
+  pub simulated : (script : List ℕ) → Simulates model script out
+
+-- ---- r is what reading the model gave, b whether it was accepted
+module _ (model out : List ℕ) (r : ModelRead) (b : Bool) (e : r ≡ readModel model) (g : b ≡ isNone (r .refusal .cause)) (bytes : Bytes model) where
+  pub model-refused : b ≡ false → Translates model out (record { refusal = r .refusal; bytes = 0 }) out
+  unfolding translated outputAfter
+  model-refused f = record {
+    told = rw (← e, ← g, f);
+    output = rw (← e, ← g, f, sym g ∙ f);
+    simulated = λ s. simulates model s out bytes;
+  }
+
+  pub model-good : b ≡ true → WellFormed (r .model)
+  model-good f = rw e (accepted-well-formed model bytes (rw (← e) (sym g ∙ f)))
+
+  pub output-short : b ≡ true → (n : ℕ) → n ≡ length (tableBytes (r .model)) → length out < n →
+      Translates model out (record { refusal = inModel ShortOutput (length model) (length model); bytes = 0 }) out
+  unfolding translated outputAfter numberOf
+  output-short f n k l = record {
+    told = rw (← e, ← g, f, ← k, lt-ltb _ n l);
+    output = rw (← e, ← g, f, ← k, lt-ltb _ n l);
+    simulated = λ s. simulates model s out bytes;
+  }
+
+  pub table-made : b ≡ true → (n : ℕ) → n ≡ length (tableBytes (r .model)) → n ≤ length out → (after : List ℕ) (q : ℕ) →
+      Wrote out 0 (tableBytes (r .model)) after q → Translates model out (record { refusal = noRefusal; bytes = n }) after
+  unfolding translated outputAfter numberOf
+  table-made f n k l after q w = record {
+    told = rw (← e, ← g, f, ← k, le-ltb _ n l);
+    output = let z : 0 + n ≡ n = omega arith in w .bytes ∙ sets-eq (tableBytes (r .model)) out 0 (omega arith) ∙ rw (← e, ← g, f, ← k, le-ltb _ n l, z);
+    simulated = λ s. simulates model s out bytes;
+  }
+
+-- ---- what a caller has of it: the bytes that are told lie in the output, and are the table
+never : {A : Type 0} → false ≡ true → A
+never p = let z : _≡_ {A = ℕ} 0 1 = cc in absurd (omega arith)
+
+fits : (model : List ℕ) (n : ℕ) → isNone (translated model n .refusal .cause) ≡ true → translated model n .bytes ≤ n
+unfolding translated numberOf
+fits model n e = go (isNone (readModel model .refusal .cause)) (ltb n (length (tableBytes (readModel model .model)))) refl refl
+  where
+    go : (a b : Bool) → isNone (readModel model .refusal .cause) ≡ a → ltb n (length (tableBytes (readModel model .model))) ≡ b → translated model n .bytes ≤ n
+    go true true f g = never (rw (f, g) at e)
+    go true false f g = rw (f, g) (ltb-false _ _ g)
+    go false b f g = never (sym f ∙ rw f at e)
+
+module _ {model out after : List ℕ} {r : Translation} (t : Translates model out r after) (e : isNone (r .refusal .cause) ≡ true) where
+  pub was-made : isNone (translated model (length out) .refusal .cause) ≡ true
+  was-made = rw (← t .told) e
+
+  pub table-fits : r .bytes ≤ length out
+  table-fits = rw (t .told) (fits model (length out) was-made)
+
+  pub table-is : take (r .bytes) after ≡ tableBytes (readModel model .model)
+  table-is = rw (t .told, t .output) (written-is model out was-made)

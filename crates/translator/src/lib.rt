@@ -1,0 +1,138 @@
+// The translator: from the bytes of a model to the bytes of its table.
+
+ghost use mathlib.Core.Path.{_≡_};
+ghost use lib.ListN.{length};
+ghost use Rattle.records.specs.Refusals.{inModel};
+ghost use Rattle.model_format.specs.WellFormed.{WellFormed};
+ghost use Rattle.writer.specs.Written.{Wrote};
+ghost use Rattle.rule_writer.specs.Lists.{WroteRules};
+ghost use Rattle.translate.specs.Parts.{stamped};
+ghost use Rattle.translate.specs.Rules.{rulesOf};
+ghost use Rattle.translate.specs.Translate.{tableBytes};
+ghost use Rattle.translator.specs.Groups.{countOf, bodiesOf, groupRules};
+ghost use Rattle.translator.specs.Tables.{Translates};
+use model_format::Model;
+use records::Cause;
+use records::Holder;
+use records::Refusal;
+use translate::Translation;
+
+// How many items an event kind has rules for: threads, or mode transitions.
+fn count_of(m: Model, kind: u8) -> usize
+    ensures { λ r. ⌜ r ≡ countOf m kind ⌝ }
+{
+    let x = m.timing;
+    if kind < 8 { x.threads } else { x.switches }
+}
+
+// The rules of an event kind and an item.
+fn put_item(d: &mut [u8], at: usize, m: Model, kind: u8, i: u8) -> usize
+    requires { ⌜ WellFormed m ⌝ }
+    ensures { λ r. ⌜ WroteRules (now (d .entry)) at (stamped kind i (bodiesOf m kind i)) (now (d .exit)) r ⌝ }
+{
+    let x = m.timing;
+    match kind {
+        1 => thread_rules::put_activate(d, at, i),
+        2 => thread_rules::put_deactivate(d, at, i),
+        3 => thread_rules::put_dispatch(d, at, x, i),
+        4 => thread_rules::put_start(d, at, x, i),
+        5 => complete_rules::put_complete(d, at, m, i),
+        6 => thread_rules::put_deadline(d, at, x, i),
+        7 => thread_rules::put_miss(d, at, i),
+        8 => mode_rules::put_request(d, at, x, i),
+        9 => mode_rules::put_enter(d, at, x, i),
+        10 => mode_rules::put_leave(d, at, x, i),
+        _ => at,
+    }
+}
+
+// The rules of an event kind.
+fn put_group(d: &mut [u8], at: usize, m: Model, kind: u8) -> usize
+    requires { ⌜ WellFormed m ⌝ }
+    ensures { λ r. ⌜ WroteRules (now (d .entry)) at (groupRules m kind) (now (d .exit)) r ⌝ }
+{
+    let n = count_of(m, kind);
+    let mut p = at;
+    let mut i = 0;
+    while i < n {
+        p = put_item(d, p, m, kind, i as u8);
+        i += 1;
+    }
+    p
+}
+
+// All rules, by kind.
+fn put_rules(d: &mut [u8], at: usize, m: Model) -> usize
+    requires { ⌜ WellFormed m ⌝ }
+    ensures { λ r. ⌜ WroteRules (now (d .entry)) at (rulesOf m) (now (d .exit)) r ⌝ }
+{
+    let mut p = at;
+    let mut i: u8 = 0;
+    while i < 10 {
+        p = put_group(d, p, m, i + 1);
+        i += 1;
+    }
+    p
+}
+
+fn put_table(d: &mut [u8], m: Model) -> usize
+    requires { ⌜ WellFormed m ⌝ }
+    ensures { λ r. ⌜ Wrote (now (d .entry)) 0 (tableBytes m) (now (d .exit)) r ⌝ }
+{
+    let p = initial_values::put_initial_values(d, 0, m);
+    put_rules(d, p, m)
+}
+
+// The table's length: the same walk, with no room to write.
+fn table_length(m: Model) -> usize
+    requires { ⌜ WellFormed m ⌝ }
+    ensures { λ r. ⌜ r ≡ length (tableBytes m) ⌝ }
+{
+    let mut none = [0u8; 1];
+    put_table(&mut none, m)
+}
+
+fn refused(c: Cause, start: usize, end: usize) -> Refusal
+    ensures { λ r. ⌜ r ≡ inModel c start end ⌝ }
+{
+    let h = Holder::Model;
+    Refusal {
+        cause: c,
+        holder: h,
+        start: start,
+        end: end,
+    }
+}
+
+// The table of an accepted model, at the beginning of the output, where it fits; else the output is as it was.
+pub fn translate(model: &[u8], out: &mut [u8]) -> Translation
+    ensures { λ r. ⌜ Translates (now (model .entry)) (now (out .entry)) r (now (out .exit)) ⌝ }
+{
+    let r = model_reader::read_model(model);
+    let f = r.refusal;
+    let c = f.cause;
+    if !records::is_none(c) {
+        return Translation {
+            refusal: f,
+            bytes: 0,
+        };
+    }
+    let m = r.model;
+    let n = table_length(m);
+    if out.len() < n {
+        let end = model.len();
+        let s = Cause::ShortOutput;
+        let g = refused(s, end, end);
+        return Translation {
+            refusal: g,
+            bytes: 0,
+        };
+    }
+    put_table(out, m);
+    let o = Cause::None;
+    let g = refused(o, 0, 0);
+    Translation {
+        refusal: g,
+        bytes: n,
+    }
+}
