@@ -1,7 +1,6 @@
 -- What a program promises of the bytes that it reads and prints.
-use mathlib.Core.Path.{_≡_}
-use native.Mathlib.Omega.{arith}
-use mathlib.Core.Bool.{true, false}
+use mathlib.Core.Path.{_≡_, refl, sym}
+use mathlib.Core.Bool.{true, false, true≢false}
 use mathlib.Core.List.{List}
 use Prim.Native.Nat.{ℕ}
 use lib.ListN.{take}
@@ -9,16 +8,18 @@ use Rattle.io.specs.Counts.{Counts}
 use Rattle.writer.specs.Written.{Wrote}
 use Rattle.command.specs.declared.Shown.{Shown}
 
--- What is printed is the listing of the bytes that were read: `out` begins with it, and is untouched behind it.
+-- What is printed is the listing of the bytes that were read: `out` begins with it, and is untouched behind it. Where a file could not be
+-- read, nothing is printed and `out` is untouched.
 pub record Shows (listing : List ℕ → List ℕ → List ℕ) (model script before : List ℕ) (r : Shown) (after : List ℕ) : Type 0 where
   pub models : Counts (r .model) model
   pub scripts : Counts (r .script) script
   pub listed : r .good ≡ true → Wrote before 0 (listing (take (r .model) model) (take (r .script) script)) after (r .printed)
+  pub unread : r .good ≡ false → (after ≡ before) × (r .printed ≡ 0)
 
-never : false ≡ true → ⊥
-never p = let z : _≡_ {A = ℕ} 0 1 = cc in omega arith
+module _ {listing : List ℕ → List ℕ → List ℕ} {model script : List ℕ} (r : Shown) (m s : ℕ) (a : Counts m model) (b : Counts s script) where
+  pub shows-nothing : {out : List ℕ} → r ≡ record { model = m; script = s; good = false; printed = 0 } → Shows listing model script out r out
+  shows-nothing e = rw e (record { models = a; scripts = b; listed = λ p. absurd (true≢false (sym p)); unread = λ p. (refl, refl) })
 
--- where a file could not be read, nothing is printed
-pub shows-nothing : {listing : List ℕ → List ℕ → List ℕ} {model script out : List ℕ} (r : Shown) (m s : ℕ) → r ≡ record { model = m; script = s; good = false; printed = 0 } →
-    Counts m model → Counts s script → Shows listing model script out r out
-shows-nothing r m s e a b = rw e (record { models = a; scripts = b; listed = λ p. absurd (never p) })
+  pub shows-listing : {before after : List ℕ} (n : ℕ) → r ≡ record { model = m; script = s; good = true; printed = n } →
+      Wrote before 0 (listing (take m model) (take s script)) after n → Shows listing model script before r after
+  shows-listing n e w = rw e (record { models = a; scripts = b; listed = λ p. w; unread = λ p. absurd (true≢false p) })

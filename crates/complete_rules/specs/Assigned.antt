@@ -20,9 +20,8 @@ use Rattle.table_format.specs.declared.Update.{Update}
 use Rattle.table_format.specs.Variables.{flagVar, bufferVar, outputVar}
 use Rattle.translate.specs.Parts.{constant, variable, Expression, copied, updateWhen, update}
 use Rattle.translate.specs.Rules.{variableOf, operandOf, assignedExpression, assignmentUpdates, sentExpression, sendUpdates}
-use Rattle.rule_writer.specs.Lists.{WroteUpdates, Counted, joins-updates, wrote-none, loop-next}
+use Rattle.rule_writer.specs.Lists.{WroteUpdates, Counted, joins-updates, wrote-none, loop-next, loop-ends}
 use Rattle.complete_rules.specs.declared.updates.Expression as held
-use Rattle.complete_rules.specs.Loops.{loop-ends}
 
 -- an expression as the code holds it
 abbrev pub expressionOf : held.Expression → Expression

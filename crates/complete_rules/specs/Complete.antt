@@ -22,8 +22,7 @@ use Rattle.model.specs.State.{none}
 use Rattle.translate.specs.Parts.{constant, variable, equals, plain, copied, setTo, Body, stamped}
 use Rattle.translate.specs.Rules.{stateIs, endIsNow, jobEnds, guardClauses, perTransition, earlierClause, otherwiseClause, assignmentUpdates, sentExpression, sendUpdates, transitionRule, defaultRule, completeRules}
 use Rattle.writer.specs.Written.{Wrote}
-use Rattle.rule_writer.specs.Lists.{WroteClauses, WroteUpdates, WroteRules, Joins, Counted, joins-clauses, joins-updates, joins-rules, wrote-none, wrote-both, wrote-then, wrote-rule}
-use Rattle.complete_rules.specs.Loops.{loop-ends}
+use Rattle.rule_writer.specs.Lists.{WroteClauses, WroteUpdates, WroteRules, Joins, Counted, joins-clauses, joins-updates, joins-rules, wrote-none, wrote-both, wrote-then, wrote-rule, loop-ends}
 
 -- ---- the parts of a rule, as the definitions have them
 abbrev pub transitionClauses : Behavior → ℕ → ℕ → List (List Atom)

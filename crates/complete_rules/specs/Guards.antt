@@ -19,8 +19,7 @@ use Rattle.table_format.specs.Format.{recordTo}
 use Rattle.writer.specs.Written.{Wrote}
 use Rattle.translate.specs.Parts.{constant, differs, plain, negatedOp}
 use Rattle.translate.specs.Rules.{variableOf, operandOf, atomWith, guardClauses, negatedGuard, perTransition, earlierClause, otherwiseClause}
-use Rattle.rule_writer.specs.Lists.{WroteAtoms, WroteClauses, Counted, joins-atoms, joins-clauses, wrote-none, wrote-both, wrote-clause, loop-next}
-use Rattle.complete_rules.specs.Loops.{loop-ends}
+use Rattle.rule_writer.specs.Lists.{WroteAtoms, WroteClauses, Counted, joins-atoms, joins-clauses, wrote-none, wrote-both, wrote-clause, loop-next, loop-ends}
 use Rattle.complete_rules.specs.Named.{NamedAtom, NamedAtoms}
 
 -- ---- the lists of the loops

@@ -1,5 +1,4 @@
 pub mod Named
-pub mod Loops
 pub mod Operands
 pub mod Guards
 pub mod Assigned

@@ -2,10 +2,7 @@
 -- definition rests on.
 use mathlib.Core.List.{List}
 use Prim.Native.Nat.{ℕ}
-use lib.ListN.{getD}
 use Rattle.numbers.specs.declared.Value.{Value}
-use Rattle.model.specs.declared.State.{State}
-use Rattle.table.specs.declared.Variables.{Variables}
 use Rattle.table_format.specs.Variables.{nowVar, localVar}
 use Rattle.numbers.specs.Lists as lists
 use Rattle.numbers.specs.Multiples as multiples

@@ -5,9 +5,7 @@ use Prim.Native.Nat.{ℕ}
 use Prim.Native.Char.{code}
 use Prim.Native.String as strings
 use Prim.Native.String.{String}
-use lib.ListN.{replicate}
-use lib.IntN.{pos, negsuc}
-use Rattle.numbers.specs.declared.Value.{Value}
+use lib.IntN.{negsuc}
 use Rattle.numbers.specs.Values.{u16To, u32To, value, natural, minus}
 use Rattle.examples.specs.Evaluate.{steps, rules, modelLocal, tableLocal, firstH1, modelAt, tableAt}
 

@@ -1,6 +1,6 @@
 -- What a variable stands for, in the pieces in which it is looked up, and by its 32 bits: a clock figure past the values that 32 bits
 -- stand for is shown by the same bits.
-use mathlib.Core.Path.{_≡_, refl, sym, _∙_, ap}
+use mathlib.Core.Path.{_≡_, refl}
 use mathlib.Core.Bool.{Bool, true, false, cond}
 use mathlib.Core.List.{List}
 use Prim.Native.Nat.{ℕ, zero, suc, _+_, _-_, _<_, _≤_}
@@ -10,8 +10,8 @@ use lib.Dec.{eqb, ltb}
 use lib.ListN.{getD}
 use borrow.Author.Tests.{lt-ltb, le-ltb, le-leb, lt-leb, ne-eqb}
 use mir.Syntax.{w32}
-use mir.Val.{Fits, SFits}
-use mir.ValLaws.{toZ-ofZ, ofZ-toZ}
+use mir.Val.{Fits}
+use mir.ValLaws.{ofZ-toZ}
 use Rattle.numbers.specs.declared.Value.{Value}
 use Rattle.numbers.specs.Lists.{item}
 use Rattle.numbers.specs.Values.{value, natural, signed, bitsOf}
@@ -28,10 +28,6 @@ pub record SameBits (v w : Value) : Type 0 where
 
 pub same-value : {v w : Value} → v ≡ w → SameBits v w
 same-value e = rw e (record { bits = refl })
-
--- which are one where both are values of 32 bits
-pub same-is : (v w : Value) → SFits w32 (v .0) → SFits w32 (w .0) → SameBits v w → v ≡ w
-same-is v w f g s = ap value (sym (toZ-ofZ w32 (v .0) f) ∙ ap signed (s .bits) ∙ toZ-ofZ w32 (w .0) g)
 
 -- v is the value that the code has made of n
 pub count-same : (n : ℕ) (v : Value) → Fits w32 n → v ≡ value (signed n) → SameBits v (natural n)

@@ -1,11 +1,8 @@
 -- The start records of a table, one variable after the other.
-use mathlib.Core.Path.{_≡_, refl, _∙_, ap}
+use mathlib.Core.Path.{_≡_, refl}
 use mathlib.Core.Bool.{Bool, true, false, not}
 use mathlib.Core.List.{List, []}
-use Prim.Native.Nat.{ℕ, _≤_}
-use native.Mathlib.Omega.{arith}
-use lib.ListN.{length}
-use lib.Seq.{length-sets}
+use Prim.Native.Nat.{ℕ}
 use Rattle.numbers.specs.declared.Value.{Value}
 use Rattle.numbers.specs.Lists.{joinBelow, only}
 use Rattle.numbers.specs.Values.{natural, sameValue}
@@ -50,15 +47,6 @@ same-bytes false j v w s = refl
 
 pub start-same : {d e : List ℕ} {at p : ℕ} (j : ℕ) (v w : Value) → SameBits v w → WroteInitial d at (start j v) e p → WroteInitial d at (start j w) e p
 start-same j v w s x = rw (← s .bits, ← same-bytes (not (sameValue v (natural 0))) j v w s) x
-
--- ---- what is written into keeps its length
-pub keeps-length : {d e bs : List ℕ} {at p : ℕ} → Wrote d at bs e p → length e ≡ length d
-keeps-length {d} {e} {bs} {at} {p} w = ap length (w .bytes) ∙ length-sets d at bs
-
--- ---- the loop has come to its end
-pub starts-end : {d e : List ℕ} {at p : ℕ} (m : Timing) (s : State) (j : ℕ) → j ≤ variables → variables ≤ j → WroteInitial d at (startsIn m s j) e p →
-    WroteInitial d at (startsIn m s variables) e p
-starts-end m s j h l w = let z : j ≡ variables = omega arith in rw (← z) w
 
 -- ---- all of them, in the state that a model starts in
 pub initial-wrote : {d e : List ℕ} {at p : ℕ} (m : Model) (s : State) → s ≡ startState (m .timing) → WroteInitial d at (startsIn (m .timing) s variables) e p →

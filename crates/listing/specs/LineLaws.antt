@@ -12,7 +12,7 @@ use Rattle.records.specs.Refusals.{numberOf}
 use Rattle.records.specs.Events.{figureOf}
 use Rattle.listing.specs.declared.Line.{Line}
 use Rattle.listing.specs.Listing.{digitsIn, decimal, space, newline, line, lastLine}
-use Rattle.listing.specs.Lines.{zeros, textOf, Padded, Room, Written}
+use Rattle.listing.specs.Lines.{zeros, textOf, Room, Written}
 
 take-zeros : (k n : ℕ) → k ≤ n → take k (zeros n) ≡ zeros k
 take-zeros zero n h = refl

@@ -1,12 +1,9 @@
 -- The rules of one mode transition, in the parts in which they are written.
-use mathlib.Core.Path.{_≡_, _∙_, ap}
+use mathlib.Core.Path.{_≡_}
 use mathlib.Core.Bool.{Bool}
 use mathlib.Core.List.{List, [], _∷_, _++_}
-use Prim.Native.Nat.{ℕ, _≤_}
-use native.Mathlib.Omega.{arith}
+use Prim.Native.Nat.{ℕ}
 use lib.ListN.{length}
-use lib.Seq.{length-sets}
-use Rattle.numbers.specs.Lists.{joinBelow}
 use Rattle.model_format.specs.declared.Thread.{Thread}
 use Rattle.model_format.specs.declared.Connection.{Connection}
 use Rattle.model_format.specs.declared.ModeTransition.{ModeTransition}
@@ -62,15 +59,6 @@ module _ {d e : List ℕ} {at p v n : ℕ} {b : Bool} (w : WroteUpdates d at (se
   pub flag-wrote : (old new c : ℕ) (x : Connection) → v ≡ flagVar c → x ≡ connectionAt m c → b ≡ inBoth (x .modes) old new →
       WroteUpdates d at (flagUpdate m old new c) e p
   flag-wrote old new c x h i j = rw (← h, ← i, ← j, ← g) w
-
--- ---- what is written into keeps its length
-pub keeps-length : {d e bs : List ℕ} {at p : ℕ} → Wrote d at bs e p → length e ≡ length d
-keeps-length {d} {e} {bs} {at} {p} w = ap length (w .bytes) ∙ length-sets d at bs
-
--- ---- a loop over the n items has come to its end
-pub loop-ends : {d e : List ℕ} {at p : ℕ} (i k n : ℕ) (x : ℕ → List Update) → k ≡ n → i ≤ k → k ≤ i → WroteUpdates d at (joinBelow i x) e p →
-    WroteUpdates d at (joinBelow n x) e p
-loop-ends i k n x e h l w = let z : i ≡ n = omega arith in rw (← z) w
 
 -- ---- each rule from its parts
 abbrev WroteHead : List ℕ → ℕ → ℕ → ℕ → List ℕ → ℕ → Type 0

@@ -4,7 +4,6 @@ ghost use mathlib.Core.Path.{_≡_};
 ghost use mathlib.Core.List.{[], _∷_};
 ghost use Prim.Native.Nat.{_≤_};
 ghost use Rattle.model_format.specs.WellFormed.{GoodTiming};
-ghost use Rattle.model.specs.Effects.{inBoth};
 ghost use Rattle.translate.specs.Shown.{bit};
 ghost use Rattle.translate.specs.Parts.{stamped};
 ghost use Rattle.translate.specs.Rules.{phaseIs, activeUpdates, flagUpdates, requestRules, enterRules, leaveRules};
@@ -40,14 +39,6 @@ fn bit_of(b: bool) -> u32
     if b { 1 } else { 0 }
 }
 
-fn in_both(mask: u8, old: u8, new: u8) -> bool
-    ensures { λ r. ⌜ r ≡ inBoth mask old new ⌝ }
-{
-    let before = model_format::in_mode(mask, old);
-    let after = model_format::in_mode(mask, new);
-    before & after
-}
-
 // ---- Active of one thread, of all
 fn put_active(d: &mut [u8], at: usize, m: Timing, mode: u8, t: u8) -> usize
     ensures { λ r. ⌜ WroteUpdates (now (d .entry)) at (modes.activeUpdate m mode t) (now (d .exit)) r ⌝ }
@@ -76,7 +67,7 @@ fn put_flag(d: &mut [u8], at: usize, m: Timing, old: u8, new: u8, c: u8) -> usiz
     ensures { λ r. ⌜ WroteUpdates (now (d .entry)) at (modes.flagUpdate m old new c) (now (d .exit)) r ⌝ }
 {
     let x = model_format::connection_at(m, c as usize);
-    let n = bit_of(in_both(x.modes, old, new));
+    let n = bit_of(model_effects::in_both(x.modes, old, new));
     put_set(d, at, flag_var(c), n)
 }
 

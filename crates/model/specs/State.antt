@@ -2,7 +2,6 @@
 use mathlib.Core.Bool.{Bool, false}
 use mathlib.Core.List.{List}
 use Prim.Native.Nat.{ℕ}
-use Rattle.numbers.specs.declared.Duration.{Duration}
 use Rattle.numbers.specs.declared.Value.{Value}
 use Rattle.numbers.specs.Lists.{item, store}
 use Rattle.numbers.specs.Values.{duration, natural}

@@ -1,5 +1,5 @@
 -- Laws of the tests, in the forms in which the code has them.
-use mathlib.Core.Path.{_≡_, refl, sym, _∙_, ap}
+use mathlib.Core.Path.{_≡_, refl, sym, _∙_}
 use mathlib.Core.Bool.{Bool, true, false, cond, _&&_, _||_, not}
 use mathlib.Core.List.{List}
 use Prim.Native.Nat.{ℕ, zero, suc, _<_, _≤_}
@@ -7,10 +7,9 @@ use native.Mathlib.Omega.{arith}
 use native.Mathlib.Decide.{ℕ-discrete}
 use lib.Dec.{eqb, ltb, leb}
 use lib.ListN.{getD}
-use borrow.Author.Tests.{lt-ltb, le-ltb, eq-eqb, ne-eqb, not-true, not-false}
+use borrow.Author.Tests.{lt-ltb, le-ltb, ne-eqb, not-true, not-false}
 use Rattle.numbers.specs.Lists.{item, anyBelow}
 use Rattle.numbers.specs.ListLaws.{any-none, any-some}
-use Rattle.numbers.specs.Multiples.{isMultiple}
 use Rattle.model_format.specs.declared.Thread.{Thread}
 use Rattle.model_format.specs.declared.ModeTransition.{ModeTransition}
 use Rattle.model_format.specs.declared.Timing.{Timing}
@@ -20,10 +19,10 @@ use Rattle.model.specs.declared.Threads.{Threads}
 use Rattle.model.specs.declared.State.{State}
 use Rattle.model.specs.declared.Job.{Job}
 use Rattle.model.specs.declared.View.{View}
-use Rattle.model.specs.State.{none, isActive, codeOf, dispatchTime, lengthOf, spentOf, isLive, nowOf}
+use Rattle.model.specs.State.{none, isActive, codeOf, dispatchTime, lengthOf, spentOf, isLive}
 use Rattle.model.specs.Parts.{jobOf}
-use Rattle.model.specs.Tests.{isWaiting, isUnfinished, hasJob, dueOf, isDue, isPeriodic, feeds, canActivate, canDeactivate, awaitsDelayed, canDispatch, runsBeside, comesBeside, awaitsImmediate, startFault, canStart, canComplete, canMeetDeadline, canMiss, canEnter, canLeave, threadBusy, switchBusy, isBusy}
-use Rattle.model.specs.Jobs.{viewOf, activates, deactivates, completes, isDone, dueAt, dueIn, periodicIn, dispatchesAlone, startsAlone, faultOf, meets, misses, mayAct, dueWithJob, besideRuns, besideComes, holdsDispatch, holdsStart, enters, leaves, isCalm}
+use Rattle.model.specs.Tests.{isWaiting, isUnfinished, hasJob, dueOf, isDue, isPeriodic, feeds, canActivate, canDeactivate, awaitsDelayed, canDispatch, runsBeside, comesBeside, awaitsImmediate, startFault, canComplete, canMeetDeadline, canMiss, canEnter, canLeave, threadBusy, switchBusy, isBusy}
+use Rattle.model.specs.Jobs.{viewOf, activates, deactivates, completes, dispatchesAlone, startsAlone, faultOf, meets, misses, mayAct, dueWithJob, besideRuns, besideComes, holdsDispatch, holdsStart, enters, leaves, isCalm}
 
 -- ---- Bools
 pub false-true : {A : Type 0} → false ≡ true → A

@@ -3,7 +3,6 @@
 use model::Clock;
 use model::Ports;
 use model::State;
-use model::Threads;
 use model::behavior_of;
 use model::job_of;
 use model::missed_of;
@@ -465,7 +464,7 @@ pub fn active_in(m: Timing, mode: u8, l: [bool; 16]) -> [bool; 16]
     a
 }
 
-fn in_both(mask: u8, old: u8, new: u8) -> bool
+pub fn in_both(mask: u8, old: u8, new: u8) -> bool
     ensures { λ r. ⌜ r ≡ effects.inBoth mask old new ⌝ }
 {
     let before = in_mode(mask, old);

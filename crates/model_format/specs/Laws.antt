@@ -15,7 +15,6 @@ use Rattle.records.specs.Format.{recordSize}
 use Rattle.records.specs.Events.{lastClock}
 use Rattle.model_format.specs.declared.Thread.{Thread}
 use Rattle.model_format.specs.declared.Timing.{Timing}
-use Rattle.model_format.specs.declared.Model.{Model}
 use Rattle.model_format.specs.declared.Record.the-variants.{Cut, Unknown}
 use Rattle.model_format.specs.Format.{recordOf, recordOfWhole}
 use Rattle.model_format.specs.Model.{threadAt, criticalIn, hyperperiod}

@@ -4,8 +4,6 @@ use mathlib.Core.List.{List, [], _∷_}
 use Prim.Native.Nat.{ℕ, _+_, _*_, _^_, _-_}
 use lib.ListN.{length}
 use lib.Dec.{eqb, ltb, leb}
-use lib.IntN.{ℤ, pos}
-use lib.Signed.{ltZ, leZ}
 use Rattle.numbers.specs.Lists.{store, anyBelow}
 use Rattle.numbers.specs.Values.{duration, bitsOf}
 use Rattle.records.specs.declared.Notation.the-variants as notations

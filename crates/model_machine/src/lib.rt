@@ -4,6 +4,7 @@ mod machine;
 mod start;
 mod tally;
 
+pub use machine::clock_of;
 pub use machine::is_enabled;
 pub use machine::run_model;
 pub use machine::step;

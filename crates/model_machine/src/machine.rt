@@ -31,6 +31,7 @@ use records::is_none;
 use records::part_at;
 ghost use mathlib.Core.Path.{_≡_};
 ghost use Prim.Native.Nat.{_<_};
+ghost use Rattle.model.specs.State.{nowOf};
 ghost use Rattle.model.specs.Effects as effects;
 ghost use Rattle.model.specs.Machine as machine;
 ghost use Rattle.model_machine.specs.Laws as laws;
@@ -173,6 +174,15 @@ fn ended(taken: usize, c: Cause, h: Holder, start: usize, end: usize, s: State) 
         refusal: r,
         state: s,
     }
+}
+
+// The clock that a listing shows.
+pub fn clock_of(s: State) -> u32
+    ensures { λ r. ⌜ r ≡ nowOf s ⌝ }
+{
+    let k = s.clock;
+    let n = k.now;
+    n.0
 }
 
 // The run of a model over a script, up to its first refused event.

@@ -1,6 +1,6 @@
 -- Durations and values: bytes least first, the two readings of 32 bits, sums of VALUEs.
 use mathlib.Core.Bool.{Bool, cond, not}
-use mathlib.Core.List.{List, [], _∷_}
+use mathlib.Core.List.{List, _∷_}
 use Prim.Native.Nat.{ℕ, _+_, _-_, _*_, _/_, _%_, _^_}
 use lib.ListN.{getD}
 use lib.Dec.{eqb, ltb}

@@ -1,14 +1,14 @@
 -- What is left to write. A loop that writes knows: whatever is written from here on, the whole is written.
-use mathlib.Core.Path.{_≡_, refl, _∙_, ap}
+use mathlib.Core.Path.{_≡_, refl, _∙_}
 use mathlib.Core.List.{List, [], _∷_, _++_}
-use Prim.Native.Nat.{ℕ, suc, _+_, _-_, _<_, _≤_}
+use Prim.Native.Nat.{ℕ, _+_, _-_, _<_, _≤_}
 use native.Mathlib.Omega.{arith}
 use native.Mathlib.Numerals.{add-one}
 use lib.ListN.{getD, length, take, drop, length-drop, drop-of-length-le}
-use lib.Seq.{drop-cons, length-sets, take-all}
+use lib.Seq.{drop-cons, take-all}
 use Rattle.listing.specs.declared.Line.{Line}
 use Rattle.listing.specs.Lines.{textOf}
-use Rattle.writer.specs.Written.{Wrote, farthest, and-then, wrote-nothing}
+use Rattle.writer.specs.Written.{Wrote, farthest, keeps-length, and-then, wrote-nothing}
 
 -- d, with the bytes `rest` written at a place, is `start` with the bytes `whole` written at `from`
 pub record Left (start : List ℕ) (from : ℕ) (whole : List ℕ) (d : List ℕ) (at : ℕ) (rest : List ℕ) : Type 0 where
@@ -23,7 +23,7 @@ left-begin d at w h k = record { same = refl; size = h; near = k; then = λ e p 
 module _ {s w d e : List ℕ} {f at p : ℕ} where
   pub left-on : (x y : List ℕ) → Left s f w d at (x ++ y) → Wrote d at x e p → Left s f w e p y
   left-on x y l v = record {
-    same = ap length (v .bytes) ∙ length-sets d at x ∙ l .same;
+    same = keeps-length v ∙ l .same;
     size = l .size;
     near = let e = v .place in omega arith;
     then = λ g q z. l .then g q (and-then x y (rw (l .same) (l .size)) v z);

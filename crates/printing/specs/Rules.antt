@@ -2,19 +2,16 @@
 use mathlib.Core.Path.{_≡_, sym, _∙_}
 use mathlib.Core.Bool.{Bool, true, false}
 use mathlib.Core.List.{List}
-use Prim.Native.Nat.{ℕ, _≤_}
+use Prim.Native.Nat.{ℕ}
 use lib.ListN.{length, take}
 use Rattle.records.specs.Refusals.{isNone}
 use Rattle.translate.specs.declared.Translation.{Translation}
-use Rattle.translator.specs.Tables.{Translates, was-made, table-fits, table-is}
+use Rattle.translator.specs.Tables.{Translates, was-made, table-is}
 use Rattle.listing.specs.Listing.{refusedListing}
 use Rattle.programs.specs.Programs.{room, tableListing, rulesListing}
 use Rattle.writer.specs.Written.{Wrote}
 
 module _ (model out after : List ℕ) (r : Translation) (b : Bool) (size : room ≡ length out) (t : Translates model out r after) (g : b ≡ isNone (r .refusal .cause)) where
-  pub rules-fit : b ≡ true → length after ≡ length out → r .bytes ≤ length after
-  rules-fit e l = rw l (table-fits t (sym g ∙ e))
-
   module _ {d x : List ℕ} {p : ℕ} (script : List ℕ) where
     pub rules-run : b ≡ true → Wrote d 0 (tableListing (take (r .bytes) after) script) x p → Wrote d 0 (rulesListing model script) x p
     unfolding rulesListing

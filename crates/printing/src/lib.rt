@@ -1,7 +1,6 @@
 // The listings of the programs, written into a lent slice.
 
 use listing::Line;
-use model::State;
 use model_format::Model;
 use records::Cause;
 use records::Event;
@@ -9,7 +8,7 @@ use records::Notation;
 ghost use mathlib.Core.Path.{_≡_};
 ghost use Prim.Native.Nat.{_≤_};
 ghost use lib.ListN.{length};
-ghost use Rattle.listing.specs.Listing.{line, lastLine, listing};
+ghost use Rattle.listing.specs.Listing.{line, lastLine, listing, refusedListing};
 ghost use Rattle.listing.specs.Lines.{textOf};
 ghost use Rattle.model.specs.State.{nowOf};
 ghost use Rattle.model.specs.Machine.{startState, machineOf};
@@ -51,16 +50,15 @@ fn put_last(d: &mut [u8], at: usize, taken: u64, c: Cause, clock: u32) -> usize
     put_line(d, at, listing::last_line(taken, c, clock))
 }
 
-fn now_of(s: State) -> u32
-    ensures { λ r. ⌜ r ≡ nowOf s ⌝ }
+// What is printed where no event can be run: the last line alone.
+pub fn refused_listing(d: &mut [u8], c: Cause) -> usize
+    ensures { λ r. ⌜ Wrote (now (d .entry)) 0 (refusedListing c) (now (d .exit)) r ⌝ }
 {
-    let k = s.clock;
-    let n = k.now;
-    n.0
+    put_last(d, 0, 0, c, 0)
 }
 
 // The listing of a model's run, event by event.
-pub fn run_listing(m: Model, script: &[u8], d: &mut [u8]) -> usize
+fn run_listing(m: Model, script: &[u8], d: &mut [u8]) -> usize
     ensures { λ r. ⌜ Wrote (now (d .entry)) 0 (listing (machineOf m) nowOf (startState (m .timing)) (now (script .entry))) (now (d .exit)) r ⌝ }
 {
     let x = m.timing;
@@ -76,16 +74,16 @@ pub fn run_listing(m: Model, script: &[u8], d: &mut [u8]) -> usize
         let a = model_machine::step(m, s, e);
         let c = a.answer;
         if !records::is_none(c) {
-            return put_last(d, at, taken, c, now_of(s));
+            return put_last(d, at, taken, c, model_machine::clock_of(s));
         }
         let t = a.state;
         taken += 1;
-        at = put_event(d, at, taken, now_of(t), e);
+        at = put_event(d, at, taken, model_machine::clock_of(t), e);
         s = t;
         p = q;
     }
     let c = Cause::None;
-    put_last(d, at, taken, c, now_of(s))
+    put_last(d, at, taken, c, model_machine::clock_of(s))
 }
 
 // What `steps` prints: the run of the model that the bytes hold, or the last line alone where the model is refused.
@@ -99,11 +97,11 @@ pub fn steps_listing(model: &[u8], script: &[u8], d: &mut [u8]) -> usize
         let m = r.model;
         return run_listing(m, script, d);
     }
-    put_last(d, 0, 0, c, 0)
+    refused_listing(d, c)
 }
 
 // The listing of a table's run, event by event.
-pub fn run_table_listing(table: &[u8], script: &[u8], d: &mut [u8]) -> usize
+fn run_table_listing(table: &[u8], script: &[u8], d: &mut [u8]) -> usize
     ensures { λ r. ⌜ Wrote (now (d .entry)) 0 (listing (table-machine.machineOf (tableOf (now (table .entry)) .rules)) table-machine.clockOf (table-machine.startVariables (tableOf (now (table .entry)))) (now (script .entry))) (now (d .exit)) r ⌝ }
 {
     let mut s = table::start_variables(table);
@@ -139,7 +137,7 @@ pub fn table_listing(table: &[u8], script: &[u8], d: &mut [u8]) -> usize
     if records::is_none(c) {
         return run_table_listing(table, script, d);
     }
-    put_last(d, 0, 0, c, 0)
+    refused_listing(d, c)
 }
 
 // Room for a table that `rules` makes.
@@ -161,5 +159,5 @@ pub fn rules_listing(model: &[u8], script: &[u8], d: &mut [u8]) -> usize
         let n = r.bytes;
         return table_listing(&table[..n], script, d);
     }
-    put_last(d, 0, 0, c, 0)
+    refused_listing(d, c)
 }

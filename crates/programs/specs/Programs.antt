@@ -2,7 +2,6 @@
 use mathlib.Core.Bool.{cond}
 use mathlib.Core.List.{List}
 use Prim.Native.Nat.{ℕ}
-use lib.ListN.{length}
 use Rattle.records.specs.Refusals.{isNone}
 use Rattle.model_format.specs.Reading.{readModel}
 use Rattle.model.specs.State.{nowOf}

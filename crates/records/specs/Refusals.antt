@@ -1,5 +1,5 @@
 -- The refusals: their numbers, and the part that each hands back.
-use mathlib.Core.Bool.{Bool, cond}
+use mathlib.Core.Bool.{Bool}
 use mathlib.Core.List.{List}
 use Prim.Native.Nat.{ℕ, _-_}
 use lib.ListN.{take, drop}

@@ -1,10 +1,9 @@
 -- Lists of atoms, clauses, updates and rules, written one after the other.
-use mathlib.Core.Path.{_≡_, refl, sym, _∙_, ap}
+use mathlib.Core.Path.{_≡_, refl}
 use mathlib.Core.List.{List, [], _∷_, _++_}
 use Prim.Native.Nat.{ℕ, _+_, _^_, _<_, _≤_}
 use native.Mathlib.Omega.{arith}
 use lib.ListN.{length}
-use lib.Seq.{length-sets}
 use Rattle.numbers.specs.Lists.{joinBelow}
 use Rattle.numbers.specs.ListLaws.{join-next, join-zero}
 use Rattle.table_format.specs.declared.RuleHead.{RuleHead}
@@ -13,10 +12,10 @@ use Rattle.table_format.specs.declared.Update.{Update}
 use Rattle.table_format.specs.declared.InitialValue.{InitialValue}
 use Rattle.table_format.specs.declared.Record.{Record}
 use Rattle.table_format.specs.declared.Record.the-variants.{Head, Clause, Atomic, Change}
-use Rattle.table_format.specs.Format.{recordTo, bytesOf}
+use Rattle.table_format.specs.Format.{recordTo}
 use Rattle.table_format.specs.Table.{Rule, atomsTo, clausesTo, updatesTo, rulesTo, initialTo}
-use Rattle.table_format.specs.BytesLaws.{atoms-append, clauses-append, updates-append, initial-append, rules-append}
-use Rattle.writer.specs.Written.{farthest, Wrote, WroteRecords, records-none, records-one, records-then}
+use Rattle.table_format.specs.BytesLaws.{atoms-append, clauses-append, rules-append}
+use Rattle.writer.specs.Written.{Wrote, WroteRecords, records-none, records-one, records-then, keeps-length}
 
 abbrev pub WroteAtoms : List ℕ → ℕ → List Atom → List ℕ → ℕ → Type 0
 WroteAtoms d at l e p = WroteRecords d at (atomsTo l []) e p
@@ -80,7 +79,7 @@ Counted n = n < 2 ^ 64
 
 -- a slice keeps its length
 kept : {d e : List ℕ} {at p : ℕ} {bs : List ℕ} → Wrote d at bs e p → Counted (length d) → Counted (length e)
-kept {d} {e} {at} {p} {bs} w h = let l : length e ≡ length d = ap length (w .bytes) ∙ length-sets d at bs in omega arith
+kept w h = let l = keeps-length w in omega arith
 
 -- ---- nothing, two lists, and one list more of a loop
 module _ {A : Type 0} {f : List A → List Record} (j : Joins f) where
@@ -102,6 +101,10 @@ module _ {A : Type 0} {f : List A → List Record} (j : Joins f) where
   pub loop-next : {d e g : List ℕ} {at p q : ℕ} (i : ℕ) (x : ℕ → List A) → Counted (length d) →
       WroteRecords d at (f (joinBelow i x)) e p → WroteRecords e p (f (x i)) g q → WroteRecords d at (f (joinBelow (i + 1) x)) g q
   loop-next i x h w v = rw (join-next i x) (wrote-both (joinBelow i x) (x i) h w v)
+
+  -- the loop has reached n
+  pub loop-ends : {d e : List ℕ} {at p : ℕ} (x : ℕ → List A) (n i : ℕ) → i ≤ n → n ≤ i → WroteRecords d at (f (joinBelow i x)) e p → WroteRecords d at (f (joinBelow n x)) e p
+  loop-ends x n i h l w = let q : n ≡ i = omega arith in rw q w
 
 -- ---- one thing
 pub wrote-atom : {d e : List ℕ} {at p : ℕ} (a : Atom) → Wrote d at (recordTo (Atomic a) []) e p → WroteAtoms d at (a ∷ []) e p

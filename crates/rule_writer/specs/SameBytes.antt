@@ -1,9 +1,8 @@
 -- Operands that differ, and whose bytes do not: a constant is written by its 32 bits.
 use mathlib.Core.Path.{_≡_, refl}
 use mathlib.Core.List.{List, [], _∷_}
-use Prim.Native.Nat.{ℕ, _<_, _^_}
+use Prim.Native.Nat.{ℕ, _<_}
 use native.Mathlib.Omega.{arith}
-use lib.IntN.{pos}
 use mir.Syntax.{w32}
 use mir.Val.{Fits}
 use mir.ValLaws.{toZ-pos, ofZ-toZ}

@@ -3,6 +3,6 @@
 fn main() {
     let mut model = io::large_buffer();
     let mut script = io::large_buffer();
-    let mut out = command::listing_buffer();
+    let mut out = command::wide_buffer();
     command::rules_main(&mut model, &mut script, &mut out);
 }

@@ -1,28 +1,26 @@
 -- Each of the eleven events: the model's test is the guard of the rule that fires, and its effect is what the rule's updates do.
-use mathlib.Core.Path.{_≡_, refl, sym, _∙_, ap, subst, fun-ext}
-use mathlib.Core.Bool.{Bool, true, false, cond, not, _&&_, _||_}
-use mathlib.Core.List.{List, [], _∷_}
+use mathlib.Core.Path.{_≡_, refl, sym, _∙_, fun-ext}
+use mathlib.Core.Bool.{Bool, true, false, _&&_}
 use Prim.Native.Nat.{ℕ, _<_}
 use native.Mathlib.Omega.{arith}
-use lib.Dec.{eqb, ltb, leb}
-use borrow.Author.Tests.{ltb-true, eqb-true}
-use Rattle.numbers.specs.declared.Value.{Value}
+use lib.Dec.{ltb, leb}
+use borrow.Author.Tests.{ltb-true}
 use Rattle.records.specs.declared.Event.{Event}
 use Rattle.records.specs.declared.Cause.the-variants.{None, BrokenEvent}
 use Rattle.records.specs.Refusals.{numberOf}
-use Rattle.records.specs.Events.{dispatchKind, isBroken}
+use Rattle.records.specs.Events.{isBroken}
 use Rattle.model_format.specs.declared.Model.{Model}
 use Rattle.model_format.specs.Model.{threadAt}
 use Rattle.model_format.specs.WellFormed.{WellFormed}
 use Rattle.model.specs.declared.State.{State}
-use Rattle.model.specs.State.{codeOf, lengthOf, spentOf, isActive}
-use Rattle.model.specs.Tests.{waitingExecution, execution, canActivate, canDeactivate, canDispatch, canStart, canComplete, canMeetDeadline, canMiss, canEnter, canLeave, isDue}
+use Rattle.model.specs.State.{isActive}
+use Rattle.model.specs.Tests.{canActivate, canDeactivate, canDispatch, canStart, canComplete, canMeetDeadline, canMiss, canEnter, canLeave}
 use Rattle.model.specs.Machine as model-machine
 use Rattle.table.specs.declared.Variables.{Variables}
 use Rattle.table.specs.Machine as table-machine
 use Rattle.translate.specs.Shown.{bit}
-use Rattle.translate.specs.Rules.{rulesOf, activateRules, deactivateRules, dispatchRules, startRules, requestRules, enterRules, leaveRules}
-use Rattle.simulation.specs.Compared.{Dispatched, andAfter}
+use Rattle.translate.specs.Rules.{rulesOf, activateRules, deactivateRules, dispatchRules, startRules, enterRules, leaveRules}
+use Rattle.simulation.specs.Compared.{Dispatched}
 use Rattle.simulation.specs.Match.{Match}
 use Rattle.simulation.specs.Effects.{firstUpdates, after-dispatch}
 use Rattle.simulation.specs.EffectSimple.{activate-does, deactivate-does, request-does}
@@ -31,10 +29,8 @@ use Rattle.simulation.specs.EffectDispatch.{dispatch-does}
 use Rattle.simulation.specs.EffectStart.{start-does}
 use Rattle.simulation.specs.EffectComplete.{complete-does}
 use Rattle.simulation.specs.EffectModes.{enter-does, leave-does}
-use Rattle.simulation.specs.GuardSimple.{requestRule}
 use Rattle.simulation.specs.GuardStart.{mayStart, start-test}
 use Rattle.simulation.specs.GuardComplete.{completeRule}
-use Rattle.simulation.specs.GuardDeadline.{missRule}
 use Rattle.simulation.specs.GuardRules.{activate-rules, deactivate-rules, dispatch-rules, start-rules, complete-rules, request-rules, deadline-rules, miss-rules, enter-rules, leave-rules}
 use Rattle.simulation.specs.Kinds.{model-broken, model-activate, model-deactivate, model-dispatch, model-start, model-complete, model-deadline, model-miss, model-request, model-enter, model-leave, table-broken, table-fires}
 use Rattle.simulation.specs.Step.{After, refused-states, by-rule, by-start, other-does}

@@ -1,16 +1,15 @@
 -- What demand 3 is worth to whoever checks tables: a property of the compared variables holds all along a model's run exactly where it
 -- holds all along its table's.
 use mathlib.Core.Path.{_≡_, refl, sym, _∙_, ap, subst, fun-ext}
-use mathlib.Core.Bool.{Bool, true, false, cond, _&&_, _||_}
+use mathlib.Core.Bool.{Bool, true, false, cond, _&&_}
 use mathlib.Core.List.{List, [], _∷_}
 use mathlib.Core.Logic.{_↔_}
-use Prim.Native.Nat.{ℕ, _+_, _-_, _<_, _≤_}
+use Prim.Native.Nat.{ℕ, _+_, _-_, _<_}
 use native.Mathlib.Omega.{arith}
 use lib.Dec.{eqb, ltb, leb}
 use borrow.Author.Tests.{eqb-true, ltb-true, leb-true}
 use Rattle.numbers.specs.declared.Value.{Value}
 use Rattle.numbers.specs.Values.{natural, sameValue}
-use Rattle.records.specs.declared.Cause.{Cause}
 use Rattle.records.specs.Events.{eventOf}
 use Rattle.records.specs.Run.{Machine}
 use Rattle.model_format.specs.declared.Timing.{Timing}
@@ -28,7 +27,7 @@ use Rattle.table_format.specs.Variables.{variables, stateVar, dueVar, endVar}
 use Rattle.translate.specs.Shown.{inBlock, standsFor}
 use Rattle.translate.specs.Rules.{rulesOf}
 use Rattle.translate.specs.Translate.{tableFrom}
-use Rattle.simulation.specs.Compared.{Dispatched, noneYet, andAfter, isDueOrEnd, Alike}
+use Rattle.simulation.specs.Compared.{Dispatched, noneYet, andAfter, isDueOrEnd}
 use Rattle.simulation.specs.Match.{Match}
 use Rattle.simulation.specs.Stands.{match-alike}
 use Rattle.simulation.specs.StartState.{start-match}

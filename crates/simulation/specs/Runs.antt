@@ -1,5 +1,5 @@
 -- From one event to whole lists: machines that agree on each event go in lockstep, and their runs tell the same.
-use mathlib.Core.Path.{_≡_, refl, sym, _∙_, ap}
+use mathlib.Core.Path.{_≡_, refl, sym, ap}
 use mathlib.Core.Bool.{Bool, true, false, cond}
 use mathlib.Core.List.{List, [], _∷_}
 use Prim.Native.Nat.{ℕ, _+_}
@@ -7,7 +7,7 @@ use lib.ListN.{length}
 use Rattle.numbers.specs.declared.Value.{Value}
 use Rattle.numbers.specs.Values.{bitsOf}
 use Rattle.records.specs.declared.Event.{Event}
-use Rattle.records.specs.Refusals.{isNone, inScript}
+use Rattle.records.specs.Refusals.{isNone}
 use Rattle.records.specs.Events.{eventOf}
 use Rattle.records.specs.Run.{Machine, Ended, runFrom}
 use Rattle.model_format.specs.declared.Timing.{Timing}

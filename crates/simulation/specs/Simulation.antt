@@ -1,26 +1,22 @@
 -- Demand 3: for every accepted model whose table fits and every event list, over the bytes made.
-use mathlib.Core.Path.{_≡_, refl, sym, _∙_, ap, subst}
-use mathlib.Core.Bool.{Bool, true, false, cond}
-use mathlib.Core.List.{List, [], _∷_, _++_}
-use Prim.Native.Nat.{ℕ, _<_}
+use mathlib.Core.Path.{_≡_, refl, sym, _∙_}
+use mathlib.Core.Bool.{Bool, true, false, true≢false}
+use mathlib.Core.List.{List}
+use Prim.Native.Nat.{ℕ}
 use native.Mathlib.Omega.{arith}
 use lib.ListN.{length, take, drop}
 use lib.Seq.{take-append-seam}
 use lib.Dec.{ltb}
-use Rattle.numbers.specs.declared.Value.{Value}
 use Rattle.records.specs.declared.Event.{Event}
 use Rattle.records.specs.declared.Notation.the-variants.{Script}
 use Rattle.records.specs.Format.{parts}
 use Rattle.records.specs.Refusals.{isNone, numberOf}
-use Rattle.records.specs.Events.{isBroken, lastClock}
-use Rattle.records.specs.Run.{Machine}
-use Rattle.model_format.specs.declared.Timing.{Timing}
+use Rattle.records.specs.Events.{isBroken}
 use Rattle.model_format.specs.declared.Model.{Model}
 use Rattle.model_format.specs.Reading.{readModel}
 use Rattle.model_format.specs.WellFormed.{Bytes, WellFormed}
 use Rattle.model_format.specs.Accepted.{accepted-well-formed}
 use Rattle.model.specs.declared.State.{State}
-use Rattle.model.specs.State.{nowOf}
 use Rattle.model.specs.Tests as tests
 use Rattle.model.specs.Effects.{tick}
 use Rattle.model.specs.Machine.{startState, runModel, machineOf as modelMachine}
@@ -32,10 +28,10 @@ use Rattle.table_format.specs.Table.{Table, tableOf}
 use Rattle.translate.specs.Rules.{rulesOf}
 use Rattle.translate.specs.Translate.{tableFrom, tableBytes, translated, outputAfter}
 use Rattle.translate.specs.WellFormed.{translation-back}
-use Rattle.simulation.specs.Compared.{Dispatched, noneYet, andAfter, Alike, Lockstep, Demand3, writtenTable, Simulates}
+use Rattle.simulation.specs.Compared.{Dispatched, noneYet, Lockstep, Demand3, writtenTable, Simulates}
 use Rattle.simulation.specs.Match.{Match}
 use Rattle.simulation.specs.Runs.{Agree, SameEnd, lockstep, same-run}
-use Rattle.simulation.specs.Ticks.{ticks-agree, tickVariables}
+use Rattle.simulation.specs.Ticks.{ticks-agree}
 use Rattle.simulation.specs.Quiet.{busy-same}
 use Rattle.simulation.specs.EffectTick.{tick-match}
 use Rattle.simulation.specs.StartState.{start-match}
@@ -103,17 +99,14 @@ record Translated (model : List ℕ) (room : ℕ) : Type 0 where
   accepted : isNone (readModel model .refusal .cause) ≡ true
   bytes : translated model room .bytes ≡ length (tableBytes (readModel model .model))
 
-never : false ≡ true → ⊥
-never p = let z : _≡_ {A = ℕ} 0 1 = cc in omega arith
-
 was-translated : (model : List ℕ) (room : ℕ) → isNone (translated model room .refusal .cause) ≡ true → Translated model room
 unfolding translated numberOf
 was-translated model room e = go (isNone (readModel model .refusal .cause)) (ltb room (length (tableBytes (readModel model .model)))) refl refl
   where
     go : (a b : Bool) → isNone (readModel model .refusal .cause) ≡ a → ltb room (length (tableBytes (readModel model .model))) ≡ b → Translated model room
-    go true true f g = absurd (never (rw (f, g) at e))
+    go true true f g = absurd (true≢false (sym (rw (f, g) at e)))
     go true false f g = record { accepted = f; bytes = rw (f, g) }
-    go false b f g = absurd (never (sym f ∙ rw f at e))
+    go false b f g = absurd (true≢false (sym (sym f ∙ rw f at e)))
 
 pub written-is : (model out : List ℕ) → isNone (translated model (length out) .refusal .cause) ≡ true → writtenTable model out ≡ tableBytes (readModel model .model)
 unfolding outputAfter

@@ -1,5 +1,5 @@
 -- TICK n on both machines, from one tick: 10 before 11 at each tick, and a refusal gives back the states before all of them.
-use mathlib.Core.Path.{_≡_, refl, sym, _∙_, ap}
+use mathlib.Core.Path.{_≡_, refl, ap}
 use mathlib.Core.Bool.{Bool, true, false, cond}
 use mathlib.Core.List.{List}
 use Prim.Native.Nat.{ℕ, zero, suc, _<_}
@@ -8,7 +8,6 @@ use borrow.Author.Tests.{ltb-true}
 use Rattle.numbers.specs.declared.Value.{Value}
 use Rattle.numbers.specs.Lists.{store}
 use Rattle.numbers.specs.Values.{natural, plus, lessValue}
-use Rattle.records.specs.declared.Cause.the-variants.{None, NotEnabled, LastClock}
 use Rattle.records.specs.Events.{lastClock}
 use Rattle.model_format.specs.declared.Timing.{Timing}
 use Rattle.model.specs.declared.State.{State}

@@ -1,6 +1,6 @@
 -- The walk over the updates of a rule: targets are marked, so that one written twice is seen at once.
 use mathlib.Core.Path.{_≡_, refl, sym, _∙_, ap}
-use mathlib.Core.Bool.{Bool, true, false, cond, _&&_, _||_, not, or-assoc, or-comm, or-false}
+use mathlib.Core.Bool.{Bool, true, false, cond, _&&_, _||_, or-assoc, or-false}
 use mathlib.Core.List.{List, [], _∷_, _++_}
 use Prim.Native.Nat.{ℕ, zero, suc, _+_, _-_, _<_, _≤_}
 use native.Mathlib.Omega.{arith}
@@ -22,7 +22,7 @@ use Rattle.table_format.specs.declared.Record.{Record}
 use Rattle.table_format.specs.declared.Record.the-variants.{Initial, Head, Clause, Atomic, Change, Cut, Unknown}
 use Rattle.table_format.specs.Variables.{variables}
 use Rattle.table_format.specs.Format.{recordOf, records}
-use Rattle.table_format.specs.Table.{Rule, gather}
+use Rattle.table_format.specs.Table.{gather}
 use Rattle.table_format.specs.Laws.{kindOf, records-at, records-end}
 use Rattle.table.specs.declared.Written.{Written}
 use Rattle.table.specs.Rules.{applies, newValue, Write, writes, writtenTo, inconsistent, written}

@@ -10,7 +10,7 @@ use lib.ListN.{getD, set, length, replicate}
 use lib.Seq.{ext-getD, getD-set-same, getD-set-other}
 use borrow.Author.Tests.{lt-ltb, le-ltb}
 use Rattle.numbers.specs.declared.Value.{Value}
-use Rattle.numbers.specs.Lists.{item, store}
+use Rattle.numbers.specs.Lists.{store}
 use Rattle.numbers.specs.Values.{value, natural, signed}
 use Rattle.table_format.specs.Variables.{variables}
 use Rattle.table.specs.Rules.{valueOf}

@@ -10,14 +10,11 @@ use Rattle.numbers.specs.Values.{natural, plus, lessValue, bitsOf}
 use Rattle.records.specs.declared.Cause.{Cause}
 use Rattle.records.specs.declared.Cause.the-variants.{None, BrokenEvent, NotEnabled, LastClock, ConflictingRules, InconsistentUpdates}
 use Rattle.records.specs.declared.Event.{Event}
-use Rattle.records.specs.declared.Refusal.{Refusal}
-use Rattle.records.specs.Refusals.{isNone, noRefusal}
 use Rattle.records.specs.Events.{startKind, requestKind, tickKind, isBroken, lastClock}
 use Rattle.records.specs.Run.{Machine, Ended, Stage, Tally, run, stages, tally}
 use Rattle.table_format.specs.declared.InitialValue.{InitialValue}
 use Rattle.table_format.specs.Variables.{variables, nowVar}
 use Rattle.table_format.specs.Table.{Rule, Table, tableOf}
-use Rattle.table_format.specs.Reading.{readTable}
 use Rattle.table.specs.declared.Variables.{Variables}
 use Rattle.table.specs.declared.Stepped.{Stepped}
 use Rattle.table.specs.Rules.{valueOf, isEnabled, enabledRules, writes, inconsistent, written}

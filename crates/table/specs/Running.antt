@@ -1,18 +1,18 @@
 -- The machine's answers, in the forms that the code has: one event, ticks, the start, a run.
 use mathlib.Core.Path.{_≡_, refl, sym, _∙_, ap}
-use mathlib.Core.Bool.{Bool, true, false, cond, _&&_, _||_, not}
+use mathlib.Core.Bool.{Bool, true, false, _&&_, not}
 use mathlib.Core.List.{List, [], _∷_}
-use Prim.Native.Nat.{ℕ, zero, suc, _+_, _-_, _%_, _^_, _<_, _≤_}
+use Prim.Native.Nat.{ℕ, suc, _+_, _-_, _<_, _≤_}
 use native.Mathlib.Nat.{sub-zero}
 use native.Mathlib.Omega.{arith}
-use lib.ListN.{getD, set, length, drop, replicate}
+use lib.ListN.{length, drop, replicate}
 use lib.ListN as lists
-use lib.Dec.{eqb, leb}
+use lib.Dec.{leb}
 use borrow.Author.Tests.{ne-eqb, not-true, not-false}
 use Rattle.numbers.specs.declared.Value.{Value}
 use Rattle.numbers.specs.Lists.{store, firstBelow}
 use Rattle.numbers.specs.ListLaws.{first-within}
-use Rattle.numbers.specs.Values.{value, signed, natural, plus, lessValue}
+use Rattle.numbers.specs.Values.{value, natural, lessValue}
 use Rattle.records.specs.declared.Notation.the-variants as notations
 use Rattle.records.specs.declared.Cause.the-variants.{BrokenEvent, NotEnabled, LastClock, ConflictingRules, InconsistentUpdates}
 use Rattle.records.specs.declared.Event.{Event}
@@ -23,7 +23,7 @@ use Rattle.table_format.specs.declared.InitialValue.{InitialValue}
 use Rattle.table_format.specs.declared.RuleHead.{RuleHead}
 use Rattle.table_format.specs.declared.Record.{Record}
 use Rattle.table_format.specs.declared.Record.the-variants.{Initial, Head, Clause, Atomic, Change, Cut, Unknown}
-use Rattle.table_format.specs.Variables.{variables, nowVar}
+use Rattle.table_format.specs.Variables.{variables}
 use Rattle.table_format.specs.Format.{recordOf, records}
 use Rattle.table_format.specs.Table.{Rule, gather, tableOf}
 use Rattle.table_format.specs.Laws.{kindOf, records-at, records-end}
@@ -33,9 +33,9 @@ use Rattle.table.specs.declared.Ran.{Ran}
 use Rattle.table.specs.declared.Tallied.{Tallied}
 use Rattle.table.specs.declared.Found.{Found}
 use Rattle.table.specs.declared.Written.{Written}
-use Rattle.table.specs.Rules.{enabledRules, writes, inconsistent, written}
+use Rattle.table.specs.Rules.{enabledRules}
 use Rattle.table.specs.Machine.{begun, startVariables, refuse, take, allowsLength, fire, isBusy, now, ticks, step}
-use Rattle.table.specs.Bits.{values, values-set, value-within, values-zero}
+use Rattle.table.specs.Bits.{values, values-zero}
 use Rattle.table.specs.Ticking.{oneTick, later, first-before, first-at}
 use Rattle.table.specs.Enabled.{ruleAt, Choice, none, one, several, choice, rulesFound}
 use Rattle.table.specs.Applied.{writesFrom, Result, headAllows}

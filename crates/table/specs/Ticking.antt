@@ -1,6 +1,6 @@
 -- TICK without a walk over the table at each tick: only the clock changes, so each rule tells by itself when it stops the ticks.
 use mathlib.Core.Path.{_≡_, refl, sym, _∙_, ap}
-use mathlib.Core.Bool.{Bool, true, false, cond, _&&_, _||_, not, or-false}
+use mathlib.Core.Bool.{Bool, true, false, cond, _&&_, _||_}
 use mathlib.Core.List.{List, [], _∷_}
 use Prim.Native.Nat.{ℕ, zero, suc, _+_, _-_, _<_, _≤_}
 use native.Mathlib.Omega.{arith}
@@ -23,7 +23,7 @@ use Rattle.table_format.specs.declared.Record.{Record}
 use Rattle.table_format.specs.declared.Record.the-variants.{Head}
 use Rattle.table_format.specs.Variables.{variables, nowVar}
 use Rattle.table_format.specs.Format.{recordOf, records}
-use Rattle.table_format.specs.Table.{Rule, gather, tableOf}
+use Rattle.table_format.specs.Table.{gather, tableOf}
 use Rattle.table_format.specs.Laws.{kindOf, records-at, records-end}
 use Rattle.table.specs.Rules.{valueOf, operandValue, holds, clauseHolds, allHold}
 use Rattle.table.specs.Machine.{isBusy, now}

@@ -1,11 +1,11 @@
 -- Laws of the definitions, one for each way in which the code returns.
 use mathlib.Core.Path.{_≡_, refl, sym, _∙_, ap}
-use mathlib.Core.Bool.{Bool, true, false, cond, _&&_, _||_}
+use mathlib.Core.Bool.{Bool, true, false, cond, _&&_}
 use mathlib.Core.List.{List, [], _∷_}
 use Prim.Native.Nat.{ℕ, _+_, _-_, _<_, _≤_}
 use native.Mathlib.Omega.{arith}
 use lib.ListN.{getD, length, take, drop}
-use lib.Dec.{eqb, ltb, leb}
+use lib.Dec.{eqb, ltb}
 use lib.IntN.{pos}
 use lib.Signed.{ltZ}
 use borrow.Author.Tests.{ne-eqb, lt-ltb, le-ltb, eqb-true, eqb-false}
@@ -14,8 +14,7 @@ use Rattle.numbers.specs.Values.{u16At, u32At, valueAt}
 use Rattle.records.specs.declared.Notation.the-variants as notations
 use Rattle.records.specs.declared.Operand.{Operand}
 use Rattle.records.specs.declared.Cause.{Cause}
-use Rattle.records.specs.declared.Cause.the-variants.{None, TooMany}
-use Rattle.records.specs.declared.Refusal.{Refusal}
+use Rattle.records.specs.declared.Cause.the-variants.{TooMany}
 use Rattle.records.specs.Format.{recordSize, partLengthAt, parts, operandAt}
 use Rattle.records.specs.Refusals.{isNone, inModel, noRefusal}
 use Rattle.records.specs.Walk.{parts-at, parts-end, part-size}

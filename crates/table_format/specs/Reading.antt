@@ -6,7 +6,6 @@ use lib.ListN.{length}
 use lib.Dec.{eqb, ltb, leb}
 use lib.IntN.{ℤ, pos}
 use lib.Signed.{ltZ, leZ}
-use Rattle.numbers.specs.declared.Value.{Value}
 use Rattle.records.specs.declared.Notation.the-variants as notations
 use Rattle.records.specs.declared.Operand.{Operand}
 use Rattle.records.specs.declared.Cause.{Cause}

@@ -1,13 +1,10 @@
 -- Laws of what is written: under the names of a definition, where a test passes, over a loop, as a rule.
-use mathlib.Core.Path.{_≡_, _∙_, ap}
+use mathlib.Core.Path.{_≡_}
 use mathlib.Core.Bool.{Bool, true, false, cond, _&&_}
 use mathlib.Core.List.{List, [], _∷_}
-use Prim.Native.Nat.{ℕ, _≤_}
-use native.Mathlib.Omega.{arith}
+use Prim.Native.Nat.{ℕ}
 use lib.Dec.{eqb}
 use lib.ListN.{length}
-use lib.Seq.{length-sets}
-use Rattle.numbers.specs.Lists.{joinBelow}
 use Rattle.numbers.specs.Values.{natural}
 use Rattle.records.specs.declared.Operand.{Operand}
 use Rattle.table_format.specs.declared.Record.{Record}
@@ -16,10 +13,6 @@ use Rattle.table_format.specs.Format.{recordTo}
 use Rattle.writer.specs.Written.{Wrote, WroteRecords}
 use Rattle.rule_writer.specs.Lists.{WroteAtoms, WroteClauses, WroteUpdates, WroteRules, Joins, joins-rules, Counted, wrote-none, wrote-then, wrote-rule}
 use Rattle.translate.specs.Parts.{Body, stamped}
-
--- a slice keeps its length
-pub same-room : {d e : List ℕ} {at p : ℕ} {bs : List ℕ} → Wrote d at bs e p → length e ≡ length d
-same-room {d} {e} {at} {p} {bs} w = ap length (w .bytes) ∙ length-sets d at bs
 
 -- ---- a variable by its number: j is what the code has computed, k what the definition names
 pub same-variable : {j k : ℕ} → j ≡ k → _≡_ {A = Operand} (record { tag = 1; value = natural j }) (record { tag = 1; value = natural k })
@@ -59,10 +52,6 @@ module _ {A : Type 0} {f : List A → List Record} (j : Joins f) where
 
     pub where-not-joined : (here && eqb u t) ≡ false → Counted at → WroteRecords d at (f (cond (is && eqb z t) l [])) d at
     where-not-joined b n = where-failed l (rw (h, k) at b) n
-
-  -- a loop that has come to its end
-  pub loop-ends : {d e : List ℕ} {at p i n : ℕ} (x : ℕ → List A) → i ≤ n → n ≤ i → WroteRecords d at (f (joinBelow i x)) e p → WroteRecords d at (f (joinBelow n x)) e p
-  loop-ends {i = i} {n} x h k w = let q : i ≡ n = omega arith in rw q at w
 
 -- ---- rules of one kind and id
 pub wrote-body : {d e g k : List ℕ} {at p q r : ℕ} (kind id : ℕ) (b : Body) → Counted (length d) →

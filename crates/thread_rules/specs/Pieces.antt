@@ -10,9 +10,9 @@ use Rattle.model.specs.State.{none}
 use Rattle.model.specs.Tests.{waitingMode, waitingDispatch, waitingExecution, execution, completed}
 use Rattle.table_format.specs.declared.Atom.{Atom}
 use Rattle.table_format.specs.declared.Update.{Update}
-use Rattle.table_format.specs.Variables.{nowVar, cpuVar, activeVar, stateVar, dispatchVar, dueVar, endVar, flagVar, bufferVar, outputVar}
+use Rattle.table_format.specs.Variables.{nowVar, activeVar, stateVar, dispatchVar, dueVar, endVar, flagVar, bufferVar, outputVar}
 use Rattle.translate.specs.Parts.{constant, variable, chosenLength, equals, differs, isBelow, isAtLeast, multipleOf, noMultipleOf, plain, copied, sumOf, updateWhen, update, setTo}
-use Rattle.translate.specs.Rules.{stateIs, activeIs, delayedClause, besideClause, comingClause, dispatchPort, startPort}
+use Rattle.translate.specs.Rules.{cpuVarFor, stateIs, activeIs, delayedClause, besideClause, comingClause, dispatchPort, startPort}
 
 -- ---- connection c from thread u
 abbrev pub delayedFrom : ℕ → ℕ → List Atom
@@ -73,8 +73,8 @@ dispatchUpdates m t =
 
 abbrev pub startClauses : Timing → ℕ → List (List Atom)
 startClauses m t =
-    stateIs t waitingExecution ∷ plain (equals cpuVar (constant none)) ∷ plain (differs (dueVar t) (variable nowVar)) ∷ immediateWaits m t
+    stateIs t waitingExecution ∷ plain (equals (cpuVarFor t) (constant none)) ∷ plain (differs (dueVar t) (variable nowVar)) ∷ immediateWaits m t
 
 abbrev pub startUpdates : Timing → ℕ → List Update
 startUpdates m t =
-    setTo (stateVar t) execution ∷ setTo cpuVar t ∷ update (endVar t) (sumOf (variable nowVar) chosenLength) ∷ portsAtStart m t
+    setTo (stateVar t) execution ∷ setTo (cpuVarFor t) t ∷ update (endVar t) (sumOf (variable nowVar) chosenLength) ∷ portsAtStart m t

@@ -14,7 +14,7 @@ use rule_writer::state_var;
 ghost use mathlib.Core.List.{[], _∷_};
 ghost use Rattle.table_format.specs.Variables.{stateVar};
 ghost use Rattle.translate.specs.Parts.{setTo};
-ghost use Rattle.translate.specs.Rules.{stateIs, activeIs, dueIsNow, endIsNow, jobEnds, missUpdates};
+ghost use Rattle.translate.specs.Rules.{stateIs, activeIs, dueIsNow, jobEnds, missUpdates};
 ghost use Rattle.rule_writer.specs.Lists.{WroteClauses, WroteUpdates};
 
 pub fn put_state_is(d: &mut [u8], at: usize, t: u8, code: u32) -> usize
@@ -35,13 +35,6 @@ pub fn put_due_is_now(d: &mut [u8], at: usize, t: u8) -> usize
     ensures { λ r. ⌜ WroteClauses (now (d .entry)) at (dueIsNow t ∷ []) (now (d .exit)) r ⌝ }
 {
     let j = due_var(t);
-    put_relation(d, at, 0, j, NOW)
-}
-
-pub fn put_end_is_now(d: &mut [u8], at: usize, t: u8) -> usize
-    ensures { λ r. ⌜ WroteClauses (now (d .entry)) at (endIsNow t ∷ []) (now (d .exit)) r ⌝ }
-{
-    let j = end_var(t);
     put_relation(d, at, 0, j, NOW)
 }
 

@@ -1,5 +1,5 @@
 -- Parts of rules: operands, atoms, updates, and the rules of an event kind.
-use mathlib.Core.Bool.{Bool, cond}
+use mathlib.Core.Bool.{cond}
 use mathlib.Core.List.{List, [], _∷_, _++_}
 use Prim.Native.Nat.{ℕ}
 use lib.Dec.{eqb}

@@ -1,18 +1,15 @@
 -- The rules of each event kind, by its number, and laws of writing them.
-use mathlib.Core.Path.{_≡_, refl, sym, _∙_, ap}
+use mathlib.Core.Path.{_≡_, refl, _∙_}
 use mathlib.Core.Bool.{Bool, true, false, cond}
-use mathlib.Core.List.{List, [], _∷_, _++_, append-assoc, append-nil}
-use Prim.Native.Nat.{ℕ, _+_, _≤_, _<_}
-use native.Mathlib.Omega.{arith}
+use mathlib.Core.List.{List, [], _++_, append-assoc, append-nil}
+use Prim.Native.Nat.{ℕ, _+_, _≤_}
 use lib.ListN.{length}
-use lib.Seq.{length-sets}
 use lib.Dec.{eqb, ltb}
 use Rattle.numbers.specs.Lists.{joinBelow}
 use Rattle.model_format.specs.declared.Model.{Model}
 use Rattle.model_format.specs.WellFormed.{WellFormed}
-use Rattle.table_format.specs.Format.{bytesOf}
-use Rattle.table_format.specs.Table.{Rule, rulesTo}
-use Rattle.writer.specs.Written.{Wrote}
+use Rattle.table_format.specs.Table.{Rule}
+use Rattle.writer.specs.Written.{keeps-length}
 use Rattle.rule_writer.specs.Lists.{WroteRules, Counted, joins-rules, wrote-none, loop-begins, loop-next}
 use Rattle.translate.specs.Parts.{Body, stamped, rulesOfGroups}
 use Rattle.translate.specs.Rules.{activateRules, deactivateRules, dispatchRules, startRules, completeRules, deadlineRules, missRules, requestRules, enterRules, leaveRules, groupsOf, rulesOf}
@@ -62,7 +59,7 @@ module _ (x : ℕ → List Rule) where
     pub loop-on : {e : List ℕ} {q : ℕ} → WroteRules d p (x i) e q → Looping x start at e q (i + 1)
     loop-on w = record {
       size = g .size;
-      same = ap length (w .bytes) ∙ length-sets d p (bytesOf (rulesTo (x i))) ∙ g .same;
+      same = keeps-length w ∙ g .same;
       written = loop-next joins-rules i x (g .size) (g .written) w;
     }
 

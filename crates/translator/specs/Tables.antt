@@ -1,11 +1,11 @@
 -- Laws of writing a table, and of translating.
-use mathlib.Core.Path.{_≡_, refl, sym, _∙_, ap}
-use mathlib.Core.Bool.{Bool, true, false, cond}
-use mathlib.Core.List.{List, [], _∷_, _++_}
+use mathlib.Core.Path.{_≡_, refl, sym, _∙_}
+use mathlib.Core.Bool.{Bool, true, false, true≢false}
+use mathlib.Core.List.{List, []}
 use Prim.Native.Nat.{ℕ, _+_, _≤_, _<_}
 use native.Mathlib.Omega.{arith}
 use borrow.Author.Tests.{lt-ltb, le-ltb, ltb-false}
-use lib.ListN.{getD, length, take, drop}
+use lib.ListN.{getD, length, take}
 use mir.Syntax.{w8}
 use mir.Val.{Fits}
 use lib.Seq.{sets, sets-eq}
@@ -81,17 +81,14 @@ module _ (model out : List ℕ) (r : ModelRead) (b : Bool) (e : r ≡ readModel 
   }
 
 -- ---- what a caller has of it: the bytes that are told lie in the output, and are the table
-never : {A : Type 0} → false ≡ true → A
-never p = let z : _≡_ {A = ℕ} 0 1 = cc in absurd (omega arith)
-
 fits : (model : List ℕ) (n : ℕ) → isNone (translated model n .refusal .cause) ≡ true → translated model n .bytes ≤ n
 unfolding translated numberOf
 fits model n e = go (isNone (readModel model .refusal .cause)) (ltb n (length (tableBytes (readModel model .model)))) refl refl
   where
     go : (a b : Bool) → isNone (readModel model .refusal .cause) ≡ a → ltb n (length (tableBytes (readModel model .model))) ≡ b → translated model n .bytes ≤ n
-    go true true f g = never (rw (f, g) at e)
+    go true true f g = absurd (true≢false (sym (rw (f, g) at e)))
     go true false f g = rw (f, g) (ltb-false _ _ g)
-    go false b f g = never (sym f ∙ rw f at e)
+    go false b f g = absurd (true≢false (sym (sym f ∙ rw f at e)))
 
 module _ {model out after : List ℕ} {r : Translation} (t : Translates model out r after) (e : isNone (r .refusal .cause) ≡ true) where
   pub was-made : isNone (translated model (length out) .refusal .cause) ≡ true
@@ -102,3 +99,8 @@ module _ {model out after : List ℕ} {r : Translation} (t : Translates model ou
 
   pub table-is : take (r .bytes) after ≡ tableBytes (readModel model .model)
   table-is = rw (t .told, t .output) (written-is model out was-made)
+
+-- the same with b for what the code has computed, of the output as it is afterwards
+pub bytes-within : (model out after : List ℕ) (r : Translation) (b : Bool) → Translates model out r after → b ≡ isNone (r .refusal .cause) → b ≡ true → length after ≡ length out →
+    r .bytes ≤ length after
+bytes-within model out after r b t g e l = rw l (table-fits t (sym g ∙ e))

@@ -75,6 +75,7 @@ fn put_rules(d: &mut [u8], at: usize, m: Model) -> usize
     p
 }
 
+// The whole table from the slice's start, as far as the slice goes: the start records, then the rules.
 fn put_table(d: &mut [u8], m: Model) -> usize
     requires { ⌜ WellFormed m ⌝ }
     ensures { λ r. ⌜ Wrote (now (d .entry)) 0 (tableBytes m) (now (d .exit)) r ⌝ }
@@ -83,7 +84,7 @@ fn put_table(d: &mut [u8], m: Model) -> usize
     put_rules(d, p, m)
 }
 
-// The table's length: the same walk, with no room to write.
+// The table's length: the same walk over one byte of its own, past which it counts and does not write.
 fn table_length(m: Model) -> usize
     requires { ⌜ WellFormed m ⌝ }
     ensures { λ r. ⌜ r ≡ length (tableBytes m) ⌝ }

@@ -2,11 +2,11 @@
 -- tells how long a table is and writes it.
 use mathlib.Core.Path.{_≡_, refl, sym, _∙_, ap}
 use mathlib.Core.List.{List, [], _∷_, _++_, append-assoc}
-use Prim.Native.Nat.{ℕ, zero, suc, _+_, _-_, _≤_, _<_, min}
+use Prim.Native.Nat.{ℕ, suc, _+_, _-_, _≤_, min}
 use native.Mathlib.Nat.{add-zero, add-suc, suc-add}
 use native.Mathlib.Omega.{arith}
 use native.Mathlib.Decide.{decLe}
-use lib.ListN.{length, set, length-append, length-set}
+use lib.ListN.{length, set, length-append}
 use lib.Seq.{sets, length-sets, set-out}
 use Rattle.table_format.specs.declared.Record.{Record}
 use Rattle.table_format.specs.declared.Record.the-variants.{Initial, Head, Clause, Atomic, Change, Cut, Unknown}
@@ -22,7 +22,7 @@ pub record Wrote (before : List ℕ) (at : ℕ) (bs : List ℕ) (after : List �
   pub place : next ≡ min (at + length bs) farthest
 
 -- ---- one after the other
-sets-append : (l a b : List ℕ) (i : ℕ) → sets l i (a ++ b) ≡ sets (sets l i a) (i + length a) b
+pub sets-append : {A : Type 0} (l a b : List A) (i : ℕ) → sets l i (a ++ b) ≡ sets (sets l i a) (i + length a) b
 sets-append l [] b i = ap (λ (k : ℕ). sets l k b) (sym (add-zero i))
 sets-append l (x ∷ a) b i = sets-append (set l i x) a b (suc i) ∙ ap (λ (k : ℕ). sets (sets l i (x ∷ a)) k b) (suc-add i (length a) ∙ sym (add-suc i (length a)))
 
@@ -35,6 +35,10 @@ sets-past (x ∷ bs) l i h =
 pub wrote-nothing : (d : List ℕ) (at : ℕ) → at ≤ farthest → Wrote d at [] d at
 wrote-nothing d at h = record { bytes = refl; place = omega arith }
 
+-- a slice that is written keeps its length
+pub keeps-length : {d e bs : List ℕ} {at p : ℕ} → Wrote d at bs e p → length e ≡ length d
+keeps-length {d} {e} {bs} {at} {p} w = ap length (w .bytes) ∙ length-sets d at bs
+
 pub and-then : {d e f : List ℕ} {at p q : ℕ} (a b : List ℕ) → length d ≤ farthest → Wrote d at a e p → Wrote e p b f q → Wrote d at (a ++ b) f q
 and-then {d} {e} {f} {at} {p} {q} a b h w x = record { bytes = x .bytes ∙ go (decLe (at + length a) farthest); place = place }
   where
@@ -46,7 +50,7 @@ and-then {d} {e} {f} {at} {p} {q} a b h w x = record { bytes = x .bytes ∙ go (
         omega arith
 
     size : length e ≡ length d
-    size = ap length (w .bytes) ∙ length-sets d at a
+    size = keeps-length w
 
     go : Dec (at + length a ≤ farthest) → sets e p b ≡ sets d at (a ++ b)
     go (yes k) =

@@ -1,13 +1,16 @@
-use Rattle.command.specs.Shows.{shows-nothing}
+use Rattle.command.specs.Shows.{shows-nothing, shows-listing}
 use borrow.Author.Needs.{needs}
 use Rattle.command.proofs.rules_main.Statement.{statement}
 use Rattle.command.proofs.rules_main.Tie as tie
 
+slice-aggregate-read-inputs : tie.Need-slice-aggregate-read-inputs
+slice-aggregate-read-inputs c = search needs
+
 read-inputs-requires : tie.Need-read-inputs-requires
 read-inputs-requires c κs = search needs
 
-nothing-requires : tie.Need-nothing-requires
-nothing-requires c κs = search needs
+outcome-requires : tie.Need-outcome-requires
+outcome-requires c κs = search needs
 
 same-length : tie.Need-same-length
 same-length c = search needs
@@ -16,7 +19,7 @@ same-length-2 : tie.Need-same-length-2
 same-length-2 c = search needs
 
 returns : tie.Need-returns
-returns c = shows-nothing _ _ _ (c .nothing .ensures) (c .before .before .before .before .before .before .before .read-inputs .ensures .0) (c .before .before .before .before .before .before .before .read-inputs .ensures .1)
+returns c = shows-nothing _ _ _ (c .before .before .before .before .before .before .before .read-inputs .ensures .0) (c .before .before .before .before .before .before .before .read-inputs .ensures .1) (c .outcome .ensures)
 
 slice-reshare-prefix-rules-listing : tie.Need-slice-reshare-prefix-rules-listing
 slice-reshare-prefix-rules-listing c = search needs
@@ -36,6 +39,9 @@ rules-listing-requires c κs = search needs
 print-start-requires : tie.Need-print-start-requires
 print-start-requires c κs = search needs
 
+outcome-requires-2 : tie.Need-outcome-requires-2
+outcome-requires-2 c κs = search needs
+
 same-length-3 : tie.Need-same-length-3
 same-length-3 c = search needs
 
@@ -46,14 +52,15 @@ same-length-5 : tie.Need-same-length-5
 same-length-5 c = search needs
 
 returns-2 : tie.Need-returns-2
-returns-2 c = search needs
+returns-2 c = shows-listing _ _ _ (c .before .before .before .before .before .before .before .before .before .before .before .before .before .before .before .read-inputs .ensures .0) (c .before .before .before .before .before .before .before .before .before .before .before .before .before .before .before .read-inputs .ensures .1) _ (c .outcome2 .ensures) (c .before .before .before .before .before .rules-listing .ensures)
 
 pub rules-main-spec : {M : Type 1} → statement M
 rules-main-spec =
     tie.close
     (tie.spec
+    slice-aggregate-read-inputs
     read-inputs-requires
-    nothing-requires
+    outcome-requires
     same-length
     same-length-2
     returns
@@ -63,6 +70,7 @@ rules-main-spec =
     slice-aggregate-rules-listing-2
     rules-listing-requires
     print-start-requires
+    outcome-requires-2
     same-length-3
     same-length-4
     same-length-5

@@ -1,9 +1,9 @@
+use Rattle.writer.specs.Written.{keeps-length}
 use Prim.Native.Nat.{_≤_, _-_}
 use native.Mathlib.Omega.{arith}
 use Rattle.numbers.specs.Lists.{joinBelow}
 use Rattle.translate.specs.Parts.{stamped}
 use Rattle.rule_writer.specs.Lists.{WroteRules, loop-begins, loop-next}
-use Rattle.complete_rules.specs.Loops.{same-size}
 use Rattle.complete_rules.specs.Complete.{rulesAt, joins-stamped, complete-end}
 use borrow.Author.Needs.{needs}
 use Rattle.complete_rules.proofs.put_complete.Statement.{statement}
@@ -34,7 +34,7 @@ put-default-rule-requires : tie.Need-put-default-rule-requires Inv-loop μ-loop
 put-default-rule-requires c κs = c .before .before .before .before .before .pre
 
 same-length : tie.Need-same-length Inv-loop μ-loop
-same-length c = let h = same-size (c .before .before .before .before .before .loop .inv .1) in search needs
+same-length c = let h = keeps-length (c .before .before .before .before .before .loop .inv .1) in search needs
 
 returns : tie.Need-returns Inv-loop μ-loop
 returns c = complete-end _ _ _ (c .before .before .before .before .before .before .before .before .good .0 .0) (c .before .before .before .before .before .loop .inv .1) (c .before .before .before .before .before .loop .inv .0) (c .before .before .before .before .loop-test .left) (c .before .before .put-default-rule .ensures)

@@ -1,5 +1,6 @@
-use Rattle.initial_values.specs.Starts.{startsIn, start-same, starts-end, keeps-length}
-use Rattle.rule_writer.specs.Lists.{WroteInitial, joins-initial, loop-begins, loop-next}
+use Rattle.initial_values.specs.Starts.{startsIn, start-same}
+use Rattle.rule_writer.specs.Lists.{WroteInitial, joins-initial, loop-begins, loop-next, loop-ends}
+use Rattle.writer.specs.Written.{keeps-length}
 use native.Mathlib.Omega.{arith}
 use Prim.Native.Nat.{_≤_, _-_}
 use borrow.Author.Needs.{needs}
@@ -34,7 +35,7 @@ same-length : tie.Need-same-length Inv-loop μ-loop
 same-length c = keeps-length (c .before .loop .inv .1)
 
 returns : tie.Need-returns Inv-loop μ-loop
-returns c = starts-end _ _ _ (c .before .loop .inv .0) (c .loop-test .left) (c .before .loop .inv .1)
+returns c = loop-ends joins-initial _ _ _ (c .before .loop .inv .0) (c .loop-test .left) (c .before .loop .inv .1)
 
 pub put-starts-spec : {M : Type 1} → statement M
 put-starts-spec =

@@ -1,4 +1,3 @@
-use mathlib.Core.Path.{refl}
 use borrow.Author.Needs.{needs}
 use Rattle.listing.specs.Lines.{textOf}
 use Rattle.listing.proofs.empty_line.Statement.{statement}

@@ -1,5 +1,6 @@
-use Rattle.mode_rules.specs.Modes.{activeUpdate, keeps-length, loop-ends}
-use Rattle.rule_writer.specs.Lists.{WroteUpdates, joins-updates, loop-begins, loop-next}
+use Rattle.mode_rules.specs.Modes.{activeUpdate}
+use Rattle.writer.specs.Written.{keeps-length}
+use Rattle.rule_writer.specs.Lists.{WroteUpdates, joins-updates, loop-begins, loop-next, loop-ends}
 use Rattle.numbers.specs.Lists.{joinBelow}
 use native.Mathlib.Omega.{arith}
 use Prim.Native.Nat.{_≤_, _-_}
@@ -35,7 +36,7 @@ same-length : tie.Need-same-length Inv-loop μ-loop
 same-length c = keeps-length (c .before .loop .inv .1)
 
 returns : tie.Need-returns Inv-loop μ-loop
-returns c = loop-ends _ _ _ _ (c .before .before .count .ensures) (c .before .loop .inv .0) (c .loop-test .left) (c .before .loop .inv .1)
+returns c = let e = c .before .before .count .ensures in loop-ends joins-updates _ _ _ (rw e at (c .before .loop .inv .0)) (rw e at (c .loop-test .left)) (c .before .loop .inv .1)
 
 pub put-actives-spec : {M : Type 1} → statement M
 put-actives-spec =

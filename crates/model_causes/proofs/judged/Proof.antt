@@ -1,5 +1,4 @@
 use Rattle.model_format.specs.Reading as reading
-use borrow.Author.Needs.{needs}
 use Rattle.model_causes.proofs.judged.Statement.{statement}
 use Rattle.model_causes.proofs.judged.Tie as tie
 

@@ -1,5 +1,4 @@
 use borrow.Author.Tests.{lt-ltb, le-ltb}
-use borrow.Author.Needs.{needs}
 use Rattle.model_causes.proofs.least_kind.Statement.{statement}
 use Rattle.model_causes.proofs.least_kind.Tie as tie
 

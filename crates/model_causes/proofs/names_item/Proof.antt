@@ -1,6 +1,5 @@
 use borrow.Author.Tests.{ne-eqb}
 use Rattle.model_format.specs.Reading as reading
-use borrow.Author.Needs.{needs}
 use Rattle.model_causes.proofs.names_item.Statement.{statement}
 use Rattle.model_causes.proofs.names_item.Tie as tie
 

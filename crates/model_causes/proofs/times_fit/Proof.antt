@@ -1,6 +1,5 @@
 use mathlib.Core.Path.{refl}
 use Rattle.model_format.specs.Reading as reading
-use borrow.Author.Needs.{needs}
 use Rattle.model_causes.proofs.times_fit.Statement.{statement}
 use Rattle.model_causes.proofs.times_fit.Tie as tie
 

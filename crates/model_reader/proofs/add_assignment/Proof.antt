@@ -1,8 +1,6 @@
 use Rattle.model_reader.specs.Laws.{few-assignments, assignment-added}
-use mathlib.Core.Path.{_≡_, _∙_}
-use Prim.Native.Nat.{_<_}
 use native.Mathlib.Omega.{arith}
-use Rattle.model_reader.specs.Laws.{lastOf, assignment-added}
+use Rattle.model_reader.specs.Laws.{assignment-added}
 use borrow.Author.Needs.{needs}
 use Rattle.model_reader.proofs.add_assignment.Statement.{statement}
 use Rattle.model_reader.proofs.add_assignment.Tie as tie

@@ -1,8 +1,6 @@
 use Rattle.model_reader.specs.Laws.{few-atoms, atom-added}
-use mathlib.Core.Path.{_≡_, _∙_}
-use Prim.Native.Nat.{_<_}
 use native.Mathlib.Omega.{arith}
-use Rattle.model_reader.specs.Laws.{lastOf, atom-added}
+use Rattle.model_reader.specs.Laws.{atom-added}
 use borrow.Author.Needs.{needs}
 use Rattle.model_reader.proofs.add_atom.Statement.{statement}
 use Rattle.model_reader.proofs.add_atom.Tie as tie

@@ -1,6 +1,5 @@
 use mathlib.Core.Path.{refl}
 use Rattle.model_format.specs.Reading as reading
-use borrow.Author.Needs.{needs}
 use Rattle.model_reader.proofs.add_head.Statement.{statement}
 use Rattle.model_reader.proofs.add_head.Tie as tie
 

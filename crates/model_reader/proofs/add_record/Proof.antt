@@ -1,5 +1,4 @@
 use Rattle.model_reader.specs.Laws.{added}
-use borrow.Author.Needs.{needs}
 use Rattle.model_reader.proofs.add_record.Statement.{statement}
 use Rattle.model_reader.proofs.add_record.Tie as tie
 

@@ -1,6 +1,7 @@
 use mathlib.Core.Path.{sym}
 use lib.Seq.{length-take-le}
-use Rattle.printing.specs.Rules.{rules-fit, rules-run, rules-refused}
+use Rattle.printing.specs.Rules.{rules-run, rules-refused}
+use Rattle.translator.specs.Tables.{bytes-within}
 use borrow.Author.Needs.{needs}
 use Rattle.printing.proofs.rules_listing.Statement.{statement}
 use Rattle.printing.proofs.rules_listing.Tie as tie
@@ -18,10 +19,10 @@ is-none-requires : tie.Need-is-none-requires
 is-none-requires c κs = search needs
 
 array-share-prefix-table : tie.Need-array-share-prefix-table
-array-share-prefix-table c = rules-fit _ _ _ (c .before .before .before .before .translate .result) _ (c .before .before .before .before .before .before .table-room .ensures) (c .before .before .before .before .translate .ensures) (c .before .is-none .ensures) (c .if1 .taken) (search needs)
+array-share-prefix-table c = bytes-within _ _ _ (c .before .before .before .before .translate .result) _ (c .before .before .before .before .translate .ensures) (c .before .is-none .ensures) (c .if1 .taken) (search needs)
 
 slice-aggregate-table-listing : tie.Need-slice-aggregate-table-listing
-slice-aggregate-table-listing c = sym (length-take-le _ _ (rules-fit _ _ _ (c .before .before .before .before .before .translate .result) _ (c .before .before .before .before .before .before .before .table-room .ensures) (c .before .before .before .before .before .translate .ensures) (c .before .before .is-none .ensures) (c .before .if1 .taken) (search needs)))
+slice-aggregate-table-listing c = sym (length-take-le _ _ (bytes-within _ _ _ (c .before .before .before .before .before .translate .result) _ (c .before .before .before .before .before .translate .ensures) (c .before .before .is-none .ensures) (c .before .if1 .taken) (search needs)))
 
 table-listing-requires : tie.Need-table-listing-requires
 table-listing-requires c κs = search needs
@@ -32,14 +33,14 @@ same-length c = search needs
 returns : tie.Need-returns
 returns c = rules-run _ _ _ (c .before .before .before .before .before .before .before .before .before .translate .result) _ (c .before .before .before .before .before .before .before .before .before .before .before .table-room .ensures) (c .before .before .before .before .before .before .before .before .before .translate .ensures) (c .before .before .before .before .before .before .is-none .ensures) _ (c .before .before .before .before .before .if1 .taken) (c .before .before .table-listing .ensures)
 
-put-last-requires : tie.Need-put-last-requires
-put-last-requires c κs = search needs
+refused-listing-requires : tie.Need-refused-listing-requires
+refused-listing-requires c κs = search needs
 
 same-length-2 : tie.Need-same-length-2
 same-length-2 c = search needs
 
 returns-2 : tie.Need-returns-2
-returns-2 c = rules-refused _ _ _ (c .before .before .before .before .before .before .before .before .translate .result) _ (c .before .before .before .before .before .before .before .before .before .before .table-room .ensures) (c .before .before .before .before .before .before .before .before .translate .ensures) (c .before .before .before .before .before .is-none .ensures) _ (c .before .before .before .before .if1 .left) (c .before .before .put-last .ensures)
+returns-2 c = rules-refused _ _ _ (c .before .before .before .before .before .before .before .before .translate .result) _ (c .before .before .before .before .before .before .before .before .before .before .table-room .ensures) (c .before .before .before .before .before .before .before .before .translate .ensures) (c .before .before .before .before .before .is-none .ensures) _ (c .before .before .before .before .if1 .left) (c .before .before .refused-listing .ensures)
 
 pub rules-listing-spec : {M : Type 1} → statement M
 rules-listing-spec =
@@ -54,6 +55,6 @@ rules-listing-spec =
     table-listing-requires
     same-length
     returns
-    put-last-requires
+    refused-listing-requires
     same-length-2
     returns-2)

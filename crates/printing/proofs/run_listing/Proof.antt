@@ -50,8 +50,8 @@ step-requires c κs = search needs
 is-none-requires : tie.Need-is-none-requires Inv-loop μ-loop
 is-none-requires c κs = search needs
 
-now-of-requires : tie.Need-now-of-requires Inv-loop μ-loop
-now-of-requires c κs = search needs
+clock-of-requires : tie.Need-clock-of-requires Inv-loop μ-loop
+clock-of-requires c κs = search needs
 
 put-last-requires : tie.Need-put-last-requires Inv-loop μ-loop
 put-last-requires c κs = search needs
@@ -60,13 +60,13 @@ same-length : tie.Need-same-length Inv-loop μ-loop
 same-length c = search needs
 
 returns : tie.Need-returns Inv-loop μ-loop
-returns c = run-refused _ _ _ (c .before .before .before .before .before .before .before .before .before .before .before .before .loop .inv) _ _ _ _ _ (c .before .before .before .before .before .before .before .before .before .before .before .loop-test .taken) (c .before .before .before .before .before .before .before .before .before .before .part-at .ensures) (c .before .before .before .before .before .before .before .before .event-of .ensures) (ap (λ (r : Stepped). r .answer) (c .before .before .before .before .before .before .before .step .ensures)) (c .before .before .before .before .before .before .is-none .ensures) (not-true _ (c .before .before .before .before .before .if1 .taken)) (c .before .before .before .now-of .ensures) (c .before .before .put-last .ensures)
+returns c = run-refused _ _ _ (c .before .before .before .before .before .before .before .before .before .before .before .before .loop .inv) _ _ _ _ _ (c .before .before .before .before .before .before .before .before .before .before .before .loop-test .taken) (c .before .before .before .before .before .before .before .before .before .before .part-at .ensures) (c .before .before .before .before .before .before .before .before .event-of .ensures) (ap (λ (r : Stepped). r .answer) (c .before .before .before .before .before .before .before .step .ensures)) (c .before .before .before .before .before .before .is-none .ensures) (not-true _ (c .before .before .before .before .before .if1 .taken)) (c .before .before .before .clock-of .ensures) (c .before .before .put-last .ensures)
 
 add-taken : tie.Need-add-taken Inv-loop μ-loop
 add-taken c = let k = c .before .before .before .before .before .before .before .before .loop .inv .count in let h = c .before .before .before .before .before .before .before .loop-test .taken in let n = c .before .before .before .before .before .before .before .before .loop .inv .size in search needs
 
-now-of-requires-2 : tie.Need-now-of-requires-2 Inv-loop μ-loop
-now-of-requires-2 c κs = search needs
+clock-of-requires-2 : tie.Need-clock-of-requires-2 Inv-loop μ-loop
+clock-of-requires-2 c κs = search needs
 
 put-event-requires : tie.Need-put-event-requires Inv-loop μ-loop
 put-event-requires c κs = search needs
@@ -75,10 +75,10 @@ loop-less : tie.Need-loop-less Inv-loop μ-loop
 loop-less c = let z = next-place Script _ _ _ (c .before .before .before .before .before .before .before .before .before .before .before .before .loop-test .taken) (c .before .before .before .before .before .before .before .before .before .before .before .part-at .ensures) in omega arith
 
 loop-again : tie.Need-loop-again Inv-loop μ-loop
-loop-again c = run-on _ _ _ (c .before .before .before .before .before .before .before .before .before .before .before .before .before .loop .inv) _ _ _ _ _ (c .before .before .before .before .before .before .before .before .before .before .before .before .loop-test .taken) (c .before .before .before .before .before .before .before .before .before .before .before .part-at .ensures) (c .before .before .before .before .before .before .before .before .before .event-of .ensures) (ap (λ (r : Stepped). r .answer) (c .before .before .before .before .before .before .before .before .step .ensures)) (c .before .before .before .before .before .before .before .is-none .ensures) _ (ap (λ (r : Stepped). r .state) (c .before .before .before .before .before .before .before .before .step .ensures)) (not-false _ (c .before .before .before .before .before .before .if1 .left)) (c .before .before .before .now-of2 .ensures) (c .before .before .put-event .ensures)
+loop-again c = run-on _ _ _ (c .before .before .before .before .before .before .before .before .before .before .before .before .before .loop .inv) _ _ _ _ _ (c .before .before .before .before .before .before .before .before .before .before .before .before .loop-test .taken) (c .before .before .before .before .before .before .before .before .before .before .before .part-at .ensures) (c .before .before .before .before .before .before .before .before .before .event-of .ensures) (ap (λ (r : Stepped). r .answer) (c .before .before .before .before .before .before .before .before .step .ensures)) (c .before .before .before .before .before .before .before .is-none .ensures) _ (ap (λ (r : Stepped). r .state) (c .before .before .before .before .before .before .before .before .step .ensures)) (not-false _ (c .before .before .before .before .before .before .if1 .left)) (c .before .before .before .clock-of2 .ensures) (c .before .before .put-event .ensures)
 
-now-of-requires-3 : tie.Need-now-of-requires-3 Inv-loop μ-loop
-now-of-requires-3 c κs = search needs
+clock-of-requires-3 : tie.Need-clock-of-requires-3 Inv-loop μ-loop
+clock-of-requires-3 c κs = search needs
 
 put-last-requires-2 : tie.Need-put-last-requires-2 Inv-loop μ-loop
 put-last-requires-2 c κs = search needs
@@ -87,7 +87,7 @@ same-length-2 : tie.Need-same-length-2 Inv-loop μ-loop
 same-length-2 c = search needs
 
 returns-2 : tie.Need-returns-2 Inv-loop μ-loop
-returns-2 c = run-end _ _ _ (c .before .before .before .before .before .before .loop .inv) _ (c .before .before .before .before .before .loop-test .left) (c .before .before .before .now-of3 .ensures) (c .before .before .put-last2 .ensures)
+returns-2 c = run-end _ _ _ (c .before .before .before .before .before .before .loop .inv) _ (c .before .before .before .before .before .loop-test .left) (c .before .before .before .clock-of3 .ensures) (c .before .before .put-last2 .ensures)
 
 pub run-listing-spec : {M : Type 1} → statement M
 run-listing-spec =
@@ -105,16 +105,16 @@ run-listing-spec =
     event-of-requires
     step-requires
     is-none-requires
-    now-of-requires
+    clock-of-requires
     put-last-requires
     same-length
     returns
     add-taken
-    now-of-requires-2
+    clock-of-requires-2
     put-event-requires
     loop-less
     loop-again
-    now-of-requires-3
+    clock-of-requires-3
     put-last-requires-2
     same-length-2
     returns-2)

@@ -3,41 +3,33 @@ use Rattle.printing.specs.Steps.{steps-run, steps-refused}
 use Rattle.printing.proofs.steps_listing.Statement.{statement}
 use Rattle.printing.proofs.steps_listing.Tie as tie
 
--- src/lib.rt:92:9
 read-model-requires : tie.Need-read-model-requires
 read-model-requires c κs = search needs
 
--- src/lib.rt:95:8
 is-none-requires : tie.Need-is-none-requires
 is-none-requires c κs = search needs
 
--- src/lib.rt:97:9
 run-listing-requires : tie.Need-run-listing-requires
 run-listing-requires c κs = search needs
 
--- src/lib.rt:97:9
 same-length : tie.Need-same-length
 same-length c = search needs
 
--- src/lib.rt:97:9
 returns : tie.Need-returns
 returns c =
     steps-run (c .before .before .before .before .before .before .before .before .before .before .before .before .args .model .now) (c .before .before .before .before .before .before .before .before .before .before .before .before .args .script .now) (c .before .before .before .before .before .before .before .before .read-model .result) _ (c .before .before .before .before .before .before .before .before .read-model .ensures) (c .before .before .before .before .before .before .is-none .ensures)
     (c .before .before .before .before .before .if1 .taken) (c .before .before .run-listing .ensures)
 
--- src/lib.rt:99:5
-put-last-requires : tie.Need-put-last-requires
-put-last-requires c κs = search needs
+refused-listing-requires : tie.Need-refused-listing-requires
+refused-listing-requires c κs = search needs
 
--- src/lib.rt:89:1
 same-length-2 : tie.Need-same-length-2
 same-length-2 c = search needs
 
--- src/lib.rt:89:1
 returns-2 : tie.Need-returns-2
 returns-2 c =
     steps-refused (c .before .before .before .before .before .before .before .before .before .before .before .args .model .now) (c .before .before .before .before .before .before .before .before .before .before .before .args .script .now) (c .before .before .before .before .before .before .before .read-model .result) _ (c .before .before .before .before .before .before .before .read-model .ensures) (c .before .before .before .before .before .is-none .ensures)
-    (c .before .before .before .before .if1 .left) (c .before .before .put-last .ensures)
+    (c .before .before .before .before .if1 .left) (c .before .before .refused-listing .ensures)
 
 pub steps-listing-spec : {M : Type 1} → statement M
 steps-listing-spec =
@@ -48,6 +40,6 @@ steps-listing-spec =
     run-listing-requires
     same-length
     returns
-    put-last-requires
+    refused-listing-requires
     same-length-2
     returns-2)

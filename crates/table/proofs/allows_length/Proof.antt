@@ -1,5 +1,3 @@
-use mathlib.Core.Path.{_≡_}
-use Prim.Native.Nat.{ℕ}
 use Rattle.table.specs.Running.{allows-other, allows-start}
 use Rattle.table.proofs.allows_length.Statement.{statement}
 use Rattle.table.proofs.allows_length.Tie as tie

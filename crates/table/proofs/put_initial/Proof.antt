@@ -1,4 +1,3 @@
-use mathlib.Core.Path.{_∙_, ap}
 use borrow.Author.Needs.{needs}
 use Rattle.table.specs.Bits.{values, values-store}
 use Rattle.table.proofs.put_initial.Statement.{statement}

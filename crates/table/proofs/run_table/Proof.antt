@@ -11,7 +11,6 @@ use Rattle.records.specs.declared.Notation.the-variants as notations
 use Rattle.table_format.specs.Table.{tableOf}
 use Rattle.table.specs.Machine.{machineOf, runTable}
 use Rattle.table.specs.declared.Stepped.{Stepped}
-use Rattle.table.specs.declared.Variables.{Variables}
 use Rattle.table.proofs.run_table.Statement.{statement}
 use Rattle.table.proofs.run_table.Tie as tie
 

@@ -2,10 +2,9 @@ use mathlib.Core.Path.{_≡_, _∙_}
 use Prim.Native.Nat.{_-_, _≤_}
 use native.Mathlib.Omega.{arith}
 use borrow.Author.Needs.{needs}
-use Rattle.numbers.specs.Lists.{firstBelow}
 use Rattle.table_format.specs.Table.{tableOf}
 use Rattle.table.specs.Bits.{values}
-use Rattle.table.specs.Machine.{isBusy, ticks}
+use Rattle.table.specs.Machine.{ticks}
 use Rattle.table.specs.Running.{ticks-begin, ticks-last, ticks-on, ticks-busy, ticks-end}
 use Rattle.table.specs.Ticking.{later, later-none, later-next}
 use Rattle.table.proofs.tick.Statement.{statement}

@@ -1,5 +1,4 @@
 use borrow.Author.Tests.{lt-ltb, le-ltb}
-use borrow.Author.Needs.{needs}
 use Rattle.translator.proofs.count_of.Statement.{statement}
 use Rattle.translator.proofs.count_of.Tie as tie
 

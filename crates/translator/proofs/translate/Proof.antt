@@ -1,5 +1,4 @@
 use borrow.Author.Tests.{not-true, not-false}
-use native.Mathlib.Omega.{arith}
 use borrow.Author.Needs.{needs}
 use Rattle.translator.specs.Tables.{bytes-known, model-refused, model-good, output-short, table-made}
 use Rattle.translator.proofs.translate.Statement.{statement}

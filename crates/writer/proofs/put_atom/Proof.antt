@@ -1,5 +1,5 @@
 use Rattle.table_format.specs.Format.{recordTo}
-use Rattle.writer.specs.Written.{farthest, Wrote, and-then}
+use Rattle.writer.specs.Written.{farthest, and-then}
 use lib.ListN.{length}
 use Prim.Native.Nat.{_≤_}
 use borrow.Author.Needs.{needs}

@@ -1,8 +1,8 @@
+use Rattle.writer.specs.Written.{keeps-length}
 use Prim.Native.Nat.{_≤_, _-_}
 use native.Mathlib.Omega.{arith}
 use Rattle.numbers.specs.Lists.{joinBelow}
 use Rattle.rule_writer.specs.Lists.{WroteClauses, joins-clauses, loop-begins}
-use Rattle.complete_rules.specs.Loops.{same-size}
 use Rattle.complete_rules.specs.Guards.{guardAt, atom-is-named, guard-next, guard-end}
 use borrow.Author.Needs.{needs}
 use Rattle.complete_rules.proofs.guards.put_guard.Statement.{statement}
@@ -39,7 +39,7 @@ loop-again : tie.Need-loop-again Inv-loop μ-loop
 loop-again c = (omega arith, guard-next _ _ _ _ (c .before .before .before .before .atom-at .ensures) (c .before .before .before .before .before .before .before .before .before .before .good .0 .0) (c .before .before .before .before .before .before .loop .inv .1) (c .before .before .put-plain .ensures))
 
 same-length : tie.Need-same-length Inv-loop μ-loop
-same-length c = same-size (c .before .loop .inv .1)
+same-length c = keeps-length (c .before .loop .inv .1)
 
 returns : tie.Need-returns Inv-loop μ-loop
 returns c = guard-end _ _ _ _ (c .before .before .before .transition-at .ensures) (c .before .loop .inv .1) (c .before .loop .inv .0) (c .loop-test .left)

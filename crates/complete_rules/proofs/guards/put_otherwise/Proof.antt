@@ -1,8 +1,8 @@
+use Rattle.writer.specs.Written.{keeps-length}
 use Prim.Native.Nat.{_≤_, _-_}
 use native.Mathlib.Omega.{arith}
 use Rattle.numbers.specs.Lists.{joinBelow}
-use Rattle.rule_writer.specs.Lists.{WroteClauses, joins-clauses, loop-begins, loop-next}
-use Rattle.complete_rules.specs.Loops.{same-size, loop-ends}
+use Rattle.rule_writer.specs.Lists.{WroteClauses, joins-clauses, loop-begins, loop-next, loop-ends}
 use Rattle.complete_rules.specs.Guards.{otherwiseAt}
 use borrow.Author.Needs.{needs}
 use Rattle.complete_rules.proofs.guards.put_otherwise.Statement.{statement}
@@ -30,7 +30,7 @@ loop-again : tie.Need-loop-again Inv-loop μ-loop
 loop-again c = (omega arith, loop-next joins-clauses _ _ (c .before .before .before .before .before .before .before .good .0 .0) (c .before .before .before .before .before .loop .inv .1) (c .before .before .put-otherwise-at .ensures))
 
 same-length : tie.Need-same-length Inv-loop μ-loop
-same-length c = same-size (c .before .loop .inv .1)
+same-length c = keeps-length (c .before .loop .inv .1)
 
 returns : tie.Need-returns Inv-loop μ-loop
 returns c = loop-ends joins-clauses _ _ _ (c .before .loop .inv .0) (c .loop-test .left) (c .before .loop .inv .1)

@@ -1,7 +1,4 @@
 use Rattle.model.specs.TestLaws.{fault-state, fault-processor, fault-connections, fault-none, fault-length}
-use borrow.Author.Tests.{eq-eqb, ne-eqb, not-true, not-false}
-use Rattle.model.specs.Jobs.{faultOf}
-use borrow.Author.Tests.{eq-eqb, ne-eqb}
 use Rattle.model.proofs.tests.fault_of.Statement.{statement}
 use Rattle.model.proofs.tests.fault_of.Tie as tie
 

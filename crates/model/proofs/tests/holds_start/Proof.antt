@@ -1,6 +1,5 @@
 use Rattle.model.specs.TestLaws.{start-unfed, start-fed}
 use borrow.Author.Tests.{not-true, not-false}
-use mathlib.Core.Path.{_∙_}
 use borrow.Author.Needs.{needs}
 use Rattle.model.proofs.tests.holds_start.Statement.{statement}
 use Rattle.model.proofs.tests.holds_start.Tie as tie

@@ -1,7 +1,7 @@
 use mathlib.Core.Logic.{⊎-elim}
 use Rattle.model.specs.TestLaws.{threads-some, threads-none, calm}
 use Rattle.model.specs.Tests.{threadBusy}
-use borrow.Author.Tests.{not-true, not-false}
+use borrow.Author.Tests.{not-false}
 use borrow.Author.Count.{below-more}
 use native.Mathlib.Omega.{arith}
 use Prim.Native.Nat.{ℕ, _<_, _≤_, _-_}

@@ -1,9 +1,9 @@
 use Prim.Native.Nat.{_≤_, _-_}
 use native.Mathlib.Omega.{arith}
 use Rattle.numbers.specs.Lists.{joinBelow}
-use Rattle.rule_writer.specs.Lists.{WroteUpdates, joins-updates, loop-begins, loop-next}
+use Rattle.rule_writer.specs.Lists.{WroteUpdates, joins-updates, loop-begins, loop-next, loop-ends}
 use Rattle.thread_rules.specs.Pieces.{sentOver}
-use Rattle.thread_rules.specs.Laws.{same-room, loop-ends}
+use Rattle.writer.specs.Written.{keeps-length}
 use borrow.Author.Needs.{needs}
 use Rattle.thread_rules.proofs.sends.put_sends.Statement.{statement}
 use Rattle.thread_rules.proofs.sends.put_sends.Tie as tie
@@ -30,10 +30,10 @@ loop-again : tie.Need-loop-again Inv-loop μ-loop
 loop-again c = (omega arith, loop-next joins-updates _ (sentOver (c .before .before .before .before .before .before .before .args .m) (c .before .before .before .before .before .before .before .args .kind) (c .before .before .before .before .before .before .before .args .t)) (c .before .before .before .before .before .before .before .good .0 .0) (c .before .before .before .before .before .loop .inv .1) (c .before .before .put-sent .ensures))
 
 same-length : tie.Need-same-length Inv-loop μ-loop
-same-length c = same-room (c .before .loop .inv .1)
+same-length c = keeps-length (c .before .loop .inv .1)
 
 returns : tie.Need-returns Inv-loop μ-loop
-returns c = loop-ends joins-updates (sentOver (c .before .before .before .args .m) (c .before .before .before .args .kind) (c .before .before .before .args .t)) (c .before .loop .inv .0) (c .loop-test .left) (c .before .loop .inv .1)
+returns c = loop-ends joins-updates (sentOver (c .before .before .before .args .m) (c .before .before .before .args .kind) (c .before .before .before .args .t)) _ _ (c .before .loop .inv .0) (c .loop-test .left) (c .before .loop .inv .1)
 
 pub put-sends-spec : {M : Type 1} → statement M
 put-sends-spec =

@@ -1,0 +1,84 @@
+/* Futonkestrel: timing models of a handwriting pad, their rule tables, and runs of both, with proof.
+ *
+ * Link with libfutonkestrel.a (x86-64 Linux). The library keeps no state, takes no memory and calls nothing: every function is a
+ * function of the bytes that it is given, may be called from any thread, and always returns.
+ *
+ * A slice is a pointer and a count. Every count is good, 0 too, and with a count of 0 the pointer may be NULL. There is no condition on
+ * what a slice holds. A slice that is written (no const) must be memory of that size that no other argument overlaps: that is all that
+ * is asked of a caller.
+ *
+ * Refusals have the numbers of the specification; 0 means that nothing is refused:
+ *    1 body runs past the end          6 connected or assigned twice      10 not enabled
+ *    2 kind unknown or out of order    7 hyperperiod too long             11 TICK past the last clock
+ *    3 one too many, or table too long 8 output shorter than needed       12 two rules enabled
+ *    4 field outside its range         9 event cut, unknown, or TICK 0    13 two updates of one variable
+ *    5 port or local of another thread
+ * The part of 1 to 8 lies in the model or table, that of 9 to 13 in the script: bytes start up to, not including, end.
+ *
+ * What a function tells beside its result goes to `told`, in the order that its comment gives, as far as told_count has places; places
+ * behind are untouched. Start and end are 0 where nothing is refused.
+ */
+#ifndef FUTONKESTREL_H
+#define FUTONKESTREL_H
+
+#include <stddef.h>
+#include <stdint.h>
+
+#ifdef __cplusplus
+extern "C" {
+#endif
+
+/* Variables of a table, all of 32 bits: 0 Now, 1 Mode, 2 Phase, 3 Pending, 4 EnteredAt, 5 Cpu; for thread t 16+t Active, 32+t State,
+ * 48+t DispatchTime, 64+t Due, 80+t End, 96+t behaviour state, 112+t Missed; 128+c Flag; 160+i input port; 192+i its buffer;
+ * 224+o output port; 256+v local. */
+#define FK_VARIABLES 288
+
+/* No table made from a model is longer. */
+#define FK_LONGEST_MADE_TABLE 394304
+
+/* Reads a model. Result: 0, or the first refusal (1 to 7). Told: start, end. */
+uint32_t fk_read_model(const uint8_t *model, size_t model_count, size_t *told, size_t told_count);
+
+/* Reads a table. Result: 0, or the first refusal (1 to 4). Told: start, end. */
+uint32_t fk_read_table(const uint8_t *table, size_t table_count, size_t *told, size_t told_count);
+
+/* Translates a model. Result: 0, or the model's refusal, or 8 where the table does not fit (the part is then the empty one at the model's
+ * end). Told: start, end, bytes of the table, 0 where it is refused. The output holds the table at its start and is untouched behind it;
+ * refused, it is untouched. The table reads without refusal and takes the same events as the model, whatever the list: that is proved. */
+uint32_t fk_translate(const uint8_t *model, size_t model_count, uint8_t *output, size_t output_count, size_t *told, size_t told_count);
+
+/* The listing of a run: a line for each event taken and a last line; for a refused model or table the last line alone. Result: the bytes
+ * of the whole listing. As many of them as the output has room for are written at its start; what lies behind is untouched. */
+size_t fk_model_listing(const uint8_t *model, size_t model_count, const uint8_t *script, size_t script_count, uint8_t *output, size_t output_count);
+size_t fk_table_listing(const uint8_t *table, size_t table_count, const uint8_t *script, size_t script_count, uint8_t *output, size_t output_count);
+
+/* Runs a script up to its first refused event. Result: 0, or the refusal of the model or table, or that of the event (9 to 13). Told:
+ * start, end, events taken, clock. */
+uint32_t fk_run_model(const uint8_t *model, size_t model_count, const uint8_t *script, size_t script_count, size_t *told, size_t told_count);
+uint32_t fk_run_table(const uint8_t *table, size_t table_count, const uint8_t *script, size_t script_count, size_t *told, size_t told_count);
+
+/* How many bytes the event at the start of a script has: a whole record, or all that is left where it is cut or its kind is unknown; 0
+ * where the script is empty. */
+size_t fk_event_length(const uint8_t *script, size_t script_count);
+
+/* The variables as a table's start records have them. Result: 0, or the table's refusal, or 8 where there are fewer than FK_VARIABLES
+ * places; refused, the variables are untouched, and so are places behind them always. */
+uint32_t fk_table_start(const uint8_t *table, size_t table_count, int32_t *variables, size_t variables_count);
+
+/* One event on the variables, which go one event further. Result: 0, or 9 to 13, or 8 as above; refused, the variables are untouched. The
+ * event is the bytes of one record, no more. The table is not read for faults again: give one that fk_read_table has accepted. (Other
+ * bytes do no harm: their rules are run as far as they can be read.) */
+uint32_t fk_table_step(const uint8_t *table, size_t table_count, int32_t *variables, size_t variables_count, const uint8_t *event, size_t event_count);
+
+/* One event of a model, after a whole script whose refused events are passed over. Result: the model's refusal, or 8 as above, the
+ * variables then untouched; else the answer to the event, 0 or 9 to 11, and each variable has the value that it stands for in the state
+ * which the event leaves (Due and End, and those that stand for nothing, have 0). An empty event is refused with 9 and so shows the state
+ * after the script. */
+uint32_t fk_model_after(const uint8_t *model, size_t model_count, const uint8_t *script, size_t script_count, const uint8_t *event, size_t event_count,
+                        int32_t *variables, size_t variables_count);
+
+#ifdef __cplusplus
+}
+#endif
+
+#endif

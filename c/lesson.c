@@ -1,0 +1,57 @@
+/* Makes the table of a model, runs it step by step with variables of its own, and prints for each event what the verified step answered.
+ * Usage: lesson MODEL SCRIPT */
+#include "futonkestrel.h"
+
+#include <stdio.h>
+#include <stdlib.h>
+
+static uint8_t model[65536], script[65536], table[FK_LONGEST_MADE_TABLE];
+
+static size_t read_file(const char *name, uint8_t *bytes, size_t room)
+{
+    FILE *file = fopen(name, "rb");
+    if (file == NULL) {
+        perror(name);
+        exit(1);
+    }
+    size_t count = fread(bytes, 1, room, file);
+    fclose(file);
+    return count;
+}
+
+static size_t make_table(size_t model_count)
+{
+    size_t told[3];
+    uint32_t number = fk_translate(model, model_count, table, sizeof table, told, 3);
+    if (number != 0) {
+        printf("model refused: %u, bytes %zu to %zu\n", number, told[0], told[1]);
+        exit(1);
+    }
+    printf("table of %zu bytes\n", told[2]);
+    return told[2];
+}
+
+int main(int count, char **names)
+{
+    if (count != 3) {
+        fprintf(stderr, "usage: lesson MODEL SCRIPT\n");
+        return 2;
+    }
+    size_t model_count = read_file(names[1], model, sizeof model);
+    size_t script_count = read_file(names[2], script, sizeof script);
+    size_t table_count = make_table(model_count);
+
+    int32_t variables[FK_VARIABLES];
+    uint32_t number = fk_table_start(table, table_count, variables, FK_VARIABLES);
+    for (size_t at = 0; number == 0 && at < script_count;) {
+        size_t length = fk_event_length(script + at, script_count - at);
+        number = fk_table_step(table, table_count, variables, FK_VARIABLES, script + at, length);
+        printf("event %d at %d: %u\n", script[at], variables[0], number);
+        at += length;
+    }
+
+    size_t told[4];
+    uint32_t whole = fk_run_model(model, model_count, script, script_count, told, 4);
+    printf("the model's run: refusal %u, %zu events taken, clock %zu\n", whole, told[2], told[3]);
+    return whole == number ? 0 : 1;
+}

@@ -1,0 +1,50 @@
+-- What `make_table` promises of the bytes that it reads, writes and prints.
+use mathlib.Core.Path.{_≡_, refl, sym, ap}
+use mathlib.Core.Bool.{Bool, true, false, cond, true≢false}
+use mathlib.Core.List.{List, []}
+use Prim.Native.Nat.{ℕ}
+use native.Mathlib.Omega.{arith}
+use lib.ListN.{take, length}
+use Rattle.io.specs.Counts.{Counts}
+use Rattle.records.specs.Refusals.{isNone}
+use Rattle.translate.specs.declared.Translation.{Translation}
+use Rattle.translate.specs.Translate.{translated, outputAfter}
+use Rattle.translator.specs.Tables.{Translates}
+use Rattle.listing.specs.Listing.{refusedListing}
+use Rattle.writer.specs.Written.{Wrote, wrote-nothing}
+use Rattle.command.specs.declared.Made.{Made}
+
+-- what is printed: nothing where the table is made, else the last line
+abbrev pub madeText : List ℕ → ℕ → List ℕ
+madeText model room = let c = translated model room .refusal .cause in cond (isNone c) [] (refusedListing c)
+
+-- The table of the bytes that were read lies at the start of `table`, which is else untouched; `out` begins with what is printed, and is
+-- untouched behind it. Where the file could not be read, nothing is made or printed and both are untouched.
+pub record Makes (model table out : List ℕ) (r : Made) (tableAfter outAfter : List ℕ) : Type 0 where
+  pub models : Counts (r .model) model
+  pub translates : r .good ≡ true → (tableAfter ≡ outputAfter (take (r .model) model) table) × (r .bytes ≡ translated (take (r .model) model) (length table) .bytes)
+  pub prints : r .good ≡ true → Wrote out 0 (madeText (take (r .model) model) (length table)) outAfter (r .printed)
+  pub unread : r .good ≡ false → (tableAfter ≡ table) × (outAfter ≡ out) × (r .bytes ≡ 0) × (r .printed ≡ 0)
+
+module _ {model table out : List ℕ} (r : Made) (m : ℕ) (a : Counts m model) where
+  pub makes-nothing : r ≡ record { model = m; good = false; bytes = 0; printed = 0 } → Makes model table out r table out
+  makes-nothing e = rw e (record { models = a; translates = λ p. absurd (true≢false (sym p)); prints = λ p. absurd (true≢false (sym p)); unread = λ p. (refl, refl, refl, refl) })
+
+  -- t is what translating told, b whether the table was made
+  module _ {after : List ℕ} (t : Translation) (w : Translates (take m model) table t after) {b : Bool} (g : b ≡ isNone (t .refusal .cause)) where
+    pub makes-table : b ≡ true → r ≡ record { model = m; good = true; bytes = t .bytes; printed = 0 } → Makes model table out r after out
+    makes-table f e = rw e (record {
+      models = a;
+      translates = λ p. (w .output, ap (λ (x : Translation). x .bytes) (w .told));
+      prints = λ p. rw (← w .told, ← g, f) (wrote-nothing out 0 (omega arith));
+      unread = λ p. absurd (true≢false p);
+    })
+
+    pub makes-refusal : b ≡ false → {outAfter : List ℕ} (p : ℕ) → Wrote out 0 (refusedListing (t .refusal .cause)) outAfter p →
+        r ≡ record { model = m; good = true; bytes = t .bytes; printed = p } → Makes model table out r after outAfter
+    makes-refusal f p v e = rw e (record {
+      models = a;
+      translates = λ q. (w .output, ap (λ (x : Translation). x .bytes) (w .told));
+      prints = λ q. rw (← w .told, ← g, f) v;
+      unread = λ q. absurd (true≢false q);
+    })

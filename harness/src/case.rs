@@ -1,0 +1,183 @@
+//! One case: a model with a script, a table with a script, and single steps on
+//! variables of all sorts. A case is wholly determined by a seed and its number.
+
+use plain::script::TICK;
+use plain::{model, translate};
+
+use crate::answers::{Variables, NOW, VARIABLES};
+use crate::models;
+use crate::random::Random;
+use crate::records::{event_body, split, table_body};
+use crate::scripts::{self, any_event, tick, Budget};
+use crate::tables;
+
+pub struct Case {
+    pub seed: u64,
+    pub number: u64,
+    pub model: Vec<u8>,
+    /// The table made from the model by the plain model, where it is accepted.
+    pub made: Option<Vec<u8>>,
+    /// For the model and the made table.
+    pub script: Vec<u8>,
+    /// The events after which the model's state is looked at, rising.
+    pub shown: Vec<usize>,
+    /// Any table, with a script of its own.
+    pub table: Vec<u8>,
+    pub table_script: Vec<u8>,
+    /// Single steps on the made table, and on the other.
+    pub lent_to_made: Vec<Lent>,
+    pub lent_to_table: Vec<Lent>,
+    /// Whether calls are tried with outputs of further lengths.
+    pub more_rooms: bool,
+}
+
+/// Variables to be lent, and an event for them.
+pub struct Lent {
+    pub variables: Variables,
+    pub event: Vec<u8>,
+}
+
+impl Case {
+    pub fn new(seed: u64, number: u64) -> Case {
+        let random = &mut Random::new(seed, number);
+        let model = models::model(random);
+        let (made, script) = made_and_script(random, &model);
+        let shown = shown(random, &model, &script);
+        let (table, table_script) = tables::table_and_script(random, made.as_deref(), &script);
+        let lent_to_made = match &made {
+            Some(made) => lent(random, made, 2),
+            None => Vec::new(),
+        };
+        let lent_to_table = lent(random, &table, 3);
+        Case {
+            seed,
+            number,
+            model,
+            made,
+            script,
+            shown,
+            table,
+            table_script,
+            lent_to_made,
+            lent_to_table,
+            more_rooms: random.chance(25),
+        }
+    }
+}
+
+fn made_and_script(random: &mut Random, bytes: &[u8]) -> (Option<Vec<u8>>, Vec<u8>) {
+    match model::read(bytes) {
+        Err(_) => (None, scripts::any_script(random)),
+        Ok(model) => {
+            let made = translate::translate(bytes, usize::MAX).expect("the model is accepted");
+            let long_periods = model.threads.iter().any(|thread| thread.period.0 > 200);
+            let budget = budget(random, made.len(), long_periods);
+            let script = scripts::script(random, &model, budget);
+            (Some(made), script)
+        }
+    }
+}
+
+/// An event or a tick on a table costs as much as the table is long, so long
+/// tables have short scripts. Few scripts go through long periods, or far where
+/// there is no thread.
+fn budget(random: &mut Random, table: usize, long_periods: bool) -> Budget {
+    let events = match random.below(100) {
+        0..=4 => random.within(0, 5),
+        5..=84 => random.within(6, 34),
+        85..=96 => random.within(35, 60),
+        _ => random.within(61, 150),
+    };
+    let usual = 4 + 250_000 / table;
+    let far = (table < 300 && random.chance(10)) || (long_periods && random.chance(4));
+    Budget {
+        events: events.min(usual),
+        ticks: if far { 70_000 } else { usual },
+    }
+}
+
+/// Looking at the model's state after an event means to read the model and to
+/// run all events before it again, so a short script is looked at everywhere and
+/// a costly one in some places.
+fn shown(random: &mut Random, model: &[u8], script: &[u8]) -> Vec<usize> {
+    let mut budget = random.one_of(&[1_000, 1_000, 1_000, 1_000, 10_000]);
+    let mut cost = model.len();
+    let mut costs = Vec::new();
+    for event in split(script, event_body) {
+        cost += match event[..] {
+            [TICK, low, high] => u16::from_le_bytes([low, high]).into(),
+            _ => 1,
+        };
+        costs.push((costs.len(), cost));
+    }
+    let mut shown = Vec::new();
+    // The last event of all is the first to be chosen.
+    while let Some((number, cost)) = costs.pop() {
+        shown.push(number);
+        budget -= budget.min(cost);
+        if budget == 0 {
+            break;
+        }
+        if !costs.is_empty() {
+            let (next, last) = (random.below(costs.len()), costs.len() - 1);
+            costs.swap(next, last);
+        }
+    }
+    shown.sort_unstable();
+    shown
+}
+
+/// Most steps are of events that have a rule, or ticks.
+fn lent(random: &mut Random, table: &[u8], count: usize) -> Vec<Lent> {
+    let events = events_with_rules(table);
+    (0..count)
+        .map(|_| Lent {
+            variables: any_variables(random),
+            event: match random.below(10) {
+                0..=4 => tick(random.one_of(&[1, 1, 2, 3, 7, 40, 300])),
+                5..=8 if !events.is_empty() => {
+                    let (kind, id) = random.one_of(&events);
+                    tables::event(random, kind, id)
+                }
+                9 if random.chance(10) => Vec::new(),
+                _ => any_event(random),
+            },
+        })
+        .collect()
+}
+
+/// Mostly 0; the clock often near its end.
+fn any_variables(random: &mut Random) -> Variables {
+    let mut variables = [0; VARIABLES];
+    for _ in 0..random.one_of(&[0, 0, 2, 6, 30]) {
+        variables[random.within(1, 287)] = random.value();
+    }
+    variables[NOW] = random.one_of(&[
+        0,
+        12,
+        999_999_998,
+        999_999_999,
+        1_000_000_000,
+        1_000_000_001,
+        i32::MAX,
+        -4,
+        i32::MIN,
+    ]);
+    variables
+}
+
+/// Kind and id of each rule, as far as the records are whole.
+fn events_with_rules(table: &[u8]) -> Vec<(u8, u8)> {
+    let mut events = Vec::new();
+    let mut rest = table;
+    while let Some(length) = rest.first().and_then(|&kind| table_body(kind)) {
+        if rest.len() <= length {
+            break;
+        }
+        if let [0x21, kind, id, ..] = *rest {
+            events.push((kind, id));
+        }
+        rest = &rest[1 + length..];
+    }
+    events
+}

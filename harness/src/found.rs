@@ -1,0 +1,151 @@
+//! What the library says of an input.
+
+use futonkestrel::{events, raw};
+
+use crate::answers::{
+    After, Listing, Run, Said, Step, Told, Translation, Variables, BEHIND, BYTE, FIGURE, VARIABLES,
+};
+
+/// All that the library says of a model and a script. The state is shown after
+/// the events of these numbers, which rise, and listings go into outputs of the
+/// rooms given.
+pub fn of_model(model: &[u8], script: &[u8], shown: &[usize], rooms: &[usize]) -> Said {
+    let read = told(|told| raw::read_model(model, told));
+    Said {
+        read,
+        start: model_after(model, &[], &[]),
+        steps: if read.number == 0 {
+            model_steps(model, script, shown)
+        } else {
+            Vec::new()
+        },
+        run: run(|told| raw::run_model(model, script, told)),
+        listings: listings(rooms, |output| raw::model_listing(model, script, output)),
+    }
+}
+
+/// All that the library says of a table and a script.
+pub fn of_table(table: &[u8], script: &[u8], rooms: &[usize]) -> Said {
+    let read = told(|told| raw::read_table(table, told));
+    let start = lend(&[FIGURE; VARIABLES], |lent| raw::table_start(table, lent));
+    Said {
+        read,
+        steps: if read.number == 0 {
+            table_steps(table, &start.variables, script)
+        } else {
+            Vec::new()
+        },
+        start,
+        run: run(|told| raw::run_table(table, script, told)),
+        listings: listings(rooms, |output| raw::table_listing(table, script, output)),
+    }
+}
+
+pub fn translation(model: &[u8], room: usize) -> Translation {
+    let mut output = vec![BYTE; room];
+    let mut told = [usize::MAX; 3];
+    let number = raw::translate(model, &mut output, &mut told);
+    let [start, end, length] = told;
+    Translation {
+        told: Told { number, start, end },
+        length,
+        output,
+    }
+}
+
+/// The length of each part of a script.
+pub fn part_lengths(script: &[u8]) -> Vec<usize> {
+    events(script).map(<[u8]>::len).collect()
+}
+
+/// One event of its own, on variables of its own.
+pub fn lent_step(table: &[u8], variables: &Variables, event: &[u8]) -> After {
+    lend(variables, |lent| raw::table_step(table, lent, event))
+}
+
+fn told(call: impl Fn(&mut [usize]) -> u32) -> Told {
+    let mut told = [usize::MAX; 2];
+    let number = call(&mut told);
+    let [start, end] = told;
+    Told { number, start, end }
+}
+
+fn run(call: impl Fn(&mut [usize]) -> u32) -> Run {
+    let mut told = [usize::MAX; 4];
+    let number = call(&mut told);
+    let [start, end, taken, clock] = told;
+    Run {
+        told: Told { number, start, end },
+        taken,
+        clock,
+    }
+}
+
+/// Lends variables, and some figures behind them, to a call.
+fn lend(variables: &Variables, call: impl Fn(&mut [i32]) -> u32) -> After {
+    let mut lent = [FIGURE; VARIABLES + BEHIND];
+    lent[..VARIABLES].copy_from_slice(variables);
+    let answer = call(&mut lent);
+    let (variables, behind) = lent.split_at(VARIABLES);
+    After {
+        answer,
+        variables: variables.try_into().expect("split there"),
+        behind: behind.try_into().expect("split there"),
+    }
+}
+
+/// The state after one event that comes after a script.
+fn model_after(model: &[u8], script: &[u8], event: &[u8]) -> After {
+    lend(&[FIGURE; VARIABLES], |lent| {
+        raw::model_after(model, script, event, lent)
+    })
+}
+
+fn model_steps(model: &[u8], script: &[u8], shown: &[usize]) -> Vec<Step> {
+    steps(script)
+        .filter(|(number, ..)| shown.binary_search(number).is_ok())
+        .map(|(number, start, event)| Step {
+            number,
+            start,
+            end: start + event.len(),
+            after: model_after(model, &script[..start], event),
+        })
+        .collect()
+}
+
+fn table_steps(table: &[u8], start: &Variables, script: &[u8]) -> Vec<Step> {
+    let mut variables = *start;
+    steps(script)
+        .map(|(number, start, event)| {
+            let after = lent_step(table, &variables, event);
+            variables = after.variables;
+            Step {
+                number,
+                start,
+                end: start + event.len(),
+                after,
+            }
+        })
+        .collect()
+}
+
+/// The events of a script with their numbers and where they start.
+fn steps(script: &[u8]) -> impl Iterator<Item = (usize, usize, &[u8])> {
+    let mut position = 0;
+    events(script).enumerate().map(move |(number, event)| {
+        let start = position;
+        position += event.len();
+        (number, start, event)
+    })
+}
+
+fn listings(rooms: &[usize], call: impl Fn(&mut [u8]) -> usize) -> Vec<Listing> {
+    rooms
+        .iter()
+        .map(|&room| {
+            let mut output = vec![BYTE; room];
+            let length = call(&mut output);
+            Listing { length, output }
+        })
+        .collect()
+}

@@ -1,0 +1,234 @@
+//! What the cases of a run came to, to show that they are not trivial.
+
+use std::collections::BTreeMap;
+use std::fmt::{self, Display, Formatter};
+
+use crate::answers::{
+    After, Said, Step, Translation, BEHAVIOR_STATE, FIRST_VALUE, MISSED, NOW, THREADS,
+};
+use crate::case::Case;
+use crate::records::{model_body, split};
+
+/// Counts; those in arrays go by number of refusal, 0 for none, or by kind of
+/// event.
+#[derive(Clone, Default)]
+pub struct Tally {
+    pub cases: u64,
+    pub models: [u64; 14],
+    pub tables: [u64; 14],
+    /// Translations into too little room or more.
+    pub translations: [u64; 14],
+    pub model_events: [u64; 14],
+    pub table_events: [u64; 14],
+    pub lent_steps: [u64; 14],
+    /// Events after which a model's state was looked at.
+    pub shown: u64,
+    /// Events taken by models, and by tables that no model made.
+    pub taken_by_models: [u64; 12],
+    pub taken_by_tables: [u64; 12],
+    /// Events taken by models after which a port, buffer or local has another
+    /// value.
+    pub moved: [u64; 12],
+    /// Runs of at least ten events without a refusal.
+    pub whole_runs: u64,
+    pub behavior_changes: u64,
+    /// The most and the greatest of all cases.
+    pub most_taken: u64,
+    pub latest_clock: u64,
+    pub most_missed: u64,
+    pub most_threads: u64,
+    pub longest_model: u64,
+    pub longest_made_table: u64,
+    /// How often each comparison was made.
+    pub comparisons: BTreeMap<&'static str, u64>,
+}
+
+impl Tally {
+    pub fn note_model(&mut self, case: &Case, wanted: &Said) {
+        self.models[wanted.read.number as usize] += 1;
+        if wanted.read.number != 0 {
+            return;
+        }
+        let made = case.made.as_ref().map_or(0, Vec::len);
+        self.shown += case.shown.len() as u64;
+        raise(&mut self.longest_model, case.model.len());
+        raise(&mut self.longest_made_table, made);
+        let threads = split(&case.model, model_body);
+        let threads = threads.iter().filter(|record| record[0] == 0x02);
+        raise(&mut self.most_threads, threads.count());
+        raise(&mut self.most_taken, wanted.run.taken);
+        self.whole_runs += u64::from(wanted.run.told.number == 0 && wanted.run.taken >= 10);
+        note_events(
+            &case.script,
+            &wanted.steps,
+            &mut self.model_events,
+            &mut self.taken_by_models,
+        );
+        self.note_changes(case, wanted);
+    }
+
+    fn note_changes(&mut self, case: &Case, wanted: &Said) {
+        let mut before = &wanted.start.variables;
+        for step in &wanted.steps {
+            let after = &step.after.variables;
+            let states = BEHAVIOR_STATE..BEHAVIOR_STATE + THREADS;
+            let changed = before[states.clone()] != after[states];
+            self.behavior_changes += u64::from(changed);
+            if before[FIRST_VALUE..] != after[FIRST_VALUE..] {
+                self.moved[usize::from(case.script[step.start])] += 1;
+            }
+            before = after;
+        }
+        raise(&mut self.latest_clock, before[NOW] as usize);
+        let missed = before[MISSED..MISSED + THREADS].iter().max();
+        raise(
+            &mut self.most_missed,
+            missed.map_or(0, |&most| most as usize),
+        );
+    }
+
+    pub fn note_translations(&mut self, wanted: &[Translation]) {
+        for translation in wanted {
+            self.translations[translation.told.number as usize] += 1;
+        }
+    }
+
+    pub fn note_table(&mut self, case: &Case, wanted: &Said) {
+        self.tables[wanted.read.number as usize] += 1;
+        note_events(
+            &case.table_script,
+            &wanted.steps,
+            &mut self.table_events,
+            &mut self.taken_by_tables,
+        );
+    }
+
+    pub fn note_lent_steps(&mut self, wanted: &[After]) {
+        for after in wanted {
+            self.lent_steps[after.answer as usize] += 1;
+        }
+    }
+
+    /// This tally and that of other cases together.
+    pub fn add(&mut self, other: &Tally) {
+        self.cases += other.cases;
+        add_each(&mut self.models, &other.models);
+        add_each(&mut self.tables, &other.tables);
+        add_each(&mut self.translations, &other.translations);
+        add_each(&mut self.model_events, &other.model_events);
+        add_each(&mut self.table_events, &other.table_events);
+        add_each(&mut self.lent_steps, &other.lent_steps);
+        add_each(&mut self.taken_by_models, &other.taken_by_models);
+        add_each(&mut self.taken_by_tables, &other.taken_by_tables);
+        add_each(&mut self.moved, &other.moved);
+        self.shown += other.shown;
+        self.whole_runs += other.whole_runs;
+        self.behavior_changes += other.behavior_changes;
+        self.most_taken = self.most_taken.max(other.most_taken);
+        self.latest_clock = self.latest_clock.max(other.latest_clock);
+        self.most_missed = self.most_missed.max(other.most_missed);
+        self.most_threads = self.most_threads.max(other.most_threads);
+        self.longest_model = self.longest_model.max(other.longest_model);
+        self.longest_made_table = self.longest_made_table.max(other.longest_made_table);
+        for (comparison, count) in &other.comparisons {
+            *self.comparisons.entry(comparison).or_default() += count;
+        }
+    }
+}
+
+fn note_events(script: &[u8], steps: &[Step], answers: &mut [u64], taken: &mut [u64]) {
+    for step in steps {
+        answers[step.after.answer as usize] += 1;
+        if step.after.answer == 0 {
+            taken[usize::from(script[step.start])] += 1;
+        }
+    }
+}
+
+fn add_each(counts: &mut [u64], others: &[u64]) {
+    for (count, other) in counts.iter_mut().zip(others) {
+        *count += other;
+    }
+}
+
+fn raise(most: &mut u64, figure: usize) {
+    *most = (*most).max(figure as u64);
+}
+
+impl Display for Tally {
+    fn fmt(&self, formatter: &mut Formatter) -> fmt::Result {
+        writeln!(formatter, "{} cases", self.cases)?;
+        let by_number = [
+            ("models", &self.models),
+            ("translations", &self.translations),
+            ("tables", &self.tables),
+            ("events on models", &self.model_events),
+            ("events on tables", &self.table_events),
+            ("single steps on lent variables", &self.lent_steps),
+        ];
+        for (what, counts) in by_number {
+            writeln!(formatter, "{what}: {}", numbers(counts))?;
+        }
+        for (what, counts) in [
+            ("taken by models", &self.taken_by_models),
+            ("of these moved a value", &self.moved),
+            ("taken by tables", &self.taken_by_tables),
+        ] {
+            writeln!(formatter, "{what}: {}", kinds(counts))?;
+        }
+        writeln!(
+            formatter,
+            "states of models looked at: {}; whole runs of ten events or more: {}; \
+             changes of a behaviour state: {}",
+            self.shown, self.whole_runs, self.behavior_changes
+        )?;
+        writeln!(
+            formatter,
+            "most: {} events taken, clock {}, Missed {}, {} threads, {} bytes of model, {} of made table",
+            self.most_taken,
+            self.latest_clock,
+            self.most_missed,
+            self.most_threads,
+            self.longest_model,
+            self.longest_made_table
+        )?;
+        let comparisons: Vec<String> = self
+            .comparisons
+            .iter()
+            .map(|(comparison, count)| format!("{comparison} {count}"))
+            .collect();
+        writeln!(formatter, "compared: {}", comparisons.join(", "))
+    }
+}
+
+fn numbers(counts: &[u64]) -> String {
+    let mut text = format!("{} accepted", counts[0]);
+    for (number, count) in counts.iter().enumerate().skip(1) {
+        if *count > 0 {
+            text += &format!(", {count} refused with {number}");
+        }
+    }
+    text
+}
+
+/// The kinds that there were.
+fn kinds(counts: &[u64]) -> String {
+    let names = [
+        "ACTIVATE",
+        "DEACTIVATE",
+        "DISPATCH",
+        "START",
+        "COMPLETE",
+        "DEADLINE",
+        "MISS",
+        "REQUEST",
+        "ENTER",
+        "LEAVE",
+        "TICK",
+    ];
+    let named = names.iter().zip(&counts[1..]).filter(|named| *named.1 > 0);
+    let texts: Vec<String> = named
+        .map(|(name, count)| format!("{name} {count}"))
+        .collect();
+    texts.join(", ")
+}

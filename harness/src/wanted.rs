@@ -1,0 +1,205 @@
+//! What the plain model says of an input.
+
+use plain::model::{self, Model, State};
+use plain::refusal::{Refusal, EVENT};
+use plain::script::{self, Event, TICK};
+use plain::table::{self, Table};
+use plain::{listing, show, translate};
+
+use crate::answers::{
+    After, Listing, Run, Said, Step, Told, Translation, Variables, BEHIND, BYTE, DUE, END, FIGURE,
+    NOW, THREADS, VARIABLES,
+};
+
+/// All that is to be said of a model and a script. The listing goes into an
+/// output with room behind it and, with `more_rooms`, one that is too short.
+pub fn of_model(bytes: &[u8], script: &[u8], more_rooms: bool) -> Said {
+    let listings = into_rooms(listing::steps(bytes, script).as_bytes(), more_rooms);
+    match model::read(bytes) {
+        Err(refusal) => refused(refusal, listings),
+        Ok(model) => {
+            let start = model::start_state(&model);
+            let step = |state: &State, event: &Event| model::step(&model, state, event);
+            let shown = |state: &State| show_without_times(&model, state);
+            Said {
+                read: Told::default(),
+                // It is shown by an empty event, which is refused.
+                start: after(EVENT, shown(&start)),
+                steps: steps(script, start.clone(), step, shown),
+                run: run(script, start, step, |state| state.now.0 as usize),
+                listings,
+            }
+        }
+    }
+}
+
+/// All that is to be said of a table and a script.
+pub fn of_table(bytes: &[u8], script: &[u8], more_rooms: bool) -> Said {
+    match table::read(bytes) {
+        Err(refusal) => {
+            let line = format!("end 0 {} 0\n", refusal.number);
+            refused(refusal, into_rooms(line.as_bytes(), more_rooms))
+        }
+        Ok(table) => {
+            let start = table::start_state(&table);
+            let step = |state: &Variables, event: &Event| table::step(&table, state, event);
+            let steps = steps(script, start, step, |state| *state);
+            let run = run(script, start, step, |state| state[NOW] as usize);
+            let listings = into_rooms(lines(script, &steps, &run).as_bytes(), more_rooms);
+            Said {
+                read: Told::default(),
+                start: after(0, start),
+                steps,
+                run,
+                listings,
+            }
+        }
+    }
+}
+
+/// The same with the listing that the program `rules` prints for the model where
+/// it has room for every table.
+pub fn of_rules(made: &[u8], model: &[u8], script: &[u8], more_rooms: bool) -> Said {
+    let listing = listing::rules(model, script, usize::MAX);
+    Said {
+        listings: into_rooms(listing.as_bytes(), more_rooms),
+        ..of_table(made, script, more_rooms)
+    }
+}
+
+/// The table made from a model, into an output of some room.
+pub fn translation(model: &[u8], room: usize) -> Translation {
+    match translate::translate(model, room) {
+        Err(refusal) => Translation {
+            told: told(Some(refusal)),
+            length: 0,
+            output: vec![BYTE; room],
+        },
+        Ok(table) => Translation {
+            told: Told::default(),
+            length: table.len(),
+            output: into_room(&table, room),
+        },
+    }
+}
+
+/// One event of its own, on variables of its own.
+pub fn lent_step(table: &Table, variables: &Variables, event: &[u8]) -> After {
+    if event.is_empty() {
+        // No bytes are no event; the plain model asks only where there are some.
+        return after(EVENT, *variables);
+    }
+    let mut state = *variables;
+    let answer = script::answer_one(event, 0, &mut state, |state, event| {
+        table::step(table, state, event)
+    });
+    after(answer.number, state)
+}
+
+fn told(refusal: Option<Refusal>) -> Told {
+    refusal.map_or(Told::default(), |refusal| Told {
+        number: refusal.number.into(),
+        start: refusal.start,
+        end: refusal.end,
+    })
+}
+
+fn after(answer: u8, variables: Variables) -> After {
+    After {
+        answer: answer.into(),
+        variables,
+        behind: [FIGURE; BEHIND],
+    }
+}
+
+/// A refused model or table starts nothing and takes nothing.
+fn refused(refusal: Refusal, listings: Vec<Listing>) -> Said {
+    Said {
+        read: told(Some(refusal)),
+        start: after(refusal.number, [FIGURE; VARIABLES]),
+        steps: Vec::new(),
+        run: Run {
+            told: told(Some(refusal)),
+            ..Run::default()
+        },
+        listings,
+    }
+}
+
+/// The library shows a model's state without Due and End, which it computes
+/// where it needs them.
+fn show_without_times(model: &Model, state: &State) -> Variables {
+    let mut variables = show::show(model, state);
+    variables[DUE..DUE + THREADS].fill(0);
+    variables[END..END + THREADS].fill(0);
+    variables
+}
+
+fn steps<S>(
+    script: &[u8],
+    mut state: S,
+    step: impl Fn(&S, &Event) -> Result<S, u8>,
+    shown: impl Fn(&S) -> Variables,
+) -> Vec<Step> {
+    let mut steps = Vec::new();
+    script::run_on(script, &mut state, step, |answer, state| {
+        steps.push(Step {
+            number: steps.len(),
+            start: answer.start,
+            end: answer.end,
+            after: after(answer.number, shown(state)),
+        });
+    });
+    steps
+}
+
+fn run<S>(
+    script: &[u8],
+    mut state: S,
+    step: impl Fn(&S, &Event) -> Result<S, u8>,
+    clock: impl Fn(&S) -> usize,
+) -> Run {
+    let (taken, refusal) = script::run(script, &mut state, step, |_, _| ());
+    Run {
+        told: told(refusal),
+        taken,
+        clock: clock(&state),
+    }
+}
+
+/// The listing of a table that no model made; the plain model itself lists made
+/// tables only.
+fn lines(script: &[u8], steps: &[Step], run: &Run) -> String {
+    let mut lines = String::new();
+    for step in steps.iter().take(run.taken) {
+        let (kind, id_or_n) = match script[step.start..step.end] {
+            [TICK, low, high] => (TICK, u16::from_le_bytes([low, high])),
+            [kind, id, ..] => (kind, id.into()),
+            _ => continue,
+        };
+        let (number, clock) = (step.number + 1, step.after.variables[NOW]);
+        lines += &format!("{number} {clock} {kind} {id_or_n}\n");
+    }
+    lines + &format!("end {} {} {}\n", run.taken, run.told.number, run.clock)
+}
+
+fn into_rooms(listing: &[u8], more_rooms: bool) -> Vec<Listing> {
+    let length = listing.len();
+    let rooms = if more_rooms {
+        vec![length + 5, length - 2, 0]
+    } else {
+        vec![length + 5]
+    };
+    let into = |room| Listing {
+        length,
+        output: into_room(listing, room),
+    };
+    rooms.into_iter().map(into).collect()
+}
+
+/// As many of the bytes as there is room for, and nothing behind them.
+fn into_room(bytes: &[u8], room: usize) -> Vec<u8> {
+    let mut output = bytes[..bytes.len().min(room)].to_vec();
+    output.resize(room, BYTE);
+    output
+}

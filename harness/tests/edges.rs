@@ -1,0 +1,217 @@
+//! Inputs of all kinds with one thing changed, every way in turn: each byte,
+//! each wider field at the ends of ranges, each record dropped, doubled or
+//! moved, each cut. Library and plain model read all of them alike.
+
+use harness::records::{fields, model_body, split, table_body, Record};
+use harness::{compare, found, wanted};
+
+/// A model with all kinds of records, small enough to change it everywhere.
+fn model() -> Vec<u8> {
+    let thread = |period: u32, mask: u8| {
+        let mut record = vec![0x02];
+        for figure in [period, 4, 1, 2] {
+            record.extend(figure.to_le_bytes());
+        }
+        record.extend([mask, 1, 0]);
+        record
+    };
+    let records: [&[u8]; 17] = [
+        &[0x01, 2, 0],
+        &thread(4, 3),
+        // With 1,000,000 the least common multiple is just too great.
+        &thread(1_001, 1),
+        &[0x03, 1],
+        &[0x03, 0],
+        &[0x04, 0],
+        &[0x04, 1],
+        &[0x05, 0, 5, 0, 0, 0],
+        &[0x05, 1, 0xFF, 0xFF, 0xFF, 0xFF],
+        &[0x06, 0, 0, 0, 3],
+        &[0x06, 1, 1, 1, 1],
+        &[0x07, 0, 1],
+        &[0x08, 0, 0, 1],
+        &[0x09, 2, 1, 1, 2, 0, 0, 0, 0],
+        &[0x0A, 3, 0, 1, 2, 0, 0, 0, 0, 0, 7, 0, 0, 0],
+        &[0x0A, 2, 0, 0, 1, 1, 0, 0, 0, 0, 0, 0, 0, 0],
+        &[0x08, 1, 7, 7],
+    ];
+    records.concat()
+}
+
+/// A table with all kinds of records and operands.
+fn table() -> Vec<u8> {
+    let records: [&[u8]; 11] = [
+        &[0x20, 1, 0, 5, 0, 0, 0],
+        &[0x20, 31, 1, 0, 0, 0, 128],
+        &[0x21, 0x04, 0, 1, 0, 0, 0, 9, 0, 0, 0],
+        &[0x22],
+        &[0x23, 0, 1, 0, 0, 5, 0, 0, 0],
+        &[0x23, 6, 0, 0, 0, 4, 0, 0, 0],
+        &[0x22],
+        &[0x24, 255, 255, 0, 2, 0, 1, 1, 0, 0, 0, 0, 2, 0, 0, 0, 0],
+        &[0x24, 1, 0, 5, 31, 1, 2, 0, 1, 0, 0, 0, 1, 31, 1, 0, 0],
+        &[0x21, 0x0A, 255, 0, 0, 0, 0, 0, 0, 0, 0],
+        &[0x24, 1, 0, 5, 31, 1, 2, 0, 1, 0, 0, 0, 1, 31, 1, 0, 0],
+    ];
+    records.concat()
+}
+
+/// Events of all kinds.
+const SCRIPT: &[u8] = &[
+    0x01, 0, 0x0B, 1, 0, 0x03, 0, 0x04, 0, 1, 0, 0, 0, 0x08, 0, 0x0B, 1, 0, 0x05, 0, 0x02, 0, 0x09,
+    0, 0x0B, 3, 0, 0x06, 0, 0x07, 0, 0x0A, 0,
+];
+
+fn every_byte(bytes: &[u8]) -> impl Iterator<Item = Vec<u8>> + '_ {
+    (0..bytes.len()).flat_map(move |at| {
+        (0..=255).map(move |value| {
+            let mut changed = bytes.to_vec();
+            changed[at] = value;
+            changed
+        })
+    })
+}
+
+fn every_cut(bytes: &[u8]) -> impl Iterator<Item = Vec<u8>> + '_ {
+    (0..=bytes.len()).map(|length| bytes[..length].to_vec())
+}
+
+/// Every field of more than one byte takes values at ends of ranges.
+fn every_wide_field(records: Vec<Record>) -> Vec<Vec<u8>> {
+    let ends: [i32; 24] = [
+        0,
+        1,
+        2,
+        3,
+        4,
+        5,
+        6,
+        7,
+        -1,
+        287,
+        288,
+        289,
+        65_534,
+        65_535,
+        999_999,
+        1_000_000,
+        1_000_001,
+        999_999_999,
+        1_000_000_000,
+        1_000_000_001,
+        i32::MAX,
+        i32::MIN,
+        256,
+        512,
+    ];
+    let mut changed = Vec::new();
+    for at in 0..records.len() {
+        let mut start = 1;
+        for &width in fields(records[at][0]) {
+            for end in ends.iter().filter(|_| width > 1) {
+                let mut copy = records.clone();
+                copy[at][start..start + width].copy_from_slice(&end.to_le_bytes()[..width]);
+                changed.push(copy.concat());
+            }
+            start += width;
+        }
+    }
+    changed
+}
+
+/// Every record is dropped, or stands a second time at every place.
+fn every_move(records: Vec<Record>) -> Vec<Vec<u8>> {
+    let mut changed = Vec::new();
+    for at in 0..records.len() {
+        for place in 0..=records.len() {
+            let mut copy = records.clone();
+            copy.insert(place, records[at].clone());
+            changed.push(copy.concat());
+            // The first one goes.
+            copy.remove(if place <= at { at + 1 } else { at });
+            changed.push(copy.concat());
+        }
+        let mut copy = records.clone();
+        copy.remove(at);
+        changed.push(copy.concat());
+    }
+    changed
+}
+
+/// What the refusal of each input came to, by number.
+type Counts = [usize; 8];
+
+fn agree_on_model(counts: &mut Counts, bytes: &[u8]) {
+    let wanted = wanted::of_model(bytes, &[], false);
+    let found = found::of_model(bytes, &[], &[], &[]);
+    compare::reading(&wanted.read, &found.read).unwrap_or_else(|how| panic!("{how}: {bytes:02x?}"));
+    counts[wanted.read.number as usize] += 1;
+    if wanted.read.number == 0 {
+        let room = futonkestrel::ROOM_FOR_TABLE;
+        let made = plain::translate::translate(bytes, room).expect("accepted");
+        assert_eq!(
+            futonkestrel::translate_to_vec(bytes),
+            Ok(made),
+            "{bytes:02x?}"
+        );
+    }
+}
+
+fn agree_on_table(counts: &mut Counts, bytes: &[u8]) {
+    let wanted = wanted::of_table(bytes, SCRIPT, false);
+    let found = found::of_table(bytes, SCRIPT, &[]);
+    compare::reading(&wanted.read, &found.read)
+        .and_then(|()| compare::start(&wanted.start, &found.start))
+        .and_then(|()| compare::answers(&wanted.steps, &found.steps))
+        .and_then(|()| compare::variables(&wanted.steps, &found.steps))
+        .unwrap_or_else(|how| panic!("{how}: {bytes:02x?}"));
+    counts[wanted.read.number as usize] += 1;
+}
+
+fn agree_on_script(script: &[u8]) {
+    let model = model();
+    let wanted = wanted::of_model(&model, script, false);
+    let found = found::of_model(&model, script, &[], &[]);
+    let parts = found::part_lengths(script);
+    compare::event_parts(&wanted.steps, &parts)
+        .and_then(|()| compare::run(&wanted.run, &found.run))
+        .unwrap_or_else(|how| panic!("{how}: {script:02x?}"));
+}
+
+#[test]
+fn models_with_one_thing_changed() {
+    let bytes = model();
+    let records = split(&bytes, model_body);
+    let mut counts = Counts::default();
+    every_byte(&bytes)
+        .chain(every_cut(&bytes))
+        .chain(every_wide_field(records.clone()))
+        .chain(every_move(records))
+        .for_each(|changed| agree_on_model(&mut counts, &changed));
+    // Nothing of this makes an item too many.
+    for number in [0, 1, 2, 4, 5, 6, 7] {
+        assert!(counts[number] >= 1, "{counts:?}");
+    }
+}
+
+#[test]
+fn tables_with_one_thing_changed() {
+    let bytes = table();
+    let records = split(&bytes, table_body);
+    let mut counts = Counts::default();
+    every_byte(&bytes)
+        .chain(every_cut(&bytes))
+        .chain(every_wide_field(records.clone()))
+        .chain(every_move(records))
+        .for_each(|changed| agree_on_table(&mut counts, &changed));
+    for number in [0, 1, 2, 4] {
+        assert!(counts[number] >= 1, "{counts:?}");
+    }
+}
+
+#[test]
+fn scripts_with_one_thing_changed() {
+    every_byte(SCRIPT)
+        .chain(every_cut(SCRIPT))
+        .for_each(|changed| agree_on_script(&changed));
+}

@@ -1,0 +1,160 @@
+//! Comparisons that no fault of the plain model can fail: each is handed
+//! something that a wrong library would have left.
+
+use harness::answers::{After, Listing, Said, Step, Told, Translation};
+use harness::answers::{BEHIND, BYTE, FIGURE, VARIABLES};
+use harness::{compare, found};
+
+fn listing(length: usize, output: &[u8]) -> Vec<Listing> {
+    vec![Listing {
+        length,
+        output: output.to_vec(),
+    }]
+}
+
+#[test]
+fn listing_room() {
+    assert!(compare::listing_room(&listing(2, &[1, 2, BYTE, BYTE])).is_ok());
+    assert!(compare::listing_room(&listing(9, &[1, 2])).is_ok());
+    assert!(compare::listing_room(&listing(2, &[1, 2, BYTE, 0])).is_err());
+}
+
+fn translation(number: u32, length: usize, output: &[u8]) -> Vec<Translation> {
+    vec![Translation {
+        told: Told {
+            number,
+            ..Told::default()
+        },
+        length,
+        output: output.to_vec(),
+    }]
+}
+
+#[test]
+fn translation_room() {
+    assert!(compare::translation_room(&translation(0, 1, &[1, BYTE])).is_ok());
+    assert!(compare::translation_room(&translation(0, 1, &[1, 0])).is_err());
+    assert!(compare::translation_room(&translation(8, 0, &[BYTE, BYTE])).is_ok());
+    assert!(compare::translation_room(&translation(8, 0, &[1, BYTE])).is_err());
+}
+
+/// Refused, with nothing touched.
+fn untouched() -> After {
+    After {
+        answer: 10,
+        variables: [7; VARIABLES],
+        behind: [FIGURE; BEHIND],
+    }
+}
+
+/// The same with the last figure behind the variables written.
+fn written_behind() -> After {
+    let mut after = untouched();
+    after.behind[BEHIND - 1] = 0;
+    after
+}
+
+#[test]
+fn figures_behind_the_variables() {
+    let step = |after: After| {
+        [Step {
+            number: 0,
+            start: 0,
+            end: 2,
+            after,
+        }]
+    };
+    let (good, bad) = (untouched(), written_behind());
+    assert!(compare::start(&good, &good).is_ok());
+    assert!(compare::start(&good, &bad).is_err());
+    assert!(compare::variables(&step(good.clone()), &step(good.clone())).is_ok());
+    assert!(compare::variables(&step(good.clone()), &step(bad.clone())).is_err());
+    let (good, bad) = ([good], [bad]);
+    assert!(compare::lent_steps(&good, &good).is_ok());
+    assert!(compare::lent_steps(&good, &bad).is_err());
+}
+
+#[test]
+fn any_step() {
+    let before = [7; VARIABLES];
+    assert!(compare::any_step(&before, &untouched()).is_ok());
+    assert!(compare::any_step(&before, &written_behind()).is_err());
+    assert!(compare::any_step(&[6; VARIABLES], &untouched()).is_err());
+    let answered = |answer| After {
+        answer,
+        ..untouched()
+    };
+    assert!(compare::any_step(&[6; VARIABLES], &answered(0)).is_ok());
+    assert!(compare::any_step(&before, &answered(8)).is_err());
+    assert!(compare::any_step(&before, &answered(14)).is_err());
+}
+
+/// One thread of a Period, a Deadline, Min 1, Max 5; and an input port.
+fn model(period: u8, deadline: u8) -> Vec<u8> {
+    let mut model = vec![0x01, 1, 0, 0x02];
+    for figure in [period, deadline, 1, 5] {
+        model.extend([figure, 0, 0, 0]);
+    }
+    model.extend([1, 0, 0, 0x03, 0]);
+    model
+}
+
+/// ACTIVATE, DISPATCH, START 2, TICK 2, COMPLETE, TICK 2, DEADLINE.
+const SCRIPT: &[u8] = &[
+    0x01, 0, 0x03, 0, 0x04, 0, 2, 0, 0, 0, 0x0B, 2, 0, 0x05, 0, 0x0B, 2, 0, 0x06, 0,
+];
+
+fn of_model() -> Said {
+    found::of_model(&model(5, 4), SCRIPT, &[0, 1, 2, 3, 4, 5, 6], &[200])
+}
+
+fn of_table(table: &[u8]) -> Said {
+    found::of_table(table, SCRIPT, &[200])
+}
+
+fn made(model: &[u8]) -> Vec<u8> {
+    futonkestrel::translate_to_vec(model).expect("the model is accepted")
+}
+
+/// Demand 3 between the model and what a table would have said.
+fn agree(of_table: &Said) -> compare::Check {
+    compare::demand_three(&model(5, 4), SCRIPT, &of_model(), of_table)
+}
+
+#[test]
+fn demand_three_holds() {
+    let of_table = of_table(&made(&model(5, 4)));
+    assert_eq!(of_table.run.taken, 7);
+    agree(&of_table).expect("model and table agree");
+}
+
+#[test]
+fn demand_three_fails_for_the_table_of_another_model() {
+    // Another Due; another answer; another state at the start.
+    let due = agree(&of_table(&made(&model(5, 3)))).expect_err("another Due");
+    assert!(due.contains("variable 64"), "{due}");
+    let answer = agree(&of_table(&[])).expect_err("no rule");
+    assert!(answer.contains("variable 3 at the start"), "{answer}");
+    let mut events = made(&model(5, 4));
+    events.truncate(28);
+    agree(&of_table(&events)).expect_err("starts without rules");
+}
+
+#[test]
+fn demand_three_fails_for_any_other_figure() {
+    let spoil = |spoil: fn(&mut Said)| {
+        let mut of_table = of_table(&made(&model(5, 4)));
+        spoil(&mut of_table);
+        agree(&of_table).expect_err("spoiled")
+    };
+    // End while the thread runs, Due from the dispatch on, a port, a part.
+    spoil(|said| said.steps[2].after.variables[80] += 1);
+    spoil(|said| said.steps[1].after.variables[64] += 1);
+    spoil(|said| said.steps[6].after.variables[160] = 1);
+    spoil(|said| said.steps[4].end += 1);
+    spoil(|said| said.steps[5].after.answer = 10);
+    spoil(|said| said.steps.truncate(6));
+    spoil(|said| said.run.clock += 1);
+    spoil(|said| said.run.taken -= 1);
+    spoil(|said| said.listings[0].output[0] = b'2');
+}

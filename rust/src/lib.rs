@@ -1,0 +1,224 @@
+//! Timing models and rule tables: safe functions over the verified library.
+//!
+//! A model, a table and a script (a list of events) are bytes, laid out as
+//! document 01 says. Reading is total: any bytes are accepted, or refused with a
+//! number and the part of the input that it concerns.
+//!
+//! * [`read_model`], [`read_table`]: is this an accepted model or table?
+//! * [`translate`], [`translate_to_vec`]: the table made from a model
+//! * [`run_model`], [`run_table`]: a script up to its first refused event
+//! * [`model_listing`], [`table_listing`]: the lines of such a run
+//! * [`Table`]: one event after another on variables of one's own, in any order
+//! * [`raw`]: the same functions with outputs of any length
+
+pub mod raw;
+
+/// A refusal by its number in document 01, and the part that it returns, from
+/// offset `start` up to but not with `end`. The part lies in the model or table
+/// for numbers 1 to 8, and in the script for 9 to 13.
+#[derive(Clone, Copy, Debug, PartialEq, Eq)]
+pub struct Refusal {
+    pub number: u32,
+    pub start: usize,
+    pub end: usize,
+}
+
+impl Refusal {
+    /// `Err` where a number was told, else `Ok`.
+    fn unless_zero(number: u32, start: usize, end: usize) -> Result<(), Refusal> {
+        match number {
+            0 => Ok(()),
+            _ => Err(Refusal { number, start, end }),
+        }
+    }
+}
+
+/// A run up to its end or to its first refusal.
+#[derive(Clone, Copy, Debug, PartialEq, Eq)]
+pub struct Run {
+    /// What stopped the run. A refused model or table takes no event.
+    pub refusal: Option<Refusal>,
+    /// The events taken before the refused one, or all.
+    pub taken: usize,
+    /// The clock at the end.
+    pub clock: u32,
+}
+
+impl Run {
+    fn told(number: u32, told: [usize; 4]) -> Run {
+        let [start, end, taken, clock] = told;
+        Run {
+            refusal: Refusal::unless_zero(number, start, end).err(),
+            taken,
+            clock: u32::try_from(clock).expect("no clock passes 1,000,000,000"),
+        }
+    }
+}
+
+/// How many variables a table has.
+pub const VARIABLES: usize = 288;
+
+/// The state of a table. Variable 0 is the clock.
+pub type Variables = [i32; VARIABLES];
+
+/// Room that suffices for the table of every accepted model.
+pub const ROOM_FOR_TABLE: usize = 394_304;
+
+/// Reads a model.
+pub fn read_model(model: &[u8]) -> Result<(), Refusal> {
+    let mut told = [0; 2];
+    let number = raw::read_model(model, &mut told);
+    Refusal::unless_zero(number, told[0], told[1])
+}
+
+/// Reads a table. The empty table is accepted.
+pub fn read_table(table: &[u8]) -> Result<(), Refusal> {
+    let mut told = [0; 2];
+    let number = raw::read_table(table, &mut told);
+    Refusal::unless_zero(number, told[0], told[1])
+}
+
+/// Writes the table made from a model to the start of `output`, and gives its
+/// length. Refusal 8 means that `output` is too short. A refusal leaves `output`
+/// as it was.
+pub fn translate(model: &[u8], output: &mut [u8]) -> Result<usize, Refusal> {
+    let mut told = [0; 3];
+    let number = raw::translate(model, output, &mut told);
+    let [start, end, length] = told;
+    Refusal::unless_zero(number, start, end).map(|()| length)
+}
+
+/// The table made from a model.
+pub fn translate_to_vec(model: &[u8]) -> Result<Vec<u8>, Refusal> {
+    let mut table = vec![0; ROOM_FOR_TABLE];
+    let length = translate(model, &mut table)?;
+    table.truncate(length);
+    table.shrink_to_fit();
+    Ok(table)
+}
+
+/// The lines of a model's run: one for each event taken, then the last one. A
+/// refused model has the last line alone.
+pub fn model_listing(model: &[u8], script: &[u8]) -> Vec<u8> {
+    whole_listing(|output| raw::model_listing(model, script, output))
+}
+
+/// As much of [`model_listing`] as `output` has room for. The result is the
+/// length of the whole listing.
+pub fn model_listing_into(model: &[u8], script: &[u8], output: &mut [u8]) -> usize {
+    raw::model_listing(model, script, output)
+}
+
+/// The lines of a table's run, as [`model_listing`].
+pub fn table_listing(table: &[u8], script: &[u8]) -> Vec<u8> {
+    whole_listing(|output| raw::table_listing(table, script, output))
+}
+
+/// As much of [`table_listing`] as `output` has room for. The result is the
+/// length of the whole listing.
+pub fn table_listing_into(table: &[u8], script: &[u8], output: &mut [u8]) -> usize {
+    raw::table_listing(table, script, output)
+}
+
+/// Asks for the length of a listing, then for all of it.
+fn whole_listing(list: impl Fn(&mut [u8]) -> usize) -> Vec<u8> {
+    let mut listing = vec![0; list(&mut [])];
+    list(&mut listing);
+    listing
+}
+
+/// Runs a script on a model up to the first refused event.
+pub fn run_model(model: &[u8], script: &[u8]) -> Run {
+    let mut told = [0; 4];
+    let number = raw::run_model(model, script, &mut told);
+    Run::told(number, told)
+}
+
+/// Runs a script on a table up to the first refused event.
+pub fn run_table(table: &[u8], script: &[u8]) -> Run {
+    let mut told = [0; 4];
+    let number = raw::run_table(table, script, &mut told);
+    Run::told(number, told)
+}
+
+/// Runs a script on a model from its start, going on after refused events, then
+/// gives `event` to the state left: the number of a refused model, with the
+/// variables as they were, or the answer to the event. The variables then hold
+/// what each of the table's variables stands for afterwards; Due and End are 0
+/// there. An empty event is refused with 9 and so shows the state after the
+/// script.
+pub fn model_after(model: &[u8], script: &[u8], event: &[u8], variables: &mut Variables) -> u32 {
+    raw::model_after(model, script, event, variables)
+}
+
+/// The length of the part at the start of a script: a whole event, or the rest
+/// of the script where it is cut or of unknown kind; 0 for an empty script.
+pub fn event_length(script: &[u8]) -> usize {
+    raw::event_length(script)
+}
+
+/// The parts of a script, one for each event. Together they are the script.
+pub fn events(script: &[u8]) -> Events<'_> {
+    Events { rest: script }
+}
+
+/// See [`events`].
+#[derive(Clone, Debug)]
+pub struct Events<'a> {
+    rest: &'a [u8],
+}
+
+impl<'a> Iterator for Events<'a> {
+    type Item = &'a [u8];
+
+    fn next(&mut self) -> Option<&'a [u8]> {
+        let (event, rest) = self.rest.split_at(event_length(self.rest));
+        self.rest = rest;
+        (!event.is_empty()).then_some(event)
+    }
+}
+
+/// An accepted table, to be run event by event on variables that the caller
+/// keeps. So a checker can go back to any state and try another order of events.
+#[derive(Clone, Copy, Debug)]
+pub struct Table<'a> {
+    bytes: &'a [u8],
+}
+
+impl<'a> Table<'a> {
+    /// Reads a table.
+    pub fn read(bytes: &'a [u8]) -> Result<Table<'a>, Refusal> {
+        read_table(bytes).map(|()| Table { bytes })
+    }
+
+    /// The bytes that were read.
+    pub fn bytes(&self) -> &'a [u8] {
+        self.bytes
+    }
+
+    /// The variables before any event.
+    pub fn start(&self) -> Variables {
+        let mut variables = [0; VARIABLES];
+        raw::table_start(self.bytes, &mut variables);
+        variables
+    }
+
+    /// Gives one event to the table. A refused event, told by its number from 9
+    /// to 13, leaves the variables as they were.
+    pub fn step(&self, variables: &mut Variables, event: &[u8]) -> Result<(), u32> {
+        match raw::table_step(self.bytes, variables, event) {
+            0 => Ok(()),
+            number => Err(number),
+        }
+    }
+
+    /// Runs a script from the start up to the first refused event.
+    pub fn run(&self, script: &[u8]) -> Run {
+        run_table(self.bytes, script)
+    }
+
+    /// The lines of such a run.
+    pub fn listing(&self, script: &[u8]) -> Vec<u8> {
+        table_listing(self.bytes, script)
+    }
+}

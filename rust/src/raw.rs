@@ -1,0 +1,245 @@
+//! The library's functions as they stand, over slices of any length.
+//!
+//! All of them are total: any bytes are read, any number is told, and an output
+//! that is too short is a case of its own. Numbers of refusals are those of
+//! document 01, 0 where nothing is refused. What is told goes to `told` as far
+//! as it has places; places behind stay as they were.
+
+extern "C" {
+    fn fk_read_model(
+        model: *const u8,
+        model_length: usize,
+        told: *mut usize,
+        told_length: usize,
+    ) -> u32;
+    fn fk_read_table(
+        table: *const u8,
+        table_length: usize,
+        told: *mut usize,
+        told_length: usize,
+    ) -> u32;
+    fn fk_translate(
+        model: *const u8,
+        model_length: usize,
+        output: *mut u8,
+        output_length: usize,
+        told: *mut usize,
+        told_length: usize,
+    ) -> u32;
+    fn fk_model_listing(
+        model: *const u8,
+        model_length: usize,
+        script: *const u8,
+        script_length: usize,
+        output: *mut u8,
+        output_length: usize,
+    ) -> usize;
+    fn fk_table_listing(
+        table: *const u8,
+        table_length: usize,
+        script: *const u8,
+        script_length: usize,
+        output: *mut u8,
+        output_length: usize,
+    ) -> usize;
+    fn fk_run_model(
+        model: *const u8,
+        model_length: usize,
+        script: *const u8,
+        script_length: usize,
+        told: *mut usize,
+        told_length: usize,
+    ) -> u32;
+    fn fk_run_table(
+        table: *const u8,
+        table_length: usize,
+        script: *const u8,
+        script_length: usize,
+        told: *mut usize,
+        told_length: usize,
+    ) -> u32;
+    fn fk_event_length(script: *const u8, script_length: usize) -> usize;
+    fn fk_table_start(
+        table: *const u8,
+        table_length: usize,
+        variables: *mut i32,
+        variables_length: usize,
+    ) -> u32;
+    fn fk_table_step(
+        table: *const u8,
+        table_length: usize,
+        variables: *mut i32,
+        variables_length: usize,
+        event: *const u8,
+        event_length: usize,
+    ) -> u32;
+    fn fk_model_after(
+        model: *const u8,
+        model_length: usize,
+        script: *const u8,
+        script_length: usize,
+        event: *const u8,
+        event_length: usize,
+        variables: *mut i32,
+        variables_length: usize,
+    ) -> u32;
+}
+
+// Each call below hands over pointer and count of slices, which are valid for
+// that count; a written slice is borrowed alone, so it overlaps no other.
+
+/// Reads a model. The result is 0 to 7; told are start and end of the part
+/// refused.
+pub fn read_model(model: &[u8], told: &mut [usize]) -> u32 {
+    // SAFETY: pointers and counts are those of slices.
+    unsafe { fk_read_model(model.as_ptr(), model.len(), told.as_mut_ptr(), told.len()) }
+}
+
+/// Reads a table. The result is 0 to 4; told are start and end of the part
+/// refused.
+pub fn read_table(table: &[u8], told: &mut [usize]) -> u32 {
+    // SAFETY: pointers and counts are those of slices.
+    unsafe { fk_read_table(table.as_ptr(), table.len(), told.as_mut_ptr(), told.len()) }
+}
+
+/// Writes the table made from a model to the start of `output`. The result is 0
+/// to 8; told are start and end of the part refused, and the bytes written.
+/// Where it is refused, `output` stays as it was.
+pub fn translate(model: &[u8], output: &mut [u8], told: &mut [usize]) -> u32 {
+    // SAFETY: pointers and counts are those of slices.
+    unsafe {
+        fk_translate(
+            model.as_ptr(),
+            model.len(),
+            output.as_mut_ptr(),
+            output.len(),
+            told.as_mut_ptr(),
+            told.len(),
+        )
+    }
+}
+
+/// Writes as much of the listing of a model's run as `output` has room for. The
+/// result is the length of the whole listing.
+pub fn model_listing(model: &[u8], script: &[u8], output: &mut [u8]) -> usize {
+    // SAFETY: pointers and counts are those of slices.
+    unsafe {
+        fk_model_listing(
+            model.as_ptr(),
+            model.len(),
+            script.as_ptr(),
+            script.len(),
+            output.as_mut_ptr(),
+            output.len(),
+        )
+    }
+}
+
+/// Writes as much of the listing of a table's run as `output` has room for. The
+/// result is the length of the whole listing.
+pub fn table_listing(table: &[u8], script: &[u8], output: &mut [u8]) -> usize {
+    // SAFETY: pointers and counts are those of slices.
+    unsafe {
+        fk_table_listing(
+            table.as_ptr(),
+            table.len(),
+            script.as_ptr(),
+            script.len(),
+            output.as_mut_ptr(),
+            output.len(),
+        )
+    }
+}
+
+/// Runs a script on a model up to the first refused event. The result is the
+/// number of the refusal, of the model or of the event; told are start and end
+/// of its part, the events taken and the clock.
+pub fn run_model(model: &[u8], script: &[u8], told: &mut [usize]) -> u32 {
+    // SAFETY: pointers and counts are those of slices.
+    unsafe {
+        fk_run_model(
+            model.as_ptr(),
+            model.len(),
+            script.as_ptr(),
+            script.len(),
+            told.as_mut_ptr(),
+            told.len(),
+        )
+    }
+}
+
+/// Runs a script on a table up to the first refused event, as [`run_model`].
+pub fn run_table(table: &[u8], script: &[u8], told: &mut [usize]) -> u32 {
+    // SAFETY: pointers and counts are those of slices.
+    unsafe {
+        fk_run_table(
+            table.as_ptr(),
+            table.len(),
+            script.as_ptr(),
+            script.len(),
+            told.as_mut_ptr(),
+            told.len(),
+        )
+    }
+}
+
+/// The length of the part at the start of a script: a whole event, or a cut or
+/// unknown rest; 0 for an empty script.
+pub fn event_length(script: &[u8]) -> usize {
+    // SAFETY: pointers and counts are those of slices.
+    unsafe { fk_event_length(script.as_ptr(), script.len()) }
+}
+
+/// Reads a table and sets the first 288 variables as it starts them. The result
+/// is the number of a refused table, 8 for fewer than 288 variables, else 0; any
+/// but 0 leaves the variables as they were.
+pub fn table_start(table: &[u8], variables: &mut [i32]) -> u32 {
+    // SAFETY: pointers and counts are those of slices.
+    unsafe {
+        fk_table_start(
+            table.as_ptr(),
+            table.len(),
+            variables.as_mut_ptr(),
+            variables.len(),
+        )
+    }
+}
+
+/// Gives one event to a table whose variables are lent. The result is the
+/// answer, 0 or 9 to 13, or 8 for fewer than 288 variables; any but 0 leaves the
+/// variables as they were. The table is not read for faults again: records that
+/// are no accepted table have their rules taken as they stand.
+pub fn table_step(table: &[u8], variables: &mut [i32], event: &[u8]) -> u32 {
+    // SAFETY: pointers and counts are those of slices.
+    unsafe {
+        fk_table_step(
+            table.as_ptr(),
+            table.len(),
+            variables.as_mut_ptr(),
+            variables.len(),
+            event.as_ptr(),
+            event.len(),
+        )
+    }
+}
+
+/// Runs a script on a model from its start, going on after refused events, then
+/// gives `event` to the state left. The result is the number of a refused model,
+/// 8 for fewer than 288 variables, both with the variables as they were; else
+/// the answer to the event, and the first 288 variables hold what each of the
+/// table's variables stands for afterwards, with 0 for Due and End.
+pub fn model_after(model: &[u8], script: &[u8], event: &[u8], variables: &mut [i32]) -> u32 {
+    // SAFETY: pointers and counts are those of slices.
+    unsafe {
+        fk_model_after(
+            model.as_ptr(),
+            model.len(),
+            script.as_ptr(),
+            script.len(),
+            event.as_ptr(),
+            event.len(),
+            variables.as_mut_ptr(),
+            variables.len(),
+        )
+    }
+}

@@ -1,0 +1,39 @@
+//! Document 01's model M and its script, and some bytes near them.
+#![allow(dead_code)]
+
+/// Head 1, 0; one thread of Period 5, Deadline 4, Min 1, Max 5, mask 1.
+pub const M: &[u8] = &[
+    0x01, 1, 0, //
+    0x02, 5, 0, 0, 0, 4, 0, 0, 0, 1, 0, 0, 0, 5, 0, 0, 0, 1, 0, 0,
+];
+
+/// ACTIVATE, DISPATCH, START 2, TICK 2, COMPLETE, TICK 2, DEADLINE.
+pub const SCRIPT: &[u8] = &[
+    0x01, 0, 0x03, 0, 0x04, 0, 2, 0, 0, 0, 0x0B, 2, 0, 0x05, 0, 0x0B, 2, 0, 0x06, 0,
+];
+
+pub const LISTING: &str = "\
+1 0 1 0
+2 0 3 0
+3 0 4 0
+4 2 11 2
+5 2 5 0
+6 4 11 2
+7 4 6 0
+end 7 0 4
+";
+
+/// The numbers of some of the table's variables.
+pub const NOW: usize = 0;
+pub const ACTIVE: usize = 16;
+pub const STATE: usize = 32;
+pub const DUE: usize = 64;
+
+/// What stands in an output before a call, to see what the call touched.
+pub const BYTE: u8 = 0xA5;
+pub const PLACE: usize = 0xA5A5_A5A5;
+pub const FIGURE: i32 = 0x5A5A_5A5A;
+
+pub fn table_of_m() -> Vec<u8> {
+    futonkestrel::translate_to_vec(M).expect("M is accepted")
+}

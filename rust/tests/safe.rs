@@ -1,0 +1,141 @@
+//! The safe functions, on document 01's model M and on bytes that are refused.
+
+mod common;
+
+use common::{table_of_m, BYTE, DUE, LISTING, M, NOW, SCRIPT, STATE};
+use futonkestrel::{
+    event_length, events, model_after, model_listing, model_listing_into, read_model, read_table,
+    run_model, run_table, table_listing, table_listing_into, translate, translate_to_vec, Refusal,
+    Run, Table, VARIABLES,
+};
+
+fn refused<T>(number: u32, start: usize, end: usize) -> Result<T, Refusal> {
+    Err(Refusal { number, start, end })
+}
+
+#[test]
+fn reading() {
+    assert_eq!(read_model(M), Ok(()));
+    assert_eq!(read_model(&[]), refused(2, 0, 0));
+    assert_eq!(read_model(&M[..20]), refused(1, 3, 20));
+    let table = table_of_m();
+    assert_eq!(read_table(&table), Ok(()));
+    assert_eq!(read_table(&[]), Ok(()));
+    assert_eq!(read_table(M), refused(2, 0, M.len()));
+}
+
+#[test]
+fn translation() {
+    let table = translate_to_vec(M).expect("M is accepted");
+    let mut output = vec![BYTE; table.len()];
+    assert_eq!(translate(M, &mut output), Ok(table.len()));
+    assert_eq!(output, table);
+    let short = &mut output[1..];
+    assert_eq!(translate(M, short), refused(8, M.len(), M.len()));
+    assert_eq!(translate_to_vec(&M[3..]), refused(2, 0, 20));
+}
+
+#[test]
+fn the_part_of_a_refusal_is_where_it_says() {
+    let twice = [M, &M[..3]].concat();
+    assert_eq!(translate_to_vec(&twice), refused(2, M.len(), M.len() + 3));
+}
+
+#[test]
+fn listings() {
+    let table = table_of_m();
+    assert_eq!(model_listing(M, SCRIPT), LISTING.as_bytes());
+    assert_eq!(table_listing(&table, SCRIPT), LISTING.as_bytes());
+    assert_eq!(model_listing(&[], SCRIPT), b"end 0 2 0\n");
+    assert_eq!(table_listing(&table[..3], SCRIPT), b"end 0 1 0\n");
+    let mut output = [BYTE; 5];
+    assert_eq!(model_listing_into(M, SCRIPT, &mut output), LISTING.len());
+    assert_eq!(&output, b"1 0 1");
+    let mut output = [BYTE; 3];
+    assert_eq!(
+        table_listing_into(&table, SCRIPT, &mut output),
+        LISTING.len()
+    );
+    assert_eq!(&output, b"1 0");
+}
+
+#[test]
+fn runs() {
+    let table = table_of_m();
+    let whole = Run {
+        refusal: None,
+        taken: 7,
+        clock: 4,
+    };
+    assert_eq!(run_model(M, SCRIPT), whole);
+    assert_eq!(run_table(&table, SCRIPT), whole);
+    let stopped = Run {
+        refusal: refused::<()>(10, 20, 22).err(),
+        ..whole
+    };
+    let more = [SCRIPT, &[0x02, 0], SCRIPT].concat();
+    assert_eq!(run_model(M, &more), stopped);
+    assert_eq!(run_table(&table, &more), stopped);
+    let nothing = Run {
+        refusal: refused::<()>(2, 0, 0).err(),
+        taken: 0,
+        clock: 0,
+    };
+    assert_eq!(run_model(&[], SCRIPT), nothing);
+}
+
+#[test]
+fn the_parts_of_a_script() {
+    let parts: Vec<&[u8]> = events(SCRIPT).collect();
+    assert_eq!(parts.len(), 7);
+    assert_eq!(parts[2], [0x04, 0, 2, 0, 0, 0]);
+    assert_eq!(parts.concat(), SCRIPT);
+    assert_eq!(event_length(SCRIPT), 2);
+    assert_eq!(events(&[]).count(), 0);
+    let parts: Vec<&[u8]> = events(&[0x01, 0, 0x55, 0x01, 0]).collect();
+    assert_eq!(parts, [&[0x01, 0][..], &[0x55, 0x01, 0]]);
+}
+
+#[test]
+fn a_table_goes_event_by_event() {
+    let bytes = table_of_m();
+    let table = Table::read(&bytes).expect("a made table is accepted");
+    let mut variables = table.start();
+    for event in events(SCRIPT) {
+        assert_eq!(table.step(&mut variables, event), Ok(()));
+    }
+    assert_eq!(
+        (variables[NOW], variables[STATE], variables[DUE]),
+        (4, 1, 4)
+    );
+    let before = variables;
+    assert_eq!(table.step(&mut variables, &[0x06, 0]), Err(10));
+    assert_eq!(table.step(&mut variables, &[]), Err(9));
+    assert_eq!(variables, before);
+    assert_eq!(table.run(SCRIPT), run_table(&bytes, SCRIPT));
+    assert_eq!(table.listing(SCRIPT), LISTING.as_bytes());
+    assert_eq!(table.bytes(), bytes);
+    assert_eq!(Table::read(&bytes[..4]).err(), refused::<()>(1, 0, 4).err());
+}
+
+#[test]
+fn the_model_shows_what_the_table_has() {
+    let bytes = table_of_m();
+    let table = Table::read(&bytes).expect("a made table is accepted");
+    let mut variables = table.start();
+    let mut taken = 0;
+    for event in events(SCRIPT) {
+        let mut shown = [0; VARIABLES];
+        assert_eq!(model_after(M, &SCRIPT[..taken], event, &mut shown), 0);
+        assert_eq!(table.step(&mut variables, event), Ok(()));
+        taken += event.len();
+        // Due and End of the one thread are not shown.
+        for variable in (0..VARIABLES).filter(|variable| ![64, 80].contains(variable)) {
+            assert_eq!(
+                shown[variable], variables[variable],
+                "{variable} after {taken}"
+            );
+        }
+    }
+    assert_eq!(model_after(&M[..4], &[], &[], &mut variables), 1);
+}
