@@ -104,7 +104,9 @@ pub fn steps_listing(model: &[u8], script: &[u8], d: &mut [u8]) -> usize
 fn run_table_listing(table: &[u8], script: &[u8], d: &mut [u8]) -> usize
     ensures { λ r. ⌜ Wrote (now (d .entry)) 0 (listing (table-machine.machineOf (tableOf (now (table .entry)) .rules)) table-machine.clockOf (table-machine.startVariables (tableOf (now (table .entry)))) (now (script .entry))) (now (d .exit)) r ⌝ }
 {
-    let mut s = table::start_variables(table);
+    let mut place = [0; 1024];
+    let heads = table::list_heads(table, &mut place);
+    let mut v = table::all_bits(table::start_variables(table));
     let mut taken: u64 = 0;
     let mut p = 0;
     let mut at = 0;
@@ -113,19 +115,16 @@ fn run_table_listing(table: &[u8], script: &[u8], d: &mut [u8]) -> usize
         let n = records::part_at(w, script, p);
         let q = p + n;
         let e = records::event_of(&script[p..q]);
-        let a = table::step(table, s, e);
-        let c = a.answer;
+        let c = table::step_on(table, &place, heads, &mut v, e);
         if !records::is_none(c) {
-            return put_last(d, at, taken, c, table::clock_of(s));
+            return put_last(d, at, taken, c, table::clock_in(&v));
         }
-        let t = a.state;
         taken += 1;
-        at = put_event(d, at, taken, table::clock_of(t), e);
-        s = t;
+        at = put_event(d, at, taken, table::clock_in(&v), e);
         p = q;
     }
     let c = Cause::None;
-    put_last(d, at, taken, c, table::clock_of(s))
+    put_last(d, at, taken, c, table::clock_in(&v))
 }
 
 // The run of the table that the bytes hold, or the last line alone where the table is refused.

@@ -1,14 +1,14 @@
 -- The walk over the updates of a rule: targets are marked, so that one written twice is seen at once.
 use mathlib.Core.Path.{_≡_, refl, sym, _∙_, ap}
-use mathlib.Core.Bool.{Bool, true, false, cond, _&&_, _||_, or-assoc, or-false}
+use mathlib.Core.Bool.{Bool, true, false, cond, _&&_, _||_, or-assoc}
 use mathlib.Core.List.{List, [], _∷_, _++_}
 use Prim.Native.Nat.{ℕ, zero, suc, _+_, _-_, _<_, _≤_}
 use native.Mathlib.Omega.{arith}
-use native.Mathlib.Decide.{ℕ-discrete}
-use lib.ListN.{getD, set, length, take, drop, replicate, length-set}
+use native.Mathlib.Decide.{ℕ-discrete, decLt}
+use lib.ListN.{getD, set, length, drop, replicate, length-set}
 use lib.Seq.{getD-set-same, getD-set-other}
 use lib.Dec.{eqb, leb}
-use borrow.Author.Tests.{eq-eqb, ne-eqb, eqb-false}
+use borrow.Author.Tests.{eq-eqb, ne-eqb}
 use Rattle.numbers.specs.declared.Value.{Value}
 use Rattle.numbers.specs.Lists.{store}
 use Rattle.numbers.specs.Values.{value, signed}
@@ -21,12 +21,12 @@ use Rattle.table_format.specs.declared.Update.{Update}
 use Rattle.table_format.specs.declared.Record.{Record}
 use Rattle.table_format.specs.declared.Record.the-variants.{Initial, Head, Clause, Atomic, Change, Cut, Unknown}
 use Rattle.table_format.specs.Variables.{variables}
-use Rattle.table_format.specs.Format.{recordOf, records}
+use Rattle.table_format.specs.Format.{recordOf, records, updateOf}
 use Rattle.table_format.specs.Table.{gather}
-use Rattle.table_format.specs.Laws.{kindOf, records-at, records-end}
-use Rattle.table.specs.declared.Written.{Written}
+use Rattle.table_format.specs.Laws.{kindOf, records-end}
 use Rattle.table.specs.Rules.{applies, newValue, Write, writes, writtenTo, inconsistent, written}
 use Rattle.table.specs.Bits.{values, values-store}
+use Rattle.table.specs.Places.{bytesAt, head-records, head-cut, update-records, update-cut, other-records, other-kind}
 
 -- ---- targets written twice, or marked before
 unfoldable pub clashes : (ℕ → Bool) → List Write → Bool
@@ -102,32 +102,25 @@ none-marked zero j = refl
 none-marked (suc n) zero = refl
 none-marked (suc n) (suc j) = none-marked n j
 
--- ---- what one record writes
-unfoldable pub writesOf : ℕ → List Value → Record → List Write
-writesOf n v (Initial x) = []
-writesOf n v (Head h) = []
-writesOf n v Clause = []
-writesOf n v (Atomic a) = []
-writesOf n v (Change u) = writes n v (u ∷ [])
-writesOf n v Cut = []
-writesOf n v Unknown = []
-
-abbrev pub marks : ℕ
-marks = 65536
-
+-- ---- marks
 abbrev pub isMarked : List Bool → ℕ → Bool
 isMarked m j = getD m j false
 
--- w is written, from the bits v to v′ and the marks m to m′; r is whether a target was marked before
-pub record Applied (w : List Write) (r : Bool) (v v′ : List ℕ) (m m′ : List Bool) : Type 0 where
-  pub again : r ≡ clashes (isMarked m) w
-  pub writes : values v′ ≡ written w (values v)
-  pub room : length m′ ≡ length m
-  pub marks : length m ≡ marks → (j : ℕ) → isMarked m′ j ≡ (writtenTo j w || isMarked m j)
+abbrev pub Unmarked : List Bool → Type 0
+Unmarked m = (j : ℕ) → isMarked m j ≡ false
 
-applied-none : (v : List ℕ) (m : List Bool) → Applied [] false v v m m
-unfolding clashes written writtenTo
-applied-none v m = record { again = refl; writes = refl; room = refl; marks = λ e j. refl }
+-- w is written, from the bits v to v′ and the marks m to m′; r is 1 where a target was marked before
+record Done (w : List Write) (r : ℕ) (v v′ : List ℕ) (m m′ : List Bool) : Type 0 where
+  again : eqb r 1 ≡ clashes (isMarked m) w
+  writes : values v′ ≡ written w (values v)
+  marks : (j : ℕ) → isMarked m′ j ≡ (writtenTo j w || isMarked m j)
+
+-- or 2, where there is no mark for a target, which is a number of 16 bits
+pub record Applied (w : List Write) (r : ℕ) (v v′ : List ℕ) (m m′ : List Bool) : Type 0 where
+  small : r < 3
+  pub room : length m′ ≡ length m
+  wide : r ≡ 2 → length m < 65536
+  done : (r ≡ 2 → ⊥) → Done w r v v′ m m′
 
 marked-one : (m : List Bool) (t : ℕ) → t < length m → (j : ℕ) → getD (set m t true) j false ≡ ((eqb j t || false) || getD m j false)
 marked-one m t h j = go (ℕ-discrete j t)
@@ -136,123 +129,156 @@ marked-one m t h j = go (ℕ-discrete j t)
     go (yes e) = rw (eq-eqb j t e, e) (getD-set-same m t true false h)
     go (no n) = rw (ne-eqb j t n) (getD-set-other m t j true false n)
 
-module _ (n : ℕ) (old : List Value) (u : Update) (b : Bool) (e : b ≡ applies old u) where
-  pub update-left : b ≡ false → (v : List ℕ) (m : List Bool) → Applied (writes n old (u ∷ [])) false v v m m
-  unfolding writes
-  update-left h v m = rw (← e, h) (applied-none v m)
+pub update-wide : (w : List Write) (j : ℕ) (v v′ : List ℕ) (m m′ : List Bool) → m′ ≡ m → length m ≤ j → j < 65536 → Applied w 2 v v′ m m′
+update-wide w j v v′ m m′ e l t = record { small = omega arith; room = ap length e; wide = λ z. omega arith; done = λ z. absurd (z refl) }
 
-  pub update-applied : b ≡ true → (x : Value) (k : ℕ) (r : Bool) (v v′ : List ℕ) (m m′ : List Bool) → x ≡ newValue n old u → value (signed k) ≡ x →
-      v′ ≡ store variables v (u .target) k → r ≡ isMarked m (u .target) → m′ ≡ set m (u .target) true → u .target < marks →
+module _ (n : ℕ) (old : List Value) (u : Update) (b : Bool) (e : b ≡ applies old u) (v v′ : List ℕ) (m m′ : List Bool) where
+  pub update-left : b ≡ false → v′ ≡ v → m′ ≡ m → Applied (writes n old (u ∷ [])) 0 v v′ m m′
+  unfolding writes clashes written writtenTo
+  update-left h ev em =
+      rw (← e, h, ev, em) (record { small = omega arith; room = refl; wide = λ z. absurd (omega arith); done = λ z. record { again = refl; writes = refl; marks = λ j. refl } })
+
+  pub update-applied : b ≡ true → (x : Value) (k j : ℕ) (g : Bool) (r : ℕ) → x ≡ newValue n old u → value (signed k) ≡ x → j ≡ u .target →
+      v′ ≡ store variables v j k → g ≡ isMarked m j → m′ ≡ set m j true → j < length m → r ≡ cond g 1 0 →
       Applied (writes n old (u ∷ [])) r v v′ m m′
   unfolding writes clashes written writtenTo
-  update-applied h x k r v v′ m m′ ex ek ev er em l =
-      rw (← e, h, ev, em, er, ← ex)
-      (record {
-        again = sym (or-false (isMarked m (u .target)));
-        writes = values-store v (u .target) k ∙ rw ek;
-        room = length-set m (u .target) true;
-        marks = λ q j. marked-one m (u .target) (rw q l) j;
-      })
+  update-applied h x k j g r ex ek ej ev eg em l er = record { small = rw er (below g); room = rw em (length-set m j true); wide = λ z. absurd (small g (sym er ∙ z)); done = λ z. done-one }
+    where
+      small : (g : Bool) → _≡_ {A = ℕ} (cond g 1 0) 2 → ⊥
+      small true z = omega arith
+      small false z = omega arith
 
-pub record-left : (n : ℕ) (old : List Value) (x : Record) (v : List ℕ) (m : List Bool) → (kindOf x ≡ 36 → ⊥) → Applied (writesOf n old x) false v v m m
-unfolding kindOf writesOf
-record-left n old (Initial x) v m k = applied-none v m
-record-left n old (Head x) v m k = applied-none v m
-record-left n old Clause v m k = applied-none v m
-record-left n old (Atomic x) v m k = applied-none v m
-record-left n old (Change x) v m k = absurd (k refl)
-record-left n old Cut v m k = applied-none v m
-record-left n old Unknown v m k = applied-none v m
+      below : (g : Bool) → cond g 1 0 < 3
+      below true = omega arith
+      below false = omega arith
 
-pub record-applied : (n : ℕ) (old : List Value) (x : Record) (u : Update) (r : Bool) (v v′ : List ℕ) (m m′ : List Bool) → x ≡ Change u →
-    Applied (writes n old (u ∷ [])) r v v′ m m′ → Applied (writesOf n old x) r v v′ m m′
-unfolding writesOf
-record-applied n old x u r v v′ m m′ e a = rw e a
+      code : (g : Bool) → eqb (cond g 1 0) 1 ≡ (g || false)
+      code true = refl
+      code false = refl
+
+      done-one : Done (writes n old (u ∷ [])) r v v′ m m′
+      done-one =
+          rw (← e, h, ev, em, er, ← ex, ← ej)
+          (record {
+            again = rw (← eg) (code g);
+            writes = values-store v j k ∙ rw ek;
+            marks = λ i. marked-one m j l i;
+          })
 
 -- ---- the loop: what is still to be written, from the record at p on
 abbrev pub writesFrom : ℕ → List Value → List ℕ → ℕ → List Write
 writesFrom n old s p = writes n old (gather (records (drop p s)) .updates)
 
-writes-step : (n : ℕ) (old : List Value) (x : Record) (l : List Record) → (kindOf x ≡ 33 → ⊥) →
-    writes n old (gather (x ∷ l) .updates) ≡ writesOf n old x ++ writes n old (gather l .updates)
-unfolding gather writesOf kindOf writes
-writes-step n old (Initial x) l h = refl
-writes-step n old (Head x) l h = absurd (h refl)
-writes-step n old Clause l h = refl
-writes-step n old (Atomic a) l h = refl
-writes-step n old (Change u) l h = go (applies old u)
+writes-step : (n : ℕ) (old : List Value) (u : Update) (l : List Record) →
+    writes n old (gather (Change u ∷ l) .updates) ≡ writes n old (u ∷ []) ++ writes n old (gather l .updates)
+unfolding gather writes
+writes-step n old u l = go (applies old u)
   where
     go : (b : Bool) →
         cond b (record { target = u .target; value = newValue n old u } ∷ writes n old (gather l .updates)) (writes n old (gather l .updates)) ≡
         cond b (record { target = u .target; value = newValue n old u } ∷ []) [] ++ writes n old (gather l .updates)
     go true = refl
     go false = refl
-writes-step n old Cut l h = refl
-writes-step n old Unknown l h = refl
 
-no-head : {A : Type 0} (k : ℕ) → eqb k 33 ≡ false → k ≡ 33 → A
-no-head k e f = absurd (eqb-false k 33 e f)
-
-writes-head : (n : ℕ) (old : List Value) (x : Record) (l : List Record) → kindOf x ≡ 33 → writes n old (gather (x ∷ l) .updates) ≡ []
-unfolding gather kindOf writes
-writes-head n old (Initial x) l h = no-head 32 refl h
-writes-head n old (Head x) l h = refl
-writes-head n old Clause l h = no-head 34 refl h
-writes-head n old (Atomic a) l h = no-head 35 refl h
-writes-head n old (Change u) l h = no-head 36 refl h
-writes-head n old Cut l h = no-head 0 refl h
-writes-head n old Unknown l h = no-head 0 refl h
+no-writes : (n : ℕ) (old : List Value) (x : Record) (l : List Record) → (kindOf x ≡ 33 → ⊥) → (kindOf x ≡ 36 → ⊥) →
+    writes n old (gather l .updates) ≡ writes n old (gather (x ∷ l) .updates)
+unfolding gather kindOf
+no-writes n old (Initial x) l h k = refl
+no-writes n old (Head x) l h k = absurd (h refl)
+no-writes n old Clause l h k = refl
+no-writes n old (Atomic a) l h k = refl
+no-writes n old (Change u) l h k = absurd (k refl)
+no-writes n old Cut l h k = refl
+no-writes n old Unknown l h k = refl
 
 written-append : (a b : List Write) (v : List Value) → written (a ++ b) v ≡ written b (written a v)
 unfolding written
 written-append [] b v = refl
 written-append (w ∷ a) b v = written-append a b (store variables v (w .target) (w .value))
 
--- w is all that is to be written, l what is left of it
-pub record Writing (w : List Write) (old : List Value) (l : List Write) (v : List ℕ) (m : List Bool) : Type 0 where
-  pub room : length m ≡ marks
-  pub twice : clashes (isMarked m) l ≡ inconsistent w
-  pub bits : written l (values v) ≡ written w old
+-- w is all that is to be written, from the bits f on, l what is left of it; k is how many marks there are
+pub record Writing (w : List Write) (f : List ℕ) (l : List Write) (v : List ℕ) (m : List Bool) (k : ℕ) : Type 0 where
+  pub room : length m ≡ k
+  twice : clashes (isMarked m) l ≡ inconsistent w
+  bits : written l (values v) ≡ written w (values f)
 
--- the answer of the walk
-pub record Result (w : List Write) (old : List Value) (r : Written) : Type 0 where
-  pub twice : r .twice ≡ inconsistent w
-  pub bits : r .twice ≡ false → values (r .bits) ≡ written w old
+-- the answer of the walk: 0, or 1 where a target is written twice, or 2 where there is no mark for one
+pub record Result (w : List Write) (f : List ℕ) (r : ℕ) (v : List ℕ) (k : ℕ) : Type 0 where
+  pub wide : r ≡ 2 → k < 65536
+  pub twice : (r ≡ 2 → ⊥) → eqb r 1 ≡ inconsistent w
+  pub bits : (r ≡ 1 → ⊥) → (r ≡ 2 → ⊥) → values v ≡ written w (values f)
 
-pub writing-begin : (w : List Write) (v : List ℕ) (m : List Bool) → length m ≡ marks → ((j : ℕ) → isMarked m j ≡ false) → Writing w (values v) w v m
-writing-begin w v m r h = record { room = r; twice = clashes-all w (isMarked m) ∙ rw (unmarked w (isMarked m) h); bits = refl }
+pub writing-begin : (w : List Write) (v : List ℕ) (m : List Bool) → Unmarked m → Writing w v w v m (length m)
+writing-begin w v m h = record { room = refl; twice = clashes-all w (isMarked m) ∙ rw (unmarked w (isMarked m) h); bits = refl }
 
-module _ (w : List Write) (old : List Value) (v : List ℕ) (m : List Bool) where
-  pub writing-done : (l : List Write) → Writing w old l v m → l ≡ [] → Result w old (record { twice = false; bits = v })
+-- how many marks there are matters only where one is missing
+pub result-marks : (w : List Write) (f : List ℕ) (r : ℕ) (v : List ℕ) (j k : ℕ) → (r ≡ 2 → ⊥) → Result w f r v j → Result w f r v k
+result-marks w f r v j k h a = record { wide = λ z. absurd (h z); twice = a .twice; bits = a .bits }
+
+module _ (w : List Write) (f : List ℕ) (v : List ℕ) (m : List Bool) (k : ℕ) where
+  writing-done : (l : List Write) → Writing w f l v m k → l ≡ [] → Result w f 0 v k
   unfolding clashes written
-  writing-done l i e = record { twice = rw e at (i .twice); bits = λ z. rw e at (i .bits) }
+  writing-done l i e = record { wide = λ z. absurd (omega arith); twice = λ z. rw e at (i .twice); bits = λ y z. rw e at (i .bits) }
 
-  module _ (n : ℕ) (s : List ℕ) (q : List Value) (p k : ℕ) (x : Record) (h : p < length s) (e : k ≡ partLengthAt notations.Table s p)
-      (f : x ≡ recordOf (take (p + k - p) (drop p s))) (i : Writing w old (writesFrom n q s p) v m) (d : ℕ) (g : d ≡ kindOf x) where
-    pub writing-head : d ≡ 33 → Result w old (record { twice = false; bits = v })
-    writing-head t = writing-done (writesFrom n q s p) i (rw (records-at s p k x h e f) (writes-head n q x (records (drop (p + k) s)) (sym g ∙ t)))
+  module _ (n : ℕ) (s : List ℕ) (q : List Value) (p : ℕ) (i : Writing w f (writesFrom n q s p) v m k) where
+    pub writing-end : length s ≤ p → Result w f 0 v k
+    unfolding gather writes
+    writing-end h = writing-done (writesFrom n q s p) i (rw (records-end s p h))
 
-    module _ (t : d ≡ 33 → ⊥) (r : Bool) (v′ : List ℕ) (m′ : List Bool) (a : Applied (writesOf n q x) r v v′ m m′) where
-      left : writesFrom n q s p ≡ writesOf n q x ++ writesFrom n q s (p + k)
-      left = rw (records-at s p k x h e f) (writes-step n q x (records (drop (p + k) s)) (λ z. t (g ∙ z)))
+    module _ (h : p < length s) where
+      pub writing-cut : getD s p 0 ≡ 36 → length s - p < 17 → Result w f 0 v k
+      unfolding gather writes
+      writing-cut b l = writing-done (writesFrom n q s p) i (rw (update-cut s p h b l))
 
-      clash-left : (clashes (isMarked m) (writesOf n q x) || clashes (λ j. writtenTo j (writesOf n q x) || isMarked m j) (writesFrom n q s (p + k))) ≡ inconsistent w
-      clash-left = sym (clashes-append (writesOf n q x) (writesFrom n q s (p + k)) (isMarked m)) ∙ (rw left at (i .twice))
+      pub writing-head : getD s p 0 ≡ 33 → Result w f 0 v k
+      unfolding gather writes
+      writing-head b = go (decLt (length s - p) 11)
+        where
+          go : Dec (length s - p < 11) → Result w f 0 v k
+          go (yes l) = writing-done (writesFrom n q s p) i (rw (head-cut s p h b l))
+          go (no l) = writing-done (writesFrom n q s p) i (rw (head-records s p b (omega arith)))
 
-      pub writing-twice : r ≡ true → Result w old (record { twice = true; bits = v′ })
-      writing-twice z =
-          record { twice = rw (← a .again, z) at clash-left; bits = λ y. absurd (let c : _≡_ {A = ℕ} 0 1 = cc in omega arith) }
+      pub writing-other : (j : ℕ) → j ≡ partLengthAt notations.Table s p → (getD s p 0 ≡ 33 → ⊥) → (getD s p 0 ≡ 36 → ⊥) → Writing w f (writesFrom n q s (p + j)) v m k
+      writing-other j e a b =
+          let x = recordOf (bytesAt s p j) in
+          let g : writesFrom n q s (p + j) ≡ writesFrom n q s p =
+          no-writes n q x (records (drop (p + j) s)) (other-kind s p j h e 33 a (omega arith)) (other-kind s p j h e 36 b (omega arith)) ∙
+          ap (λ (r : List Record). writes n q (gather r .updates)) (sym (other-records s p j h e)) in
+          rw g i
 
-      pub writing-on : r ≡ false → Writing w old (writesFrom n q s (p + k)) v′ m′
-      writing-on z = record {
-        room = a .room ∙ i .room;
-        twice = clashes-same (writesFrom n q s (p + k)) (isMarked m′) (λ j. writtenTo j (writesOf n q x) || isMarked m j) (a .marks (i .room)) ∙ (rw (← a .again, z) at clash-left);
-        bits = rw (a .writes) (sym (written-append (writesOf n q x) (writesFrom n q s (p + k)) (values v)) ∙ (rw left at (i .bits)));
-      }
+      module _ (b : getD s p 0 ≡ 36) (l : 17 ≤ length s - p) (r : ℕ) (v′ : List ℕ) (m′ : List Bool)
+          (a : Applied (writes n q (updateOf (bytesAt s p 17) ∷ [])) r v v′ m m′) where
+        abbrev here : List Write
+        here = writes n q (updateOf (bytesAt s p 17) ∷ [])
 
-pub writes-end : (n : ℕ) (old : List Value) (s : List ℕ) (p : ℕ) → length s ≤ p → writesFrom n old s p ≡ []
-unfolding gather writes
-writes-end n old s p h = rw (records-end s p h)
+        left : writesFrom n q s p ≡ here ++ writesFrom n q s (p + 17)
+        left =
+            ap (λ (r : List Record). writes n q (gather r .updates)) (update-records s p b (omega arith)) ∙
+            writes-step n q (updateOf (bytesAt s p 17)) (records (drop (p + 17) s))
+
+        clash-left : (clashes (isMarked m) here || clashes (λ j. writtenTo j here || isMarked m j) (writesFrom n q s (p + 17))) ≡ inconsistent w
+        clash-left = sym (clashes-append here (writesFrom n q s (p + 17)) (isMarked m)) ∙ (rw left at (i .twice))
+
+        pub writing-stops : (r ≡ 0 → ⊥) → Result w f r v′ k
+        writing-stops z = record {
+          wide = λ x. rw (i .room) at (a .wide x);
+          twice = λ x.
+              let y = a .small in
+              let o : eqb r 1 ≡ true = eq-eqb r 1 (omega arith) in
+              let t : clashes (isMarked m) here ≡ true = sym (a .done x .again) ∙ o in
+              o ∙ (rw t at clash-left);
+          bits = λ x u. let y = a .small in absurd (omega arith);
+        }
+
+        pub writing-on : r ≡ 0 → Writing w f (writesFrom n q s (p + 17)) v′ m′ k
+        writing-on z =
+            let d = a .done (λ x. omega arith) in
+            let o : clashes (isMarked m) here ≡ false = sym (d .again) ∙ rw z in
+            record {
+              room = a .room ∙ i .room;
+              twice = clashes-same (writesFrom n q s (p + 17)) (isMarked m′) (λ j. writtenTo j here || isMarked m j) (d .marks) ∙ (rw o at clash-left);
+              bits = rw (d .writes) (sym (written-append here (writesFrom n q s (p + 17)) (values v)) ∙ (rw left at (i .bits)));
+            }
 
 -- "length outside", by the rule's head
 unfoldable pub headAllows : Event → RuleHead → Bool

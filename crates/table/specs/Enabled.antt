@@ -1,28 +1,31 @@
 -- Walks over a table's records: which rules are enabled. That a walk says what the rules as data say, whatever the bytes.
-use mathlib.Core.Path.{_≡_, refl, _∙_}
+use mathlib.Core.Path.{_≡_, refl, sym, _∙_, ap}
 use mathlib.Core.Bool.{Bool, true, false, cond, _&&_, _||_, not, or-assoc}
 use mathlib.Core.List.{List, [], _∷_, _++_, append-nil}
 use Prim.Native.Nat.{ℕ, _+_, _-_, _<_, _≤_}
-use lib.ListN.{length, take, drop}
+use native.Mathlib.Omega.{arith}
+use native.Mathlib.Decide.{decLt}
+use lib.ListN.{getD, length, take, drop}
 use lib.Dec.{eqb}
-use borrow.Author.Tests.{eq-eqb}
+use borrow.Author.Tests.{eq-eqb, ne-eqb, lt-ltb, le-ltb}
 use Rattle.numbers.specs.declared.Value.{Value}
-use Rattle.numbers.specs.Values.{bitsOf}
+use Rattle.numbers.specs.Values.{u16At, valueAt, bitsOf}
 use Rattle.records.specs.declared.Notation.the-variants as notations
 use Rattle.records.specs.declared.Event.{Event}
-use Rattle.records.specs.Format.{partLengthAt}
+use Rattle.records.specs.Format.{partLengthAt, operandAt}
 use Rattle.records.specs.Events.{requestKind}
 use Rattle.table_format.specs.declared.RuleHead.{RuleHead}
 use Rattle.table_format.specs.declared.Atom.{Atom}
 use Rattle.table_format.specs.declared.Record.{Record}
 use Rattle.table_format.specs.declared.Record.the-variants.{Initial, Head, Clause, Atomic, Change, Cut, Unknown}
 use Rattle.table_format.specs.Variables.{nowVar}
-use Rattle.table_format.specs.Format.{recordOf, records}
+use Rattle.table_format.specs.Format.{recordOf, records, atomOf}
 use Rattle.table_format.specs.Table.{Rule, gather, tableOf}
 use Rattle.table_format.specs.Laws.{kindOf, records-at, records-end}
 use Rattle.table.specs.declared.Found.{Found}
-use Rattle.table.specs.Rules.{holds, clauseHolds, allHold, enabledRules}
+use Rattle.table.specs.Rules.{valueOf, operandValue, holdsOp, holds, clauseHolds, allHold, enabledRules}
 use Rattle.table.specs.Machine.{isBusy}
+use Rattle.table.specs.Places.{bytesAt, clause-records, head-records, atom-records, head-cut, atom-cut, other-records, other-kind, HeadAt, headIn, placeOf, Listed}
 
 -- ---- clauses
 -- the clauses of the rule whose records after its head begin at p
@@ -54,19 +57,21 @@ unfolding allPass allHold
 all-hold v [] = refl
 all-hold v (c ∷ l) = rw (some-hold v c, all-hold v l)
 
-module _ (v : List Value) (a : Atom) (f : Bool) where
-  pub passes-fixed : f ≡ false → holds v a ≡ passes f v a
-  unfolding passes
-  passes-fixed e = rw e
+-- the atom that a part x holds, by its fields as the code has read them
+module _ (free : Bool) (v : List Value) (x : List ℕ) (o j t : ℕ) (y : Value) (n : ℕ) (eo : o ≡ getD x 1 0) (ej : j ≡ u16At x 2) (et : t ≡ getD x 4 0)
+    (ey : y ≡ valueAt x 5) (en : n ≡ bitsOf (y .0)) where
+  fields : atomOf x ≡ record { op = o; variable = j; right = record { tag = t; value = y } }
+  unfolding atomOf operandAt
+  fields = rw (eo, ej, et, ey)
 
-  module _ (e : f ≡ true) (b : Bool) (g : b ≡ readsClock a) where
-    pub passes-clock : b ≡ true → true ≡ passes f v a
-    unfolding passes
-    passes-clock h = rw (e, ← g, h)
+  pub atom-free : (free && (eqb j 0 || (eqb t 1 && eqb n 0))) ≡ true → true ≡ passes free v (atomOf x)
+  unfolding passes readsClock
+  atom-free h = rw (fields, ← en, h)
 
-    pub passes-other : b ≡ false → holds v a ≡ passes f v a
-    unfolding passes
-    passes-other h = rw (e, ← g, h)
+  pub atom-holds : (free && (eqb j 0 || (eqb t 1 && eqb n 0))) ≡ false → (a b : Value) → a ≡ valueOf v j →
+      b ≡ operandValue 0 v (record { tag = t; value = y }) → (r : Bool) → r ≡ holdsOp o a b → r ≡ passes free v (atomOf x)
+  unfolding passes readsClock holds
+  atom-holds h a b ea eb r er = rw (fields, ← en, h, er, ea, eb)
 
 -- ---- the walk over them, from the record after the head on: b is whether the last clause holds, as far as its atoms are read
 -- k is the kind of a record: at a head the clauses are over, at a clause the one before may have failed
@@ -82,20 +87,7 @@ heldAfter free v b (Change u) = b
 heldAfter free v b Cut = b
 heldAfter free v b Unknown = b
 
-module _ (free : Bool) (v : List Value) (b : Bool) (x : Record) where
-  pub held-clause : x ≡ Clause → false ≡ heldAfter free v b x
-  unfolding heldAfter
-  held-clause e = rw e
-
-  pub held-open : (a : Atom) → x ≡ Atomic a → b ≡ true → true ≡ heldAfter free v b x
-  unfolding heldAfter
-  held-open a e h = rw (e, h)
-
-  pub held-atom : (a : Atom) → x ≡ Atomic a → b ≡ false → passes free v a ≡ heldAfter free v b x
-  unfolding heldAfter
-  held-atom a e h = rw (e, h)
-
-pub held-other : (free : Bool) (v : List Value) (b : Bool) (x : Record) → (kindOf x ≡ 34 → ⊥) → (kindOf x ≡ 35 → ⊥) → b ≡ heldAfter free v b x
+held-other : (free : Bool) (v : List Value) (b : Bool) (x : Record) → (kindOf x ≡ 34 → ⊥) → (kindOf x ≡ 35 → ⊥) → b ≡ heldAfter free v b x
 unfolding kindOf heldAfter
 held-other free v b (Initial x) h k = refl
 held-other free v b (Head x) h k = refl
@@ -127,20 +119,52 @@ pass-is-data free v (Unknown ∷ l) b = pass-is-data free v l b
 pub pass-all : (free : Bool) (v : List Value) (s : List ℕ) (p : ℕ) → passFrom free v true (records (drop p s)) ≡ allPass free v (clausesAt s p)
 pass-all free v s p = pass-is-data free v (records (drop p s)) true
 
--- ---- the laws of its loop: m is the length of the part at p, x its record; d is what the code's test gives
+-- ---- the laws of its loop
 pub pass-end : (free : Bool) (v : List Value) (b : Bool) (s : List ℕ) (p : ℕ) → length s ≤ p → b ≡ passFrom free v b (records (drop p s))
 unfolding passFrom
 pass-end free v b s p h = rw (records-end s p h)
 
-module _ (s : List ℕ) (p m : ℕ) (x : Record) (h : p < length s) (e : m ≡ partLengthAt notations.Table s p) (f : x ≡ recordOf (take (p + m - p) (drop p s))) where
-  module _ (free : Bool) (v : List Value) (b d : Bool) (g : d ≡ isDecided b (kindOf x)) where
-    pub pass-decided : d ≡ true → b ≡ passFrom free v b (records (drop p s))
-    unfolding passFrom
-    pass-decided t = rw (records-at s p m x h e f, ← g, t)
+module _ (free : Bool) (v : List Value) (b : Bool) (s : List ℕ) (p : ℕ) (h : p < length s) where
+  pass-cut : records (drop p s) ≡ Cut ∷ [] → b ≡ passFrom free v b (records (drop p s))
+  unfolding passFrom isDecided heldAfter kindOf
+  pass-cut e = rw e
 
-    pub pass-on : d ≡ false → passFrom free v (heldAfter free v b x) (records (drop (p + m) s)) ≡ passFrom free v b (records (drop p s))
-    unfolding passFrom
-    pass-on t = rw (records-at s p m x h e f, ← g, t)
+  pub pass-failed : getD s p 0 ≡ 34 → b ≡ false → false ≡ passFrom free v b (records (drop p s))
+  unfolding passFrom isDecided kindOf
+  pass-failed k f = rw (clause-records s p k h, f)
+
+  pub pass-clause : getD s p 0 ≡ 34 → b ≡ true → passFrom free v false (records (drop (p + 1) s)) ≡ passFrom free v b (records (drop p s))
+  unfolding passFrom isDecided heldAfter kindOf
+  pass-clause k f = rw (clause-records s p k h, f)
+
+  pub pass-atom-cut : getD s p 0 ≡ 35 → length s - p < 9 → b ≡ passFrom free v b (records (drop p s))
+  pass-atom-cut k l = pass-cut (atom-cut s p h k l)
+
+  module _ (k : getD s p 0 ≡ 35) (l : 9 ≤ length s - p) where
+    pub pass-held : b ≡ true → passFrom free v b (records (drop (p + 9) s)) ≡ passFrom free v b (records (drop p s))
+    unfolding passFrom isDecided heldAfter kindOf
+    pass-held f = rw (atom-records s p k (omega arith), f)
+
+    pub pass-atom : b ≡ false → (r : Bool) → r ≡ passes free v (atomOf (bytesAt s p 9)) →
+        passFrom free v r (records (drop (p + 9) s)) ≡ passFrom free v b (records (drop p s))
+    unfolding passFrom isDecided heldAfter kindOf
+    pass-atom f r e = rw (atom-records s p k (omega arith), f, e)
+
+  pub pass-head : getD s p 0 ≡ 33 → b ≡ passFrom free v b (records (drop p s))
+  unfolding passFrom isDecided kindOf
+  pass-head k = go (decLt (length s - p) 11)
+    where
+      go : Dec (length s - p < 11) → b ≡ passFrom free v b (records (drop p s))
+      go (yes l) = pass-cut (head-cut s p h k l)
+      go (no l) = rw (head-records s p k (omega arith))
+
+  pub pass-other : (getD s p 0 ≡ 33 → ⊥) → (getD s p 0 ≡ 34 → ⊥) → (getD s p 0 ≡ 35 → ⊥) → (m : ℕ) → m ≡ partLengthAt notations.Table s p →
+      passFrom free v b (records (drop (p + m) s)) ≡ passFrom free v b (records (drop p s))
+  unfolding passFrom isDecided
+  pass-other i j k m e =
+      let x = recordOf (bytesAt s p m) in
+      let o = held-other free v b x (other-kind s p m h e 34 j (omega arith)) (other-kind s p m h e 35 k (omega arith)) in
+      rw (other-records s p m h e, ne-eqb (kindOf x) 33 (other-kind s p m h e 33 i (omega arith)), ne-eqb (kindOf x) 34 (other-kind s p m h e 34 j (omega arith)), ← o)
 
 -- ---- the enabled rules of an event
 -- the rule whose head is h and whose other records begin at p
@@ -180,6 +204,19 @@ found-same s v e f q (Atomic a) k = refl
 found-same s v e f q (Change u) k = refl
 found-same s v e f q Cut k = refl
 found-same s v e f q Unknown k = refl
+
+-- the head at p is one of a rule for the event
+unfoldable pub foundHere : List ℕ → List Value → Found → ℕ → Found
+foundHere s v f p = cond (allHold v (clausesAt s (p + 11))) (oneMore f (p + 11) (headIn s p)) f
+
+module _ (s : List ℕ) (v : List Value) (f : Found) (p : ℕ) (b : Bool) (k : b ≡ allHold v (clausesAt s (p + 11))) where
+  pub here-disabled : b ≡ false → f ≡ foundHere s v f p
+  unfolding foundHere
+  here-disabled y = rw (← k, y)
+
+  pub here-enabled : b ≡ true → (h : RuleHead) → h ≡ headIn s p → oneMore f (p + 11) h ≡ foundHere s v f p
+  unfolding foundHere
+  here-enabled y h g = rw (← k, y, g)
 
 -- none, one or more: all that firing asks of a list of rules
 pub data Choice : Type 0 where
@@ -248,22 +285,51 @@ pub find-on : (s : List ℕ) (p m : ℕ) (x : Record) → p < length s → m ≡
     (v : List Value) (e : Event) (f g : Found) → g ≡ foundAfter s v e f (p + m) x → Finds s v e g (p + m) ≡ Finds s v e f p
 find-on s p m x h l r v e f g k = rw (records-at s p m x h l r, k) (find-step s v e f (p + m) x)
 
-pub find-begin : (s : List ℕ) (v : List Value) (e : Event) (f : Found) → f .count ≡ 0 →
-    Finds s v e f 0 ≡ choice (enabledRules v (e .kind) (e .id) (tableOf s .rules))
-unfolding rulesFound tableOf
-find-begin s v e f z = rw (eq-eqb (f .count) 0 z)
-
 pub find-end : (s : List ℕ) (v : List Value) (e : Event) (f : Found) (p : ℕ) → length s ≤ p → choice (rulesFound s f) ≡ Finds s v e f p
 unfolding gather enabledRules
 find-end s v e f p h = rw (records-end s p h, append-nil)
 
--- ---- rules that stop a tick
-unfoldable pub ruleStops : List ℕ → List Value → ℕ → RuleHead → Bool
-ruleStops s v q h = not (eqb (h .kind) requestKind) && allHold v (clausesAt s q)
+-- ---- the loop over the heads listed: i of n are looked at
+module _ (s : List ℕ) (v : List Value) (e : Event) (f : Found) (p : ℕ) (h : HeadAt s p) (a : Bool) (g : a ≡ isAsked e (headIn s p)) where
+  found-by-head : Finds s v e (foundRule s v e f (p + 11) (headIn s p)) (p + 11) ≡ Finds s v e f p
+  unfolding foundAfter
+  found-by-head = rw (head-records s p (h .kind) (h .within)) (find-step s v e f (p + 11) (Head (headIn s p)))
+
+  pub head-not-asked : a ≡ false → Finds s v e f (p + 11) ≡ Finds s v e f p
+  head-not-asked z = rw (← found-other s v e f (p + 11) (headIn s p) a g z) at found-by-head
+
+  pub head-asked : a ≡ true → (r : Found) → r ≡ foundHere s v f p → Finds s v e r (p + 11) ≡ Finds s v e f p
+  unfolding foundHere foundRule
+  head-asked z r k = rw (k) (rw (← g, z) at found-by-head)
+
+-- i of the n heads listed are looked at; what stands after the list is left open
+abbrev pub FindsOn : List ℕ → List ℕ → ℕ → List Value → Event → Found → ℕ → Type 0
+FindsOn s place n v e f i =
+    (rest : ℕ) → Listed s place n rest → Finds s v e f (placeOf place n rest i) ≡ choice (enabledRules v (e .kind) (e .id) (tableOf s .rules))
+
+module _ (s place : List ℕ) (n : ℕ) (v : List Value) (e : Event) where
+  pub finds-begin : (f : Found) → f .count ≡ 0 → FindsOn s place n v e f 0
+  unfolding rulesFound
+  finds-begin f z rest l =
+      rw (eq-eqb (f .count) 0 z) (ap (λ (r : List Rule). choice (enabledRules v (e .kind) (e .id) r)) (l .first))
+
+  module _ (f g : Found) (i : ℕ) (h : i < n) (k : Finds s v e g (getD place i 0 + 11) ≡ Finds s v e f (getD place i 0)) where
+    pub finds-next : FindsOn s place n v e f i → FindsOn s place n v e g (i + 1)
+    finds-next a rest l =
+        ap (λ (r : List Rule). choice (rulesFound s g ++ enabledRules v (e .kind) (e .id) r)) (sym (l .next i h)) ∙
+        k ∙ (rw (lt-ltb i n h) at (a rest l))
+
+  pub finds-end : (f : Found) (i rest : ℕ) → n ≤ i → Listed s place n rest → FindsOn s place n v e f i →
+      Finds s v e f rest ≡ choice (enabledRules v (e .kind) (e .id) (tableOf s .rules))
+  finds-end f i rest h l a = rw (le-ltb i n h) at (a rest l)
+
+-- ---- rules that stop a tick: k is the event kind of the rule
+unfoldable pub ruleStops : List ℕ → List Value → ℕ → ℕ → Bool
+ruleStops s v q k = not (eqb k requestKind) && allHold v (clausesAt s q)
 
 unfoldable pub stopsTick : List ℕ → List Value → ℕ → Record → Bool
 stopsTick s v q (Initial x) = false
-stopsTick s v q (Head h) = ruleStops s v q h
+stopsTick s v q (Head h) = ruleStops s v q (h .kind)
 stopsTick s v q Clause = false
 stopsTick s v q (Atomic a) = false
 stopsTick s v q (Change u) = false

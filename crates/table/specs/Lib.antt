@@ -2,6 +2,7 @@ pub mod Rules
 pub mod Machine
 pub mod RuleLaws
 pub mod Bits
+pub mod Places
 pub mod Enabled
 pub mod Ticking
 pub mod Applied

@@ -6,9 +6,9 @@ use Prim.Native.Nat.{ℕ, zero, suc, _+_, _-_, _<_, _≤_}
 use native.Mathlib.Omega.{arith}
 use native.Mathlib.Decide.{decLt, ℕ-discrete}
 use native.Mathlib.Numerals.{add-one}
-use lib.ListN.{length, take, drop}
+use lib.ListN.{getD, length, take, drop}
 use lib.Dec.{eqb, ltb}
-use borrow.Author.Tests.{ne-eqb, eqb-false, ltb-true, ltb-false}
+use borrow.Author.Tests.{ne-eqb, lt-ltb, le-ltb, eqb-false, ltb-true, ltb-false}
 use borrow.Author.Count.{below-more}
 use Rattle.numbers.specs.declared.Value.{Value}
 use Rattle.numbers.specs.Lists.{store, firstBelow}
@@ -23,10 +23,11 @@ use Rattle.table_format.specs.declared.Record.{Record}
 use Rattle.table_format.specs.declared.Record.the-variants.{Head}
 use Rattle.table_format.specs.Variables.{variables, nowVar}
 use Rattle.table_format.specs.Format.{recordOf, records}
-use Rattle.table_format.specs.Table.{gather, tableOf}
+use Rattle.table_format.specs.Table.{Rule, gather, tableOf}
 use Rattle.table_format.specs.Laws.{kindOf, records-at, records-end}
 use Rattle.table.specs.Rules.{valueOf, operandValue, holds, clauseHolds, allHold}
 use Rattle.table.specs.Machine.{isBusy, now}
+use Rattle.table.specs.Places.{head-records, HeadAt, headIn, head-kind, rulesFrom, placeOf, Listed}
 use Rattle.table.specs.Enabled.{clausesAt, readsClock, passes, somePasses, allPass, ruleStops, stopsTick, stops-never, busy-step}
 
 -- the variables one tick later, and i ticks later
@@ -46,6 +47,25 @@ unfolding later
 later-none v = refl
 
 -- ---- only the clock changes
+ticked : (l w : List Value) → w ≡ now w ∷ l → oneTick w ≡ now (oneTick w) ∷ l
+ticked l [] e = let n : _≡_ {A = ℕ} 0 (suc (length l)) = ap length e in absurd (omega arith)
+ticked l (x ∷ k) e = ap (λ (w : List Value). plus x (natural 1) ∷ drop 1 w) e
+
+later-empty : (i : ℕ) → later i [] ≡ []
+unfolding later
+later-empty zero = refl
+later-empty (suc i) = ap oneTick (later-empty i)
+
+later-head : (i : ℕ) (x : Value) (l : List Value) → later i (x ∷ l) ≡ now (later i (x ∷ l)) ∷ l
+unfolding later
+later-head zero x l = refl
+later-head (suc i) x l = ticked l (later i (x ∷ l)) (later-head i x l)
+
+-- so the variables come back with the clock
+pub clock-back : (i : ℕ) (v : List Value) → store variables (later i v) nowVar (now v) ≡ v
+clock-back i [] = ap (λ (w : List Value). store variables w nowVar (natural 0)) (later-empty i)
+clock-back i (x ∷ l) = ap (λ (w : List Value). store variables w nowVar x) (later-head i x l)
+
 later-other : (i : ℕ) (v : List Value) (j : ℕ) → eqb j nowVar ≡ false → valueOf (later i v) j ≡ valueOf v j
 unfolding later
 later-other zero v j h = refl
@@ -175,28 +195,47 @@ module _ (s : List ℕ) (v : List Value) (n q : ℕ) where
         (k : ℕ) → k < i + 1 → allHold (later k v) (clausesAt s q) ≡ false
     disabled-more b w e f t = below-more (λ k. allHold (later k v) (clausesAt s q) ≡ false) i l (rw (← e, ← f) t)
 
-  -- its head is h
-  module _ (h : RuleHead) where
-    pub request-never : h .kind ≡ 8 → n ≡ firstBelow n (λ i. ruleStops s (later i v) q h)
+  -- k is its event kind
+  module _ (k : ℕ) where
+    pub request-never : k ≡ 8 → n ≡ firstBelow n (λ i. ruleStops s (later i v) q k)
     unfolding ruleStops
-    request-never e = sym (first-none n (λ i. ruleStops s (later i v) q h) (λ k b. rw e))
+    request-never e = sym (first-none n (λ i. ruleStops s (later i v) q k) (λ j b. rw e))
 
-    module _ (e : h .kind ≡ 8 → ⊥) where
-      pub rule-never : (b : Bool) → b ≡ allPass true v (clausesAt s q) → b ≡ false → n ≡ firstBelow n (λ i. ruleStops s (later i v) q h)
+    pub none-left : n ≡ 0 → n ≡ firstBelow n (λ i. ruleStops s (later i v) q k)
+    none-left z = let w = first-within n (λ i. ruleStops s (later i v) q k) in omega arith
+
+    module _ (e : k ≡ 8 → ⊥) where
+      pub rule-never : (b : Bool) → b ≡ allPass true v (clausesAt s q) → b ≡ false → n ≡ firstBelow n (λ i. ruleStops s (later i v) q k)
       unfolding ruleStops
       rule-never b g f =
-          sym (first-none n (λ i. ruleStops s (later i v) q h) (λ k c. rw (ne-eqb (h .kind) 8 e) (all-fail k v (clausesAt s q) (sym g ∙ f))))
+          sym (first-none n (λ i. ruleStops s (later i v) q k) (λ j c. rw (ne-eqb k 8 e) (all-fail j v (clausesAt s q) (sym g ∙ f))))
 
-      pub rule-first : firstBelow n (λ i. allHold (later i v) (clausesAt s q)) ≡ firstBelow n (λ i. ruleStops s (later i v) q h)
+      pub rule-first : firstBelow n (λ i. allHold (later i v) (clausesAt s q)) ≡ firstBelow n (λ i. ruleStops s (later i v) q k)
       unfolding ruleStops
-      rule-first = first-same n (λ i. allHold (later i v) (clausesAt s q)) (λ i. ruleStops s (later i v) q h) (λ i. rw (ne-eqb (h .kind) 8 e))
+      rule-first = first-same n (λ i. allHold (later i v) (clausesAt s q)) (λ i. ruleStops s (later i v) q k) (λ i. rw (ne-eqb k 8 e))
+
+      -- one tick
+      module _ (o : n ≡ 1) (b : Bool) (g : b ≡ allHold v (clausesAt s q)) where
+        pub rule-now : b ≡ true → 0 ≡ firstBelow n (λ i. ruleStops s (later i v) q k)
+        unfolding later
+        rule-now t = rule-at (first-found n (λ i. allHold (later i v) (clausesAt s q)) 0 (omega arith) (sym g ∙ t) (λ j c. absurd (omega arith)))
+          where
+            rule-at : firstBelow n (λ i. allHold (later i v) (clausesAt s q)) ≡ 0 → 0 ≡ firstBelow n (λ i. ruleStops s (later i v) q k)
+            rule-at f = sym f ∙ rule-first
+
+        pub rule-not-now : b ≡ false → 1 ≡ firstBelow n (λ i. ruleStops s (later i v) q k)
+        unfolding later
+        rule-not-now t = sym o ∙ sym (first-none n (λ i. allHold (later i v) (clausesAt s q)) (λ j c. only j (omega arith))) ∙ rule-first
+          where
+            only : (j : ℕ) → j ≡ 0 → allHold (later j v) (clausesAt s q) ≡ false
+            only j z = rw z (sym g ∙ t)
 
 -- ---- the walk over the rules
 pub record-never : (s : List ℕ) (v : List Value) (n q : ℕ) (x : Record) → (kindOf x ≡ 33 → ⊥) → n ≡ firstBelow n (λ i. stopsTick s (later i v) q x)
 record-never s v n q x h = sym (first-none n (λ i. stopsTick s (later i v) q x) (λ k b. stops-never s (later k v) q x h))
 
 pub record-first : (s : List ℕ) (v : List Value) (n q : ℕ) (x : Record) (h : RuleHead) → x ≡ Head h →
-    firstBelow n (λ i. ruleStops s (later i v) q h) ≡ firstBelow n (λ i. stopsTick s (later i v) q x)
+    firstBelow n (λ i. ruleStops s (later i v) q (h .kind)) ≡ firstBelow n (λ i. stopsTick s (later i v) q x)
 unfolding stopsTick
 record-first s v n q x h e = rw e
 
@@ -213,9 +252,38 @@ quiet-on s p m x h e f v n k g =
     (λ i. isBusy (later i v) (gather (records (drop p s)) .rules))
     (λ i. rw (records-at s p m x h e f) (sym (busy-step s (later i v) (p + m) x))))
 
-pub quiet-begin : (s : List ℕ) (v : List Value) (n : ℕ) → quietFrom s v n 0 ≡ firstBelow n (λ i. isBusy (later i v) (tableOf s .rules))
-unfolding tableOf
-quiet-begin s v n = refl
+-- over the heads listed: k is the event kind of the rule whose head stands at p
+pub quiet-head : (s : List ℕ) (p k : ℕ) (h : HeadAt s p) → k ≡ getD s (p + 1) 0 → (v : List Value) (n r : ℕ) →
+    r ≡ firstBelow n (λ i. ruleStops s (later i v) (p + 11) k) → quietFrom s v r (p + 11) ≡ quietFrom s v n p
+unfolding stopsTick
+quiet-head s p k h e v n r g =
+    rw g
+    (first-or n (λ i. ruleStops s (later i v) (p + 11) k) (λ i. isBusy (later i v) (rulesFrom s (p + 11))) ∙
+    first-same n (λ i. ruleStops s (later i v) (p + 11) k || isBusy (later i v) (rulesFrom s (p + 11))) (λ i. isBusy (later i v) (rulesFrom s p)) same)
+  where
+    same : (i : ℕ) → (ruleStops s (later i v) (p + 11) k || isBusy (later i v) (rulesFrom s (p + 11))) ≡ isBusy (later i v) (rulesFrom s p)
+    same i =
+        ap (λ (j : ℕ). ruleStops s (later i v) (p + 11) j || isBusy (later i v) (rulesFrom s (p + 11))) (e ∙ head-kind s p h) ∙
+        sym (busy-step s (later i v) (p + 11) (Head (headIn s p))) ∙
+        ap (λ (l : List Record). isBusy (later i v) (gather l .rules)) (sym (head-records s p (h .kind) (h .within)))
+
+-- i of the c heads listed are looked at, k is how many of n ticks are left; what stands after the list is left open
+abbrev pub QuietOn : List ℕ → List ℕ → ℕ → List Value → ℕ → ℕ → ℕ → Type 0
+QuietOn s place c v n k i =
+    (rest : ℕ) → Listed s place c rest → quietFrom s v k (placeOf place c rest i) ≡ firstBelow n (λ j. isBusy (later j v) (tableOf s .rules))
+
+module _ (s place : List ℕ) (c : ℕ) (v : List Value) (n : ℕ) where
+  pub quiet-begin : QuietOn s place c v n n 0
+  quiet-begin rest l = ap (λ (r : List Rule). firstBelow n (λ j. isBusy (later j v) r)) (l .first)
+
+  pub quiet-next : (k r i : ℕ) → i < c → quietFrom s v r (getD place i 0 + 11) ≡ quietFrom s v k (getD place i 0) →
+      QuietOn s place c v n k i → QuietOn s place c v n r (i + 1)
+  quiet-next k r i h e a rest l =
+      ap (λ (x : List Rule). firstBelow r (λ j. isBusy (later j v) x)) (sym (l .next i h)) ∙ e ∙ (rw (lt-ltb i c h) at (a rest l))
+
+  pub quiet-listed : (k i rest : ℕ) → c ≤ i → Listed s place c rest → QuietOn s place c v n k i →
+      quietFrom s v k rest ≡ firstBelow n (λ j. isBusy (later j v) (tableOf s .rules))
+  quiet-listed k i rest h l a = rw (le-ltb i c h) at (a rest l)
 
 pub quiet-end : (s : List ℕ) (v : List Value) (n p : ℕ) → length s ≤ p → n ≡ quietFrom s v n p
 unfolding isBusy gather

@@ -5,29 +5,28 @@ use records::Cause;
 use records::Event;
 use records::Holder;
 use records::Notation;
-use records::Operand;
 use records::Refusal;
-use table_format::Atom;
 use table_format::InitialValue;
 use table_format::RuleHead;
-use table_format::Update;
 ghost use mathlib.Core.Path.{_≡_};
 ghost use mathlib.Core.Bool.{true, false, not};
 ghost use mathlib.Core.List.{[], _∷_};
-ghost use lib.ListN.{getD, set, drop};
+ghost use Prim.Native.Nat.{_<_};
+ghost use lib.ListN.{getD, set, length};
 ghost use Rattle.numbers.specs.Lists.{store, firstBelow};
 ghost use Rattle.numbers.specs.Values.{value, signed, natural, plus, lessValue};
 ghost use Rattle.records.specs.Events.{lastClock};
 ghost use Rattle.table_format.specs.Variables.{variables};
-ghost use Rattle.table_format.specs.Format.{recordOf, records};
-ghost use Rattle.table_format.specs.Table.{tableOf, gather};
+ghost use Rattle.table_format.specs.Format.{recordOf, atomOf, updateOf};
+ghost use Rattle.table_format.specs.Table.{tableOf};
 ghost use Rattle.table.specs.Rules as rules;
 ghost use Rattle.table.specs.Machine as machine;
 ghost use Rattle.table.specs.Bits.{values};
-ghost use Rattle.table.specs.Enabled.{readsClock, passes, isDecided, heldAfter, allPass, clausesAt, isAsked, oneMore, ruleAt, rulesFound, choice, foundRule, foundAfter, ruleStops, stopsTick};
-ghost use Rattle.table.specs.Ticking.{oneTick, later};
-ghost use Rattle.table.specs.Applied.{writesOf, Applied, Result, headAllows};
-ghost use Rattle.table.specs.Running.{initialAfter, endedOf, tallyOf};
+ghost use Rattle.table.specs.Places.{HeadAt, headIn, Listed};
+ghost use Rattle.table.specs.Enabled.{passes, allPass, clausesAt, isAsked, oneMore, ruleAt, rulesFound, choice, foundRule, foundAfter, foundHere, Finds, ruleStops, stopsTick};
+ghost use Rattle.table.specs.Ticking.{oneTick, later, quietFrom};
+ghost use Rattle.table.specs.Applied.{Unmarked, writesFrom, Applied, Result, headAllows};
+ghost use Rattle.table.specs.Running.{initialAfter, endedOf, tallyOf, variablesOf, steppedTo};
 
 // The environment variables by number.
 pub struct Variables {
@@ -63,7 +62,7 @@ fn bits_of(x: Value) -> u32
     numbers::bits(x)
 }
 
-fn all_bits(s: Variables) -> [u32; 288]
+pub fn all_bits(s: Variables) -> [u32; 288]
     ensures { λ r. ⌜ values r ≡ s .value ⌝ }
 {
     let mut v = [0; 288];
@@ -76,7 +75,7 @@ fn all_bits(s: Variables) -> [u32; 288]
     v
 }
 
-fn variables_of(v: [u32; 288]) -> Variables
+pub fn variables_of(v: [u32; 288]) -> Variables
     ensures { λ r. ⌜ r ≡ record { value = values v } ⌝ }
 {
     let zero = numbers::value_of(0);
@@ -88,6 +87,12 @@ fn variables_of(v: [u32; 288]) -> Variables
         j += 1;
     }
     Variables { value: a }
+}
+
+fn wide(n: u16) -> usize
+    ensures { λ r. ⌜ (r ≡ n) × (n < 65536) ⌝ }
+{
+    n as usize
 }
 
 // A variable; one that is not there reads 0.
@@ -112,25 +117,27 @@ fn put(v: &mut [u32; 288], j: usize, n: u32)
 }
 
 // ---- rules
-// `n` is the chosen length.
-fn operand_value(n: u32, v: &[u32; 288], o: Operand) -> Value
-    ensures { λ r. ⌜ r ≡ rules.operandValue n (values (now (v .entry))) o ⌝ }
+// An operand by its tag and its value; `n` is the chosen length.
+fn operand_value(n: u32, v: &[u32; 288], tag: u8, x: Value) -> Value
+    ensures { λ r. ⌜ r ≡ rules.operandValue n (values (now (v .entry))) (record { tag = tag; value = x }) ⌝ }
 {
-    let t = o.tag;
-    let x = o.value;
-    if t == 0 {
+    if tag == 0 {
         return x;
     }
-    if t == 1 {
+    if tag == 1 {
         let j = numbers::bits(x);
         return value_in(v, j as usize);
     }
     numbers::value_of(n)
 }
 
+// Most atoms ask whether two values are the same.
 fn holds_op(op: u8, x: Value, y: Value) -> bool
     ensures { λ r. ⌜ r ≡ rules.holdsOp op x y ⌝ }
 {
+    if op == 0 {
+        return numbers::same(x, y);
+    }
     if op < 6 {
         return numbers::compares(op, x, y);
     }
@@ -142,81 +149,57 @@ fn holds_op(op: u8, x: Value, y: Value) -> bool
     !numbers::is_multiple(m, p)
 }
 
-fn holds(v: &[u32; 288], a: Atom) -> bool
-    ensures { λ r. ⌜ r ≡ rules.holds (values (now (v .entry))) a ⌝ }
+// Whether the atom that a part holds does. `free`: one that reads the clock, as its variable or as its operand, passes, whatever the clock is.
+fn passes(free: bool, v: &[u32; 288], x: &[u8]) -> bool
+    ensures { λ r. ⌜ r ≡ passes free (values (now (v .entry))) (atomOf (now (x .entry))) ⌝ }
 {
-    let op = a.op;
-    let j = a.variable;
-    let o = a.right;
-    let x = value_in(v, j as usize);
-    let y = operand_value(0, v, o);
-    holds_op(op, x, y)
-}
-
-// The atom reads the clock, as its variable or as its operand.
-fn reads_clock(a: Atom) -> bool
-    ensures { λ r. ⌜ r ≡ readsClock a ⌝ }
-{
-    let j = a.variable;
-    let o = a.right;
-    let t = o.tag;
-    let x = o.value;
-    let n = numbers::bits(x);
-    (j == 0) | ((t == 1) & (n == 0))
-}
-
-// `free`: an atom that reads the clock passes, whatever the clock is.
-fn passes(free: bool, v: &[u32; 288], a: Atom) -> bool
-    ensures { λ r. ⌜ r ≡ passes free (values (now (v .entry))) a ⌝ }
-{
-    if !free {
-        return holds(v, a);
-    }
-    if reads_clock(a) {
+    let op = numbers::byte_at(x, 1);
+    let j = numbers::u16_at(x, 2);
+    let tag = numbers::byte_at(x, 4);
+    let y = numbers::value_at(x, 5);
+    let n = numbers::bits(y);
+    if free & ((j == 0) | ((tag == 1) & (n == 0))) {
         return true;
     }
-    holds(v, a)
+    let a = value_in(v, j as usize);
+    let b = operand_value(0, v, tag, y);
+    holds_op(op, a, b)
 }
 
-// The clauses of a rule are over at a record of kind k, or one of them fails: `held` is then whether the rule is enabled.
-fn is_decided(held: bool, k: u8) -> bool
-    ensures { λ r. ⌜ r ≡ isDecided held k ⌝ }
-{
-    (k == 33) | ((k == 34) & !held)
-}
-
-// Whether the last clause holds after the part x, as far as its atoms are read.
-fn held_after(free: bool, v: &[u32; 288], held: bool, x: &[u8]) -> bool
-    ensures { λ r. ⌜ r ≡ heldAfter free (values (now (v .entry))) held (recordOf (now (x .entry))) ⌝ }
-{
-    let k = table_format::kind_of(x);
-    if k == 34 {
-        return false;
-    }
-    if k != 35 {
-        return held;
-    }
-    if held {
-        return true;
-    }
-    passes(free, v, table_format::atom_of(x))
-}
-
-// Whether all clauses hold of the rule whose records after its head begin at `from`.
+// Whether all clauses hold of the rule whose records after its head begin at `from`. An atom is decoded only where its clause does not hold
+// yet. A record that is cut is the last.
 fn all_pass(t: &[u8], from: usize, free: bool, v: &[u32; 288]) -> bool
     ensures { λ r. ⌜ r ≡ allPass free (values (now (v .entry))) (clausesAt (now (t .entry)) from) ⌝ }
 {
     let mut at: usize = from;
     let mut held = true;
     while at < t.len() {
-        let w = Notation::Table;
-        let n = records::part_at(w, t, at);
-        let next = at + n;
-        if is_decided(held, table_format::kind_of(&t[at..next])) {
+        let k = t[at];
+        if k == 34 {
+            if !held {
+                return false;
+            }
+            held = false;
+            at += 1;
+            continue;
+        }
+        if k == 35 {
+            if t.len() - at < 9 {
+                return held;
+            }
+            if held {
+                at += 9;
+                continue;
+            }
+            held = passes(free, v, &t[at..at + 9]);
+            at += 9;
+            continue;
+        }
+        if k == 33 {
             return held;
         }
-        held = held_after(free, v, held, &t[at..next]);
-        at = next;
+        let w = Notation::Table;
+        at += records::part_at(w, t, at);
     }
     held
 }
@@ -227,9 +210,51 @@ fn is_enabled(t: &[u8], from: usize, v: &[u32; 288]) -> bool
     all_pass(t, from, false, v)
 }
 
+// ---- the heads of rules
+// The rules of a table in order: the places of the first `listed` heads stand in a list beside the table, the other rules are among the records
+// from `rest` on.
+pub struct Heads {
+    pub listed: usize,
+    pub rest: usize,
+}
+
+// The list of a table's heads, as far as there is room: a run makes it once, and walks the table no more.
+pub fn list_heads(t: &[u8], place: &mut [usize]) -> Heads
+    ensures { λ r. ⌜ Listed (now (t .entry)) (now (place .exit)) (r .listed) (r .rest) ⌝ }
+{
+    let mut n: usize = 0;
+    let mut at: usize = 0;
+    while at < t.len() {
+        if t[at] == 33 {
+            if place.len() <= n {
+                return Heads {
+                    listed: n,
+                    rest: at,
+                };
+            }
+            if t.len() - at < 11 {
+                return Heads {
+                    listed: n,
+                    rest: at,
+                };
+            }
+            place[n] = at;
+            n += 1;
+            at += 11;
+            continue;
+        }
+        let w = Notation::Table;
+        at += records::part_at(w, t, at);
+    }
+    Heads {
+        listed: n,
+        rest: at,
+    }
+}
+
 // The enabled rules of an event's kind and id: none, one or more (`count` 0, 1, 2). Of the last one its head, and the place after that.
 struct Found {
-    count: u8,
+    count: usize,
     place: usize,
     head: RuleHead,
 }
@@ -282,9 +307,48 @@ fn found_after(t: &[u8], v: &[u32; 288], e: Event, f: Found, next: usize, x: &[u
     found_rule(t, v, e, f, next, table_format::head_of(x))
 }
 
-// The enabled rules of an event, by one walk over the table.
-fn find(t: &[u8], v: &[u32; 288], e: Event) -> Found
-    ensures { λ r. ⌜ choice (rulesFound (now (t .entry)) r) ≡ choice (rules.enabledRules (values (now (v .entry))) (e .kind) (e .id) (tableOf (now (t .entry)) .rules)) ⌝ }
+// The enabled rules of an event among those from a place on, beside those found before.
+fn find_from(t: &[u8], from: usize, v: &[u32; 288], e: Event, before: Found) -> Found
+    ensures { λ r. ⌜ choice (rulesFound (now (t .entry)) r) ≡ Finds (now (t .entry)) (values (now (v .entry))) e before from ⌝ }
+{
+    let mut f = before;
+    let mut at: usize = from;
+    while at < t.len() {
+        let w = Notation::Table;
+        let n = records::part_at(w, t, at);
+        let next = at + n;
+        f = found_after(t, v, e, f, next, &t[at..next]);
+        at = next;
+    }
+    f
+}
+
+// Whether the rule whose head stands at `at` is for the event.
+fn is_for(t: &[u8], at: usize, e: Event) -> bool
+    requires { ⌜ HeadAt (now t) at ⌝ }
+    ensures { λ r. ⌜ r ≡ isAsked e (headIn (now (t .entry)) at) ⌝ }
+{
+    let k = t[at + 1];
+    let i = t[at + 2];
+    (k == e.kind) & (i == e.id)
+}
+
+// What is found where that rule, one for the event, is looked at too.
+fn found_at(t: &[u8], v: &[u32; 288], f: Found, at: usize) -> Found
+    requires { ⌜ HeadAt (now t) at ⌝ }
+    ensures { λ r. ⌜ r ≡ foundHere (now (t .entry)) (values (now (v .entry))) f at ⌝ }
+{
+    let next = at + 11;
+    if !is_enabled(t, next, v) {
+        return f;
+    }
+    one_more(f, next, table_format::head_of(&t[at..next]))
+}
+
+// The enabled rules of an event among the rules listed.
+fn find_listed(t: &[u8], place: &[usize], heads: Heads, v: &[u32; 288], e: Event) -> Found
+    requires { ⌜ Listed (now t) (now place) (heads .listed) (heads .rest) ⌝ }
+    ensures { λ r. ⌜ Finds (now (t .entry)) (values (now (v .entry))) e r (heads .rest) ≡ choice (rules.enabledRules (values (now (v .entry))) (e .kind) (e .id) (tableOf (now (t .entry)) .rules)) ⌝ }
 {
     let h = RuleHead {
         kind: 0,
@@ -297,144 +361,146 @@ fn find(t: &[u8], v: &[u32; 288], e: Event) -> Found
         place: 0,
         head: h,
     };
-    let mut at: usize = 0;
-    while at < t.len() {
-        let w = Notation::Table;
-        let n = records::part_at(w, t, at);
-        let next = at + n;
-        f = found_after(t, v, e, f, next, &t[at..next]);
-        at = next;
+    let n = heads.listed;
+    let mut i: usize = 0;
+    while i < n {
+        let at = place[i];
+        if !is_for(t, at, e) {
+            i += 1;
+            continue;
+        }
+        f = found_at(t, v, f, at);
+        i += 1;
     }
     f
 }
 
-// ---- updates
-fn applies(v: &[u32; 288], u: Update) -> bool
-    ensures { λ r. ⌜ r ≡ rules.applies (values (now (v .entry))) u ⌝ }
+// The enabled rules of an event.
+fn find(t: &[u8], place: &[usize], heads: Heads, v: &[u32; 288], e: Event) -> Found
+    requires { ⌜ Listed (now t) (now place) (heads .listed) (heads .rest) ⌝ }
+    ensures { λ r. ⌜ choice (rulesFound (now (t .entry)) r) ≡ choice (rules.enabledRules (values (now (v .entry))) (e .kind) (e .id) (tableOf (now (t .entry)) .rules)) ⌝ }
 {
-    let c = u.condition;
+    let f = find_listed(t, place, heads, v, e);
+    let rest = heads.rest;
+    find_from(t, rest, v, e, f)
+}
+
+// ---- updates
+// Whether the update that a part holds applies.
+fn applies(v: &[u32; 288], x: &[u8]) -> bool
+    ensures { λ r. ⌜ r ≡ rules.applies (values (now (v .entry))) (updateOf (now (x .entry))) ⌝ }
+{
+    let c = numbers::u16_at(x, 1);
     if c == 65535 {
         return true;
     }
-    let w = u.wanted;
-    let x = value_in(v, c as usize);
-    let y = numbers::value_of(w as u32);
-    numbers::same(x, y)
+    let w = numbers::byte_at(x, 3);
+    let a = value_in(v, c as usize);
+    let b = numbers::value_of(w as u32);
+    numbers::same(a, b)
 }
 
-fn new_value(n: u32, v: &[u32; 288], u: Update) -> Value
-    ensures { λ r. ⌜ r ≡ rules.newValue n (values (now (v .entry))) u ⌝ }
+// The value that it writes. A copy has no second operand.
+fn new_value(n: u32, v: &[u32; 288], x: &[u8]) -> Value
+    ensures { λ r. ⌜ r ≡ rules.newValue n (values (now (v .entry))) (updateOf (now (x .entry))) ⌝ }
 {
-    let op = u.op;
-    let a = u.first;
-    let b = u.second;
-    let x = operand_value(n, v, a);
-    let y = operand_value(n, v, b);
-    numbers::combine(op, x, y)
+    let op = numbers::byte_at(x, 6);
+    let s = numbers::byte_at(x, 7);
+    let a = operand_value(n, v, s, numbers::value_at(x, 8));
+    if op == 0 {
+        return a;
+    }
+    let t = numbers::byte_at(x, 12);
+    let b = operand_value(n, v, t, numbers::value_at(x, 13));
+    numbers::combine(op, a, b)
 }
 
 // Marks a target; tells whether it was marked before.
-fn mark(m: &mut [bool; 65536], j: u16) -> bool
+fn mark(m: &mut [bool], j: usize) -> bool
+    requires { ⌜ j < length (now m) ⌝ }
     ensures { λ r. ⌜ (r ≡ getD (now (m .entry)) j false) × (now (m .exit) ≡ set (now (m .entry)) j true) ⌝ }
 {
-    let i = j as usize;
-    let b = m[i];
-    m[i] = true;
+    let b = m[j];
+    m[j] = true;
     b
 }
 
-// Where an update applies, its target is written and marked; tells whether the target was marked before.
-fn apply_update(
+// Where an update applies, its target is written and marked: 1 where the target was marked before, 2 where there is no mark for it.
+fn apply_update(n: u32, old: &[u32; 288], new: &mut [u32; 288], marks: &mut [bool], x: &[u8]) -> u8
+    ensures { λ r. ⌜ Applied (rules.writes n (values (now (old .entry))) (updateOf (now (x .entry)) ∷ [])) r (now (new .entry)) (now (new .exit)) (now (marks .entry)) (now (marks .exit)) ⌝ }
+{
+    if !applies(old, x) {
+        return 0;
+    }
+    let j = wide(numbers::u16_at(x, 4));
+    if marks.len() <= j {
+        return 2;
+    }
+    let y = new_value(n, old, x);
+    put(new, j, bits_of(y));
+    if mark(marks, j) { 1 } else { 0 }
+}
+
+// The updates of the rule whose records after its head begin at `from`, each reading the old variables: 1 where a target is written twice, 2
+// where there is no mark for one.
+fn apply_updates(
+    t: &[u8],
+    from: usize,
     n: u32,
     old: &[u32; 288],
     new: &mut [u32; 288],
-    marks: &mut [bool; 65536],
-    u: Update,
-) -> bool
-    ensures { λ r. ⌜ Applied (rules.writes n (values (now (old .entry))) (u ∷ [])) r (now (new .entry)) (now (new .exit)) (now (marks .entry)) (now (marks .exit)) ⌝ }
+    marks: &mut [bool],
+) -> u8
+    requires { ⌜ Unmarked (now marks) ⌝ }
+    ensures { λ r. ⌜ Result (writesFrom n (values (now (old .entry))) (now (t .entry)) from) (now (new .entry)) r (now (new .exit)) (length (now (marks .entry))) ⌝ }
 {
-    if !applies(old, u) {
-        return false;
-    }
-    let j = u.target;
-    let x = new_value(n, old, u);
-    put(new, j as usize, bits_of(x));
-    mark(marks, j)
-}
-
-fn apply_record(
-    n: u32,
-    old: &[u32; 288],
-    new: &mut [u32; 288],
-    marks: &mut [bool; 65536],
-    x: &[u8],
-) -> bool
-    ensures { λ r. ⌜ Applied (writesOf n (values (now (old .entry))) (recordOf (now (x .entry)))) r (now (new .entry)) (now (new .exit)) (now (marks .entry)) (now (marks .exit)) ⌝ }
-{
-    if table_format::kind_of(x) != 36 {
-        return false;
-    }
-    apply_update(n, old, new, marks, table_format::update_of(x))
-}
-
-// Whether the updates of a rule have a target twice, and the variables after them where not.
-struct Written {
-    twice: bool,
-    bits: [u32; 288],
-}
-
-// The updates of the rule whose records after its head begin at `from`, each reading the old variables.
-fn apply_updates(t: &[u8], from: usize, n: u32, old: [u32; 288]) -> Written
-    ensures { λ r. ⌜ Result (rules.writes n (values old) (gather (records (drop from (now (t .entry)))) .updates)) (values old) r ⌝ }
-{
-    let mut new = old;
-    let mut marks = [false; 65536];
     let mut at: usize = from;
     while at < t.len() {
+        let k = t[at];
+        if k == 33 {
+            return 0;
+        }
+        if k == 36 {
+            if t.len() - at < 17 {
+                return 0;
+            }
+            let c = apply_update(n, old, new, marks, &t[at..at + 17]);
+            if c != 0 {
+                return c;
+            }
+            at += 17;
+            continue;
+        }
         let w = Notation::Table;
-        let m = records::part_at(w, t, at);
-        let next = at + m;
-        if table_format::kind_of(&t[at..next]) == 33 {
-            return Written {
-                twice: false,
-                bits: new,
-            };
-        }
-        if apply_record(n, &old, &mut new, &mut marks, &t[at..next]) {
-            return Written {
-                twice: true,
-                bits: new,
-            };
-        }
-        at = next;
+        at += records::part_at(w, t, at);
     }
-    Written {
-        twice: false,
-        bits: new,
+    0
+}
+
+// With a mark for each number that a target can have.
+fn apply_any(t: &[u8], from: usize, n: u32, old: &[u32; 288], new: &mut [u32; 288]) -> u8
+    ensures { λ r. ⌜ Result (writesFrom n (values (now (old .entry))) (now (t .entry)) from) (now (new .entry)) r (now (new .exit)) 65536 ⌝ }
+{
+    let mut marks = [false; 65536];
+    apply_updates(t, from, n, old, new, &mut marks)
+}
+
+// Marks for the variables there are do for a table that was accepted.
+fn apply_all(t: &[u8], from: usize, n: u32, old: &[u32; 288], new: &mut [u32; 288]) -> u8
+    requires { ⌜ now new ≡ now old ⌝ }
+    ensures { λ r. ⌜ Result (writesFrom n (values (now (old .entry))) (now (t .entry)) from) (now (new .entry)) r (now (new .exit)) 65536 ⌝ }
+{
+    let mut marks = [false; 288];
+    let c = apply_updates(t, from, n, old, new, &mut marks);
+    if c != 2 {
+        return c;
     }
+    let first = *old;
+    *new = first;
+    apply_any(t, from, n, old, new)
 }
 
 // ---- one event
-fn refused(c: Cause, s: Variables) -> Stepped
-    ensures { λ r. ⌜ r ≡ machine.refuse c s ⌝ }
-{
-    Stepped {
-        answer: c,
-        state: s,
-    }
-}
-
-fn taken(v: [u32; 288]) -> Stepped
-    ensures { λ r. ⌜ r ≡ machine.take (values v) ⌝ }
-{
-    let c = Cause::None;
-    let s = variables_of(v);
-    Stepped {
-        answer: c,
-        state: s,
-    }
-}
-
 fn allows_length(e: Event, h: RuleHead) -> bool
     ensures { λ r. ⌜ r ≡ headAllows e h ⌝ }
 {
@@ -447,23 +513,20 @@ fn allows_length(e: Event, h: RuleHead) -> bool
 }
 
 // The one enabled rule of an event.
-fn fire(t: &[u8], s: Variables, e: Event, f: Found) -> Stepped
-    ensures { λ r. ⌜ r ≡ machine.fire s e (ruleAt (now (t .entry)) (f .place) (f .head) ∷ []) ⌝ }
+fn fire(t: &[u8], v: &mut [u32; 288], e: Event, f: Found) -> Cause
+    ensures { λ r. ⌜ steppedTo r (now (v .exit)) ≡ machine.fire (variablesOf (now (v .entry))) e (ruleAt (now (t .entry)) (f .place) (f .head) ∷ []) ⌝ }
 {
     let h = f.head;
     let p = f.place;
     if !allows_length(e, h) {
-        let c = Cause::NotEnabled;
-        return refused(c, s);
+        return Cause::NotEnabled;
     }
-    let v = all_bits(s);
-    let w = apply_updates(t, p, e.amount, v);
-    if w.twice {
-        let c = Cause::InconsistentUpdates;
-        return refused(c, s);
+    let old = *v;
+    if apply_all(t, p, e.amount, &old, v) == 1 {
+        *v = old;
+        return Cause::InconsistentUpdates;
     }
-    let b = w.bits;
-    taken(b)
+    Cause::None
 }
 
 // ---- ticks
@@ -505,14 +568,19 @@ fn ticks_to_enabled(t: &[u8], from: usize, v: &[u32; 288], limit: u32) -> u32
     i
 }
 
-// After how many ticks the rule whose head h stands before `next` stops them. Only the clock changes meanwhile: a rule with a clause
-// that fails and does not read the clock is never enabled.
-fn ticks_to_rule(t: &[u8], v: &[u32; 288], limit: u32, next: usize, h: RuleHead) -> u32
-    ensures { λ r. ⌜ r ≡ firstBelow limit (λ i. ruleStops (now (t .entry)) (later i (values (now (v .entry)))) next h) ⌝ }
+// After how many ticks a rule for events of a kind stops them. Only the clock changes meanwhile: a rule with a clause that fails and does not
+// read the clock is never enabled.
+fn ticks_to_rule(t: &[u8], v: &[u32; 288], limit: u32, next: usize, kind: u8) -> u32
+    ensures { λ r. ⌜ r ≡ firstBelow limit (λ i. ruleStops (now (t .entry)) (later i (values (now (v .entry)))) next kind) ⌝ }
 {
-    let k = h.kind;
-    if k == 8 {
+    if kind == 8 {
         return limit;
+    }
+    if limit == 0 {
+        return limit;
+    }
+    if limit == 1 {
+        return if is_enabled(t, next, v) { 0 } else { 1 };
     }
     if !all_pass(t, next, true, v) {
         return limit;
@@ -526,15 +594,16 @@ fn ticks_to_record(t: &[u8], v: &[u32; 288], limit: u32, next: usize, x: &[u8]) 
     if table_format::kind_of(x) != 33 {
         return limit;
     }
-    ticks_to_rule(t, v, limit, next, table_format::head_of(x))
+    let h = table_format::head_of(x);
+    ticks_to_rule(t, v, limit, next, h.kind)
 }
 
-// How many of n ticks pass before some rule stops them, by one walk over the table.
-fn quiet_ticks(t: &[u8], v: &[u32; 288], n: u32) -> u32
-    ensures { λ r. ⌜ r ≡ firstBelow n (λ i. machine.isBusy (later i (values (now (v .entry)))) (tableOf (now (t .entry)) .rules)) ⌝ }
+// How many of n ticks pass before some rule from a place on stops them.
+fn quiet_from(t: &[u8], from: usize, v: &[u32; 288], n: u32) -> u32
+    ensures { λ r. ⌜ r ≡ quietFrom (now (t .entry)) (values (now (v .entry))) n from ⌝ }
 {
     let mut limit = n;
-    let mut at: usize = 0;
+    let mut at: usize = from;
     while at < t.len() {
         let w = Notation::Table;
         let m = records::part_at(w, t, at);
@@ -545,51 +614,92 @@ fn quiet_ticks(t: &[u8], v: &[u32; 288], n: u32) -> u32
     limit
 }
 
-// n ticks: the quiet ones, as far as the clock goes.
-fn tick(t: &[u8], s: Variables, n: u32) -> Stepped
-    ensures { λ r. ⌜ r ≡ machine.ticks (tableOf (now (t .entry)) .rules) s n (s .value) ⌝ }
+// And before some rule listed does.
+fn quiet_listed(t: &[u8], place: &[usize], heads: Heads, v: &[u32; 288], n: u32) -> u32
+    requires { ⌜ Listed (now t) (now place) (heads .listed) (heads .rest) ⌝ }
+    ensures { λ r. ⌜ quietFrom (now (t .entry)) (values (now (v .entry))) r (heads .rest) ≡ firstBelow n (λ i. machine.isBusy (later i (values (now (v .entry)))) (tableOf (now (t .entry)) .rules)) ⌝ }
 {
-    let mut v = all_bits(s);
-    let quiet = quiet_ticks(t, &v, n);
+    let count = heads.listed;
+    let mut limit = n;
+    let mut i: usize = 0;
+    while i < count {
+        let at = place[i];
+        let kind = t[at + 1];
+        limit = ticks_to_rule(t, v, limit, at + 11, kind);
+        i += 1;
+    }
+    limit
+}
+
+// How many of n ticks pass before some rule stops them.
+fn quiet_ticks(t: &[u8], place: &[usize], heads: Heads, v: &[u32; 288], n: u32) -> u32
+    requires { ⌜ Listed (now t) (now place) (heads .listed) (heads .rest) ⌝ }
+    ensures { λ r. ⌜ r ≡ firstBelow n (λ i. machine.isBusy (later i (values (now (v .entry)))) (tableOf (now (t .entry)) .rules)) ⌝ }
+{
+    let m = quiet_listed(t, place, heads, v, n);
+    let rest = heads.rest;
+    quiet_from(t, rest, v, m)
+}
+
+// n ticks: the quiet ones, as far as the clock goes. Where they are refused, the clock is set back.
+fn tick(t: &[u8], place: &[usize], heads: Heads, v: &mut [u32; 288], n: u32) -> Cause
+    requires { ⌜ Listed (now t) (now place) (heads .listed) (heads .rest) ⌝ }
+    ensures { λ r. ⌜ steppedTo r (now (v .exit)) ≡ machine.ticks (tableOf (now (t .entry)) .rules) (variablesOf (now (v .entry))) n (values (now (v .entry))) ⌝ }
+{
+    let quiet = quiet_ticks(t, place, heads, v, n);
+    let first = value_in(v, 0);
     let mut i: u32 = 0;
     while i < quiet {
-        if is_last_clock(value_in(&v, 0)) {
-            let c = Cause::LastClock;
-            return refused(c, s);
+        if is_last_clock(value_in(v, 0)) {
+            put(v, 0, bits_of(first));
+            return Cause::LastClock;
         }
-        advance(&mut v);
+        advance(v);
         i += 1;
     }
     if i < n {
-        let c = Cause::NotEnabled;
-        return refused(c, s);
+        put(v, 0, bits_of(first));
+        return Cause::NotEnabled;
     }
-    taken(v)
+    Cause::None
 }
 
-// One event on the table that the bytes t hold, whether or not they were accepted.
+// One event on the table that the bytes t hold, whether or not they were accepted: `v` are the bits of the variables one event further, or as
+// they were where it is refused.
+pub fn step_on(t: &[u8], place: &[usize], heads: Heads, v: &mut [u32; 288], e: Event) -> Cause
+    requires { ⌜ Listed (now t) (now place) (heads .listed) (heads .rest) ⌝ }
+    ensures { λ r. ⌜ steppedTo r (now (v .exit)) ≡ machine.step (tableOf (now (t .entry)) .rules) (variablesOf (now (v .entry))) e ⌝ }
+{
+    if records::is_broken(e) {
+        return Cause::BrokenEvent;
+    }
+    if e.kind == 11 {
+        return tick(t, place, heads, v, e.amount);
+    }
+    let f = find(t, place, heads, v, e);
+    let n = f.count;
+    if n == 0 {
+        return Cause::NotEnabled;
+    }
+    if n == 1 {
+        return fire(t, v, e, f);
+    }
+    Cause::ConflictingRules
+}
+
+// One event on variables by value. No rule is listed: the table is walked.
 pub fn step(t: &[u8], s: Variables, e: Event) -> Stepped
     ensures { λ r. ⌜ r ≡ machine.step (tableOf (now (t .entry)) .rules) s e ⌝ }
 {
-    if records::is_broken(e) {
-        let c = Cause::BrokenEvent;
-        return refused(c, s);
+    let place = [0; 1];
+    let none = Heads { listed: 0, rest: 0 };
+    let mut v = all_bits(s);
+    let c = step_on(t, &place, none, &mut v, e);
+    let q = variables_of(v);
+    Stepped {
+        answer: c,
+        state: q,
     }
-    if e.kind == 11 {
-        return tick(t, s, e.amount);
-    }
-    let v = all_bits(s);
-    let f = find(t, &v, e);
-    let n = f.count;
-    if n == 0 {
-        let c = Cause::NotEnabled;
-        return refused(c, s);
-    }
-    if n == 1 {
-        return fire(t, s, e, f);
-    }
-    let c = Cause::ConflictingRules;
-    refused(c, s)
 }
 
 // ---- the start, the clock, a run
@@ -634,6 +744,13 @@ pub fn clock_of(s: Variables) -> u32
     numbers::bits(x)
 }
 
+// And of variables by their bits.
+pub fn clock_in(v: &[u32; 288]) -> u32
+    ensures { λ r. ⌜ r ≡ machine.clockOf (variablesOf (now (v .entry))) ⌝ }
+{
+    numbers::bits(value_in(v, 0))
+}
+
 fn ended(taken: usize, c: Cause, h: Holder, start: usize, end: usize, s: Variables) -> Ran
     ensures { λ r. ⌜ r ≡ record { taken = taken; refusal = record { cause = c; holder = h; start = start; end = end }; state = s } ⌝ }
 {
@@ -654,7 +771,9 @@ fn ended(taken: usize, c: Cause, h: Holder, start: usize, end: usize, s: Variabl
 pub fn run_table(t: &[u8], script: &[u8]) -> Ran
     ensures { λ r. ⌜ endedOf r ≡ machine.runTable (now (t .entry)) (now (script .entry)) ⌝ }
 {
-    let mut s = start_variables(t);
+    let mut place = [0; 1024];
+    let heads = list_heads(t, &mut place);
+    let mut v = all_bits(start_variables(t));
     let mut k: usize = 0;
     let mut at: usize = 0;
     while at < script.len() {
@@ -662,26 +781,26 @@ pub fn run_table(t: &[u8], script: &[u8]) -> Ran
         let n = records::part_at(w, script, at);
         let next = at + n;
         let e = records::event_of(&script[at..next]);
-        let o = step(t, s, e);
-        let c = o.answer;
+        let c = step_on(t, &place, heads, &mut v, e);
         if !records::is_none(c) {
             let h = Holder::Script;
-            return ended(k, c, h, at, next, s);
+            return ended(k, c, h, at, next, variables_of(v));
         }
-        s = o.state;
         k += 1;
         at = next;
     }
     let c = Cause::None;
     let h = Holder::Model;
-    ended(k, c, h, 0, 0, s)
+    ended(k, c, h, 0, 0, variables_of(v))
 }
 
 // The run that goes on after refusals: each event on the variables that the one before it left, taken or refused.
 pub fn run_on(t: &[u8], script: &[u8]) -> Tallied
     ensures { λ r. ⌜ tallyOf r ≡ machine.tallyTable (now (t .entry)) (now (script .entry)) ⌝ }
 {
-    let mut s = start_variables(t);
+    let mut place = [0; 1024];
+    let heads = list_heads(t, &mut place);
+    let mut v = all_bits(start_variables(t));
     let mut k: usize = 0;
     let mut r: usize = 0;
     let mut at: usize = 0;
@@ -690,9 +809,7 @@ pub fn run_on(t: &[u8], script: &[u8]) -> Tallied
         let n = records::part_at(w, script, at);
         let next = at + n;
         let e = records::event_of(&script[at..next]);
-        let o = step(t, s, e);
-        let c = o.answer;
-        s = o.state;
+        let c = step_on(t, &place, heads, &mut v, e);
         at = next;
         if records::is_none(c) {
             k += 1;
@@ -700,6 +817,7 @@ pub fn run_on(t: &[u8], script: &[u8]) -> Tallied
             r += 1;
         }
     }
+    let s = variables_of(v);
     Tallied {
         taken: k,
         refused: r,

@@ -1,30 +1,40 @@
-use mathlib.Core.Path.{ap}
+use mathlib.Core.Path.{sym, _∙_, ap}
 use Prim.Native.Nat.{_-_}
 use native.Mathlib.Omega.{arith}
 use lib.ListN.{length}
-use borrow.Author.Needs.{needs}
 use borrow.Author.Tests.{not-true, not-false}
 use Rattle.records.specs.declared.Notation.the-variants.{Script}
 use Rattle.records.specs.Walk.{next-place}
-use Rattle.table.specs.declared.Stepped.{Stepped}
 use Rattle.listing.specs.Listing.{listing}
 use Rattle.table_format.specs.Table.{tableOf}
 use Rattle.table.specs.Machine.{startVariables, clockOf, machineOf}
+use Rattle.table.specs.Places.{Listed}
+use Rattle.table.specs.Running.{variablesOf, answer-of, state-of, refused-same}
 use Rattle.printing.specs.Runs.{Running, run-begin, run-on, run-refused, run-end}
+use borrow.Author.Needs.{needs}
 use Rattle.printing.proofs.run_table_listing.Statement.{statement}
 use Rattle.printing.proofs.run_table_listing.Tie as tie
 
 abbrev Inv-loop : tie.InvT-loop
-Inv-loop table script d₀ s₀ taken₀ p₀ at₀ d s taken p at = Running (machineOf (tableOf table .rules)) clockOf script d₀ (listing (machineOf (tableOf table .rules)) clockOf (startVariables (tableOf table)) script) d at p s taken
+Inv-loop table script d₀ place heads v₀ taken₀ p₀ at₀ d v taken p at = Listed table place (heads .listed) (heads .rest) × Running (machineOf (tableOf table .rules)) clockOf script d₀ (listing (machineOf (tableOf table .rules)) clockOf (startVariables (tableOf table)) script) d at p (variablesOf v) taken
 
 abbrev μ-loop : tie.MeasureT-loop
-μ-loop table script d₀ s₀ taken₀ p₀ at₀ d s taken p at = length script - p
+μ-loop table script d₀ place heads v₀ taken₀ p₀ at₀ d v taken p at = length script - p
+
+slice-aggregate-list-heads : tie.Need-slice-aggregate-list-heads Inv-loop μ-loop
+slice-aggregate-list-heads c = search needs
+
+list-heads-requires : tie.Need-list-heads-requires Inv-loop μ-loop
+list-heads-requires c κs = search needs
 
 start-variables-requires : tie.Need-start-variables-requires Inv-loop μ-loop
 start-variables-requires c κs = search needs
 
+all-bits-requires : tie.Need-all-bits-requires Inv-loop μ-loop
+all-bits-requires c κs = search needs
+
 loop-holds : tie.Need-loop-holds Inv-loop μ-loop
-loop-holds c = rw (c .start-variables .ensures) (run-begin _ _ _ _ _ (search needs) (search needs))
+loop-holds c = (c .before .before .before .list-heads .ensures, rw (c .all-bits .ensures, c .before .start-variables .ensures) (run-begin _ _ _ _ _ (search needs) (search needs)))
 
 part-at-requires : tie.Need-part-at-requires Inv-loop μ-loop
 part-at-requires c κs = search needs
@@ -44,14 +54,17 @@ part-event-of-end c = let z = next-place Script _ _ _ (c .before .loop-test .tak
 event-of-requires : tie.Need-event-of-requires Inv-loop μ-loop
 event-of-requires c κs = search needs
 
-step-requires : tie.Need-step-requires Inv-loop μ-loop
-step-requires c κs = search needs
+slice-aggregate-step-on : tie.Need-slice-aggregate-step-on Inv-loop μ-loop
+slice-aggregate-step-on c = search needs
+
+step-on-requires : tie.Need-step-on-requires Inv-loop μ-loop
+step-on-requires c κs = c .before .before .before .before .before .before .loop .inv .0
 
 is-none-requires : tie.Need-is-none-requires Inv-loop μ-loop
 is-none-requires c κs = search needs
 
-clock-of-requires : tie.Need-clock-of-requires Inv-loop μ-loop
-clock-of-requires c κs = search needs
+clock-in-requires : tie.Need-clock-in-requires Inv-loop μ-loop
+clock-in-requires c κs = search needs
 
 put-last-requires : tie.Need-put-last-requires Inv-loop μ-loop
 put-last-requires c κs = search needs
@@ -60,25 +73,25 @@ same-length : tie.Need-same-length Inv-loop μ-loop
 same-length c = search needs
 
 returns : tie.Need-returns Inv-loop μ-loop
-returns c = run-refused _ _ _ (c .before .before .before .before .before .before .before .before .before .before .before .before .loop .inv) _ _ _ _ _ (c .before .before .before .before .before .before .before .before .before .before .before .loop-test .taken) (c .before .before .before .before .before .before .before .before .before .before .part-at .ensures) (c .before .before .before .before .before .before .before .before .event-of .ensures) (ap (λ (r : Stepped). r .answer) (c .before .before .before .before .before .before .before .step .ensures)) (c .before .before .before .before .before .before .is-none .ensures) (not-true _ (c .before .before .before .before .before .if1 .taken)) (c .before .before .before .clock-of .ensures) (c .before .before .put-last .ensures)
+returns c = run-refused _ _ _ (c .before .before .before .before .before .before .before .before .before .before .before .before .before .before .before .loop .inv .1) _ _ _ _ _ (c .before .before .before .before .before .before .before .before .before .before .before .before .before .before .loop-test .taken) (c .before .before .before .before .before .before .before .before .before .before .before .before .before .part-at .ensures) (c .before .before .before .before .before .before .before .before .before .before .before .event-of .ensures) (answer-of _ _ _ _ _ (c .before .before .before .before .before .before .before .before .step-on .ensures)) (c .before .before .before .before .before .before .before .is-none .ensures) (not-true _ (c .before .before .before .before .before .before .if1 .taken)) (c .before .before .before .clock-in .ensures ∙ ap clockOf (refused-same _ _ _ _ _ (c .before .before .before .before .before .before .before .before .step-on .ensures) (sym (c .before .before .before .before .before .before .before .is-none .ensures) ∙ not-true _ (c .before .before .before .before .before .before .if1 .taken)))) (c .before .before .put-last .ensures)
 
 add-taken : tie.Need-add-taken Inv-loop μ-loop
-add-taken c = let k = c .before .before .before .before .before .before .before .before .loop .inv .count in let h = c .before .before .before .before .before .before .before .loop-test .taken in let n = c .before .before .before .before .before .before .before .before .loop .inv .size in search needs
+add-taken c = let k = c .before .before .before .before .before .before .before .before .before .loop .inv .1 .count in let h = c .before .before .before .before .before .before .before .before .loop-test .taken in let n = c .before .before .before .before .before .before .before .before .before .loop .inv .1 .size in search needs
 
-clock-of-requires-2 : tie.Need-clock-of-requires-2 Inv-loop μ-loop
-clock-of-requires-2 c κs = search needs
+clock-in-requires-2 : tie.Need-clock-in-requires-2 Inv-loop μ-loop
+clock-in-requires-2 c κs = search needs
 
 put-event-requires : tie.Need-put-event-requires Inv-loop μ-loop
 put-event-requires c κs = search needs
 
 loop-less : tie.Need-loop-less Inv-loop μ-loop
-loop-less c = let z = next-place Script _ _ _ (c .before .before .before .before .before .before .before .before .before .before .before .before .loop-test .taken) (c .before .before .before .before .before .before .before .before .before .before .before .part-at .ensures) in omega arith
+loop-less c = let z = next-place Script _ _ _ (c .before .before .before .before .before .before .before .before .before .before .before .before .before .before .loop-test .taken) (c .before .before .before .before .before .before .before .before .before .before .before .before .before .part-at .ensures) in omega arith
 
 loop-again : tie.Need-loop-again Inv-loop μ-loop
-loop-again c = run-on _ _ _ (c .before .before .before .before .before .before .before .before .before .before .before .before .before .loop .inv) _ _ _ _ _ (c .before .before .before .before .before .before .before .before .before .before .before .before .loop-test .taken) (c .before .before .before .before .before .before .before .before .before .before .before .part-at .ensures) (c .before .before .before .before .before .before .before .before .before .event-of .ensures) (ap (λ (r : Stepped). r .answer) (c .before .before .before .before .before .before .before .before .step .ensures)) (c .before .before .before .before .before .before .before .is-none .ensures) _ (ap (λ (r : Stepped). r .state) (c .before .before .before .before .before .before .before .before .step .ensures)) (not-false _ (c .before .before .before .before .before .before .if1 .left)) (c .before .before .before .clock-of2 .ensures) (c .before .before .put-event .ensures)
+loop-again c = (c .before .before .before .before .before .before .before .before .before .before .before .before .before .before .before .loop .inv .0, run-on _ _ _ (c .before .before .before .before .before .before .before .before .before .before .before .before .before .before .before .loop .inv .1) _ _ _ _ _ (c .before .before .before .before .before .before .before .before .before .before .before .before .before .before .loop-test .taken) (c .before .before .before .before .before .before .before .before .before .before .before .before .before .part-at .ensures) (c .before .before .before .before .before .before .before .before .before .before .before .event-of .ensures) (answer-of _ _ _ _ _ (c .before .before .before .before .before .before .before .before .step-on .ensures)) (c .before .before .before .before .before .before .before .is-none .ensures) _ (state-of _ _ _ _ _ (c .before .before .before .before .before .before .before .before .step-on .ensures)) (not-false _ (c .before .before .before .before .before .before .if1 .left)) (c .before .before .before .clock-in2 .ensures) (c .before .before .put-event .ensures))
 
-clock-of-requires-3 : tie.Need-clock-of-requires-3 Inv-loop μ-loop
-clock-of-requires-3 c κs = search needs
+clock-in-requires-3 : tie.Need-clock-in-requires-3 Inv-loop μ-loop
+clock-in-requires-3 c κs = search needs
 
 put-last-requires-2 : tie.Need-put-last-requires-2 Inv-loop μ-loop
 put-last-requires-2 c κs = search needs
@@ -87,7 +100,7 @@ same-length-2 : tie.Need-same-length-2 Inv-loop μ-loop
 same-length-2 c = search needs
 
 returns-2 : tie.Need-returns-2 Inv-loop μ-loop
-returns-2 c = run-end _ _ _ (c .before .before .before .before .before .before .loop .inv) _ (c .before .before .before .before .before .loop-test .left) (c .before .before .before .clock-of3 .ensures) (c .before .before .put-last2 .ensures)
+returns-2 c = run-end _ _ _ (c .before .before .before .before .before .before .before .loop .inv .1) _ (c .before .before .before .before .before .before .loop-test .left) (c .before .before .before .clock-in3 .ensures) (c .before .before .put-last2 .ensures)
 
 pub run-table-listing-spec : {M : Type 1} → statement M
 run-table-listing-spec =
@@ -95,7 +108,10 @@ run-table-listing-spec =
     (tie.spec
     Inv-loop
     μ-loop
+    slice-aggregate-list-heads
+    list-heads-requires
     start-variables-requires
+    all-bits-requires
     loop-holds
     part-at-requires
     add-q
@@ -103,18 +119,19 @@ run-table-listing-spec =
     part-event-of-start
     part-event-of-end
     event-of-requires
-    step-requires
+    slice-aggregate-step-on
+    step-on-requires
     is-none-requires
-    clock-of-requires
+    clock-in-requires
     put-last-requires
     same-length
     returns
     add-taken
-    clock-of-requires-2
+    clock-in-requires-2
     put-event-requires
     loop-less
     loop-again
-    clock-of-requires-3
+    clock-in-requires-3
     put-last-requires-2
     same-length-2
     returns-2)

@@ -1,12 +1,18 @@
 use mathlib.Core.Path.{_∙_}
 use native.Mathlib.Omega.{arith}
-use borrow.Author.Needs.{needs}
 use Rattle.table.specs.RuleLaws.{applies-always, applies-where}
+use borrow.Author.Needs.{needs}
 use Rattle.table.proofs.applies.Statement.{statement}
 use Rattle.table.proofs.applies.Tie as tie
 
+u16-at-requires : tie.Need-u16-at-requires
+u16-at-requires c κs = search needs
+
 returns : tie.Need-returns
-returns c = applies-always _ (c .before .args .u) (c .if1 .taken)
+returns c = applies-always _ (c .before .before .before .args .x .now) _ (c .before .u16-at .ensures) (c .if1 .taken)
+
+byte-at-requires : tie.Need-byte-at-requires
+byte-at-requires c κs = search needs
 
 cast-value-in : tie.Need-cast-value-in
 cast-value-in c = search needs
@@ -24,13 +30,15 @@ same-requires : tie.Need-same-requires
 same-requires c κs = search needs
 
 returns-2 : tie.Need-returns-2
-returns-2 c = c .same .ensures ∙ applies-where _ (c .before .before .before .before .args .u) (c .before .before .before .if1 .left) _ _ (c .before .before .value-in .ensures) (c .before .value-of .ensures) (omega arith)
+returns-2 c = c .same .ensures ∙ applies-where _ (c .before .before .before .before .before .before .before .args .x .now) _ (c .before .before .before .before .before .u16-at .ensures) (c .before .before .before .before .if1 .left) _ (c .before .before .before .byte-at .ensures) (omega arith) _ _ (c .before .before .value-in .ensures) (c .before .value-of .ensures)
 
 pub applies-spec : {M : Type 1} → statement M
 applies-spec =
     tie.close
     (tie.spec
+    u16-at-requires
     returns
+    byte-at-requires
     cast-value-in
     value-in-requires
     cast-value-of

@@ -1,73 +1,16 @@
-use mathlib.Core.Path.{_≡_, refl, _∙_}
-use Prim.Native.Nat.{_-_}
-use native.Mathlib.Omega.{arith}
-use lib.ListN.{length}
+use mathlib.Core.Path.{_∙_}
 use borrow.Author.Needs.{needs}
-use Rattle.records.specs.Walk.{next-place}
-use Rattle.records.specs.declared.Notation.the-variants as notations
-use Rattle.table_format.specs.Table.{tableOf}
-use Rattle.table.specs.Bits.{values}
-use Rattle.table.specs.Enabled.{choice, Finds, find-begin, find-on, find-end}
-use Rattle.table.specs.Rules.{enabledRules}
 use Rattle.table.proofs.find.Statement.{statement}
 use Rattle.table.proofs.find.Tie as tie
 
-abbrev Inv-loop : tie.InvT-loop
-Inv-loop t v e f₀ at₀ f at = Finds t (values v) e f at ≡ choice (enabledRules (values v) (e .kind) (e .id) (tableOf t .rules))
+find-listed-requires : tie.Need-find-listed-requires
+find-listed-requires c κs = search needs
 
-abbrev μ-loop : tie.MeasureT-loop
-μ-loop t v e f₀ at₀ f at = length t - at
+find-from-requires : tie.Need-find-from-requires
+find-from-requires c κs = search needs
 
-loop-holds : tie.Need-loop-holds Inv-loop μ-loop
-loop-holds c = find-begin (c .before .args .t .now) _ (c .before .args .e) _ refl
-
-part-at-requires : tie.Need-part-at-requires Inv-loop μ-loop
-part-at-requires c κs = search needs
-
-add-next : tie.Need-add-next Inv-loop μ-loop
-add-next c =
-    let n = next-place notations.Table (c .before .before .before .before .args .t .now) _ _ (c .before .loop-test .taken) (c .part-at .ensures) in
-    record { fits = omega arith }
-
-sub-found-after : tie.Need-sub-found-after Inv-loop μ-loop
-sub-found-after c = search needs
-
-part-found-after-start : tie.Need-part-found-after-start Inv-loop μ-loop
-part-found-after-start c = search needs
-
-part-found-after-end : tie.Need-part-found-after-end Inv-loop μ-loop
-part-found-after-end c =
-    let n = next-place notations.Table (c .before .before .before .before .args .t .now) _ _ (c .before .loop-test .taken) (c .part-at .ensures) in
-    omega arith
-
-found-after-requires : tie.Need-found-after-requires Inv-loop μ-loop
-found-after-requires c κs = search needs
-
-loop-less : tie.Need-loop-less Inv-loop μ-loop
-loop-less c =
-    let n = next-place notations.Table (c .before .before .before .before .before .before .args .t .now) _ _ (c .before .before .before .loop-test .taken) (c .before .before .part-at .ensures) in
-    omega arith
-
-loop-again : tie.Need-loop-again Inv-loop μ-loop
-loop-again c =
-    find-on (c .before .before .before .before .before .before .args .t .now) _ _ _ (c .before .before .before .loop-test .taken) (c .before .before .part-at .ensures) refl _ (c .before .before .before .before .before .before .args .e) _ _ (c .found-after .ensures) ∙ c .before .before .before .before .loop .inv
-
-returns : tie.Need-returns Inv-loop μ-loop
-returns c = find-end (c .before .before .before .args .t .now) _ (c .before .before .before .args .e) _ _ (c .loop-test .left) ∙ c .before .loop .inv
+returns : tie.Need-returns
+returns c = c .find-from .ensures ∙ c .before .find-listed .ensures
 
 pub find-spec : {M : Type 1} → statement M
-find-spec =
-    tie.close
-    (tie.spec
-    Inv-loop
-    μ-loop
-    loop-holds
-    part-at-requires
-    add-next
-    sub-found-after
-    part-found-after-start
-    part-found-after-end
-    found-after-requires
-    loop-less
-    loop-again
-    returns)
+find-spec = tie.close (tie.spec find-listed-requires find-from-requires returns)

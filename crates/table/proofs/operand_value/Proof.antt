@@ -1,11 +1,11 @@
 use mathlib.Core.Path.{_∙_}
-use borrow.Author.Needs.{needs}
 use Rattle.table.specs.RuleLaws.{operand-constant, operand-variable, operand-length}
+use borrow.Author.Needs.{needs}
 use Rattle.table.proofs.operand_value.Statement.{statement}
 use Rattle.table.proofs.operand_value.Tie as tie
 
 returns : tie.Need-returns
-returns c = operand-constant _ _ (c .before .before .args .o) (c .if1 .taken)
+returns c = operand-constant _ _ (record { tag = c .before .args .tag; value = c .before .args .x }) (c .if1 .taken)
 
 bits-requires : tie.Need-bits-requires
 bits-requires c κs = search needs
@@ -17,13 +17,13 @@ value-in-requires : tie.Need-value-in-requires
 value-in-requires c κs = search needs
 
 returns-2 : tie.Need-returns-2
-returns-2 c = c .value-in .ensures ∙ operand-variable _ _ (c .before .before .before .before .before .args .o) _ (c .before .before .if2 .taken) (c .before .bits .ensures)
+returns-2 c = c .value-in .ensures ∙ operand-variable _ _ (record { tag = c .before .before .before .before .args .tag; value = c .before .before .before .before .args .x }) _ (c .before .before .if2 .taken) (c .before .bits .ensures)
 
 value-of-requires : tie.Need-value-of-requires
 value-of-requires c κs = search needs
 
 returns-3 : tie.Need-returns-3
-returns-3 c = c .value-of .ensures ∙ operand-length _ _ (c .before .before .before .before .args .o) (c .before .before .if1 .left) (c .before .if2 .left)
+returns-3 c = c .value-of .ensures ∙ operand-length _ _ (record { tag = c .before .before .before .args .tag; value = c .before .before .before .args .x }) (c .before .before .if1 .left) (c .before .if2 .left)
 
 pub operand-value-spec : {M : Type 1} → statement M
 operand-value-spec =

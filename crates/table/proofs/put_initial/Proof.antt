@@ -1,5 +1,5 @@
 use borrow.Author.Needs.{needs}
-use Rattle.table.specs.Bits.{values, values-store}
+use Rattle.table.specs.Bits.{values-store}
 use Rattle.table.proofs.put_initial.Statement.{statement}
 use Rattle.table.proofs.put_initial.Tie as tie
 

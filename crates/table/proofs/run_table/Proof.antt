@@ -1,41 +1,47 @@
-use mathlib.Core.Path.{_≡_, sym, _∙_, ap}
+use mathlib.Core.Path.{_≡_, sym, _∙_}
 use Prim.Native.Nat.{_-_, _≤_}
 use native.Mathlib.Omega.{arith}
 use lib.ListN.{length, drop}
-use borrow.Author.Needs.{needs}
 use borrow.Author.Tests.{not-true, not-false}
 use Rattle.records.specs.Format.{parts}
-use Rattle.records.specs.Run.{runFrom}
-use Rattle.records.specs.Walk.{next-place, slice-part, run-end, run-on, run-refused}
 use Rattle.records.specs.declared.Notation.the-variants as notations
 use Rattle.table_format.specs.Table.{tableOf}
+use Rattle.table.specs.Places.{Listed}
+use Rattle.records.specs.Run.{runFrom}
+use Rattle.records.specs.Walk.{next-place, slice-part, run-end, run-on, run-refused}
 use Rattle.table.specs.Machine.{machineOf, runTable}
-use Rattle.table.specs.declared.Stepped.{Stepped}
+use Rattle.table.specs.Running.{variablesOf, answer-of, state-of, refused-same}
+use borrow.Author.Needs.{needs}
 use Rattle.table.proofs.run_table.Statement.{statement}
 use Rattle.table.proofs.run_table.Tie as tie
 
 abbrev Inv-loop : tie.InvT-loop
-Inv-loop t script s₀ k₀ at₀ s k at =
-    (k ≤ at) × (at ≤ length script) ×
-    (runFrom (machineOf (tableOf t .rules)) s k at (parts notations.Script (drop at script)) ≡ runTable t script)
+Inv-loop t script place heads v₀ k₀ at₀ v k at = (k ≤ at) × (at ≤ length script) × Listed t place (heads .listed) (heads .rest) × (runFrom (machineOf (tableOf t .rules)) (variablesOf v) k at (parts notations.Script (drop at script)) ≡ runTable t script)
 
 abbrev μ-loop : tie.MeasureT-loop
-μ-loop t script s₀ k₀ at₀ s k at = length script - at
+μ-loop t script place heads v₀ k₀ at₀ v k at = length script - at
+
+slice-aggregate-list-heads : tie.Need-slice-aggregate-list-heads Inv-loop μ-loop
+slice-aggregate-list-heads c = search needs
+
+list-heads-requires : tie.Need-list-heads-requires Inv-loop μ-loop
+list-heads-requires c κs = search needs
 
 start-variables-requires : tie.Need-start-variables-requires Inv-loop μ-loop
 start-variables-requires c κs = search needs
 
+all-bits-requires : tie.Need-all-bits-requires Inv-loop μ-loop
+all-bits-requires c κs = search needs
+
 loop-holds : tie.Need-loop-holds Inv-loop μ-loop
 unfolding runTable
-loop-holds c = (omega arith, omega arith, rw (c .start-variables .ensures))
+loop-holds c = (omega arith, omega arith, c .before .before .before .list-heads .ensures, rw (c .all-bits .ensures, c .before .start-variables .ensures))
 
 part-at-requires : tie.Need-part-at-requires Inv-loop μ-loop
 part-at-requires c κs = search needs
 
 add-next : tie.Need-add-next Inv-loop μ-loop
-add-next c =
-    let n = next-place notations.Script (c .before .before .before .before .before .before .args .script .now) _ _ (c .before .loop-test .taken) (c .part-at .ensures) in
-    record { fits = omega arith }
+add-next c = let n = next-place notations.Script (c .before .before .before .before .before .before .before .before .before .before .args .script .now) _ _ (c .before .loop-test .taken) (c .part-at .ensures) in record { fits = omega arith }
 
 sub-event-of : tie.Need-sub-event-of Inv-loop μ-loop
 sub-event-of c = search needs
@@ -44,55 +50,46 @@ part-event-of-start : tie.Need-part-event-of-start Inv-loop μ-loop
 part-event-of-start c = search needs
 
 part-event-of-end : tie.Need-part-event-of-end Inv-loop μ-loop
-part-event-of-end c =
-    let n = next-place notations.Script (c .before .before .before .before .before .before .args .script .now) _ _ (c .before .loop-test .taken) (c .part-at .ensures) in
-    omega arith
+part-event-of-end c = let n = next-place notations.Script (c .before .before .before .before .before .before .before .before .before .before .args .script .now) _ _ (c .before .loop-test .taken) (c .part-at .ensures) in omega arith
 
 event-of-requires : tie.Need-event-of-requires Inv-loop μ-loop
 event-of-requires c κs = search needs
 
-step-requires : tie.Need-step-requires Inv-loop μ-loop
-step-requires c κs = search needs
+slice-aggregate-step-on : tie.Need-slice-aggregate-step-on Inv-loop μ-loop
+slice-aggregate-step-on c = search needs
+
+step-on-requires : tie.Need-step-on-requires Inv-loop μ-loop
+step-on-requires c κs = c .before .before .before .before .before .before .loop .inv .2
 
 is-none-requires : tie.Need-is-none-requires Inv-loop μ-loop
 is-none-requires c κs = search needs
+
+variables-of-requires : tie.Need-variables-of-requires Inv-loop μ-loop
+variables-of-requires c κs = search needs
 
 ended-requires : tie.Need-ended-requires Inv-loop μ-loop
 ended-requires c κs = search needs
 
 returns : tie.Need-returns Inv-loop μ-loop
-returns c =
-    rw (c .ended .ensures)
-    (run-refused (machineOf (tableOf (c .before .before .before .before .before .before .before .before .before .before .before .before .args .t .now) .rules)) (c .before .before .before .before .before .before .before .before .before .before .before .before .args .script .now) _ (c .before .before .before .before .before .before .before .before .loop .s) _ _ (c .before .before .before .before .before .before .before .loop-test .taken) (c .before .before .before .before .before .before .part-at .ensures)
-    (rw slice-part at (c .before .before .before .before .event-of .ensures)) _ _ (ap (λ (o : Stepped). o .answer) (c .before .before .before .step .ensures)) (sym (c .before .before .is-none .ensures) ∙ not-true _ (c .before .if1 .taken)) ∙
-    c .before .before .before .before .before .before .before .before .loop .inv .2)
+returns c = rw (c .ended .ensures, c .before .variables-of .ensures, refused-same _ _ _ _ _ (c .before .before .before .before .step-on .ensures) (sym (c .before .before .before .is-none .ensures) ∙ not-true _ (c .before .before .if1 .taken))) (run-refused (machineOf (tableOf (c .before .before .before .before .before .before .before .before .before .before .before .before .before .before .before .before .before .before .before .args .t .now) .rules)) (c .before .before .before .before .before .before .before .before .before .before .before .before .before .before .before .before .before .before .before .args .script .now) _ (variablesOf (c .before .before .before .before .before .before .before .before .before .before .before .loop .v)) _ _ (c .before .before .before .before .before .before .before .before .before .before .loop-test .taken) (c .before .before .before .before .before .before .before .before .before .part-at .ensures) (rw slice-part at (c .before .before .before .before .before .before .before .event-of .ensures)) _ _ (answer-of _ _ _ _ _ (c .before .before .before .before .step-on .ensures)) (sym (c .before .before .before .is-none .ensures) ∙ not-true _ (c .before .before .if1 .taken)) ∙ c .before .before .before .before .before .before .before .before .before .before .before .loop .inv .3)
 
 add-k : tie.Need-add-k Inv-loop μ-loop
 add-k c = search needs
 
 loop-less : tie.Need-loop-less Inv-loop μ-loop
-loop-less c =
-    let n = next-place notations.Script (c .before .before .before .before .before .before .before .before .before .before .before .before .args .script .now) _ _ (c .before .before .before .before .before .before .before .loop-test .taken) (c .before .before .before .before .before .before .part-at .ensures) in
-    omega arith
+loop-less c = let n = next-place notations.Script (c .before .before .before .before .before .before .before .before .before .before .before .before .before .before .before .before .before .args .script .now) _ _ (c .before .before .before .before .before .before .before .before .loop-test .taken) (c .before .before .before .before .before .before .before .part-at .ensures) in omega arith
 
 loop-again : tie.Need-loop-again Inv-loop μ-loop
-loop-again c =
-    let n = next-place notations.Script (c .before .before .before .before .before .before .before .before .before .before .before .before .args .script .now) _ _ (c .before .before .before .before .before .before .before .loop-test .taken) (c .before .before .before .before .before .before .part-at .ensures) in (
-      omega arith,
-      n .1,
-      run-on (machineOf (tableOf (c .before .before .before .before .before .before .before .before .before .before .before .before .args .t .now) .rules)) (c .before .before .before .before .before .before .before .before .before .before .before .before .args .script .now) _ (c .before .before .before .before .before .before .before .before .loop .s) _ _ (c .before .before .before .before .before .before .before .loop-test .taken) (c .before .before .before .before .before .before .part-at .ensures)
-          (rw slice-part at (c .before .before .before .before .event-of .ensures)) _ _ _ (ap (λ (o : Stepped). o .answer) (c .before .before .before .step .ensures)) (ap (λ (o : Stepped). o .state) (c .before .before .before .step .ensures))
-          (sym (c .before .before .is-none .ensures) ∙ not-false _ (c .before .if1 .left)) ∙
-          c .before .before .before .before .before .before .before .before .loop .inv .2,
-    )
+loop-again c = let n = next-place notations.Script (c .before .before .before .before .before .before .before .before .before .before .before .before .before .before .before .before .before .args .script .now) _ _ (c .before .before .before .before .before .before .before .before .loop-test .taken) (c .before .before .before .before .before .before .before .part-at .ensures) in (omega arith, n .1, c .before .before .before .before .before .before .before .before .before .loop .inv .2, run-on (machineOf (tableOf (c .before .before .before .before .before .before .before .before .before .before .before .before .before .before .before .before .before .args .t .now) .rules)) (c .before .before .before .before .before .before .before .before .before .before .before .before .before .before .before .before .before .args .script .now) _ (variablesOf (c .before .before .before .before .before .before .before .before .before .loop .v)) _ _ (c .before .before .before .before .before .before .before .before .loop-test .taken) (c .before .before .before .before .before .before .before .part-at .ensures) (rw slice-part at (c .before .before .before .before .before .event-of .ensures)) _ _ _ (answer-of _ _ _ _ _ (c .before .before .step-on .ensures)) (state-of _ _ _ _ _ (c .before .before .step-on .ensures)) (sym (c .before .is-none .ensures) ∙ not-false _ (c .if1 .left)) ∙ c .before .before .before .before .before .before .before .before .before .loop .inv .3)
+
+variables-of-requires-2 : tie.Need-variables-of-requires-2 Inv-loop μ-loop
+variables-of-requires-2 c κs = search needs
 
 ended-requires-2 : tie.Need-ended-requires-2 Inv-loop μ-loop
 ended-requires-2 c κs = search needs
 
 returns-2 : tie.Need-returns-2 Inv-loop μ-loop
-returns-2 c =
-    rw (c .ended2 .ensures)
-    (run-end (machineOf (tableOf (c .before .before .before .before .before .before .args .t .now) .rules)) (c .before .before .before .before .before .before .args .script .now) _ (c .before .before .loop .s) _ (c .before .loop-test .left) ∙ c .before .before .loop .inv .2)
+returns-2 c = rw (c .ended2 .ensures, c .before .variables-of2 .ensures) (run-end (machineOf (tableOf (c .before .before .before .before .before .before .before .before .before .before .before .args .t .now) .rules)) (c .before .before .before .before .before .before .before .before .before .before .before .args .script .now) _ (variablesOf (c .before .before .before .loop .v)) _ (c .before .before .loop-test .left) ∙ c .before .before .before .loop .inv .3)
 
 pub run-table-spec : {M : Type 1} → statement M
 run-table-spec =
@@ -100,7 +97,10 @@ run-table-spec =
     (tie.spec
     Inv-loop
     μ-loop
+    slice-aggregate-list-heads
+    list-heads-requires
     start-variables-requires
+    all-bits-requires
     loop-holds
     part-at-requires
     add-next
@@ -108,12 +108,15 @@ run-table-spec =
     part-event-of-start
     part-event-of-end
     event-of-requires
-    step-requires
+    slice-aggregate-step-on
+    step-on-requires
     is-none-requires
+    variables-of-requires
     ended-requires
     returns
     add-k
     loop-less
     loop-again
+    variables-of-requires-2
     ended-requires-2
     returns-2)

@@ -2,32 +2,28 @@ use mathlib.Core.Path.{_≡_, refl, _∙_}
 use Prim.Native.Nat.{_-_}
 use native.Mathlib.Omega.{arith}
 use lib.ListN.{length}
-use borrow.Author.Needs.{needs}
-use Rattle.numbers.specs.Lists.{firstBelow}
 use Rattle.records.specs.Walk.{next-place}
 use Rattle.records.specs.declared.Notation.the-variants as notations
-use Rattle.table_format.specs.Table.{tableOf}
 use Rattle.table.specs.Bits.{values}
-use Rattle.table.specs.Machine.{isBusy}
-use Rattle.table.specs.Ticking.{later, quietFrom, quiet-begin, quiet-on, quiet-end}
-use Rattle.table.proofs.quiet_ticks.Statement.{statement}
-use Rattle.table.proofs.quiet_ticks.Tie as tie
+use Rattle.table.specs.Ticking.{quietFrom, quiet-on, quiet-end}
+use borrow.Author.Needs.{needs}
+use Rattle.table.proofs.quiet_from.Statement.{statement}
+use Rattle.table.proofs.quiet_from.Tie as tie
 
 abbrev Inv-loop : tie.InvT-loop
-Inv-loop t v n limit₀ at₀ limit at = quietFrom t (values v) limit at ≡ firstBelow n (λ i. isBusy (later i (values v)) (tableOf t .rules))
+Inv-loop t from v n limit₀ at₀ limit at = quietFrom t (values v) limit at ≡ quietFrom t (values v) n from
 
 abbrev μ-loop : tie.MeasureT-loop
-μ-loop t v n limit₀ at₀ limit at = length t - at
+μ-loop t from v n limit₀ at₀ limit at = length t - at
 
 loop-holds : tie.Need-loop-holds Inv-loop μ-loop
-loop-holds c = quiet-begin (c .before .args .t .now) _ _
+loop-holds c = refl
 
 part-at-requires : tie.Need-part-at-requires Inv-loop μ-loop
 part-at-requires c κs = search needs
 
 add-next : tie.Need-add-next Inv-loop μ-loop
-add-next c =
-    let n = next-place notations.Table (c .before .before .before .before .args .t .now) _ _ (c .before .loop-test .taken) (c .part-at .ensures) in
+add-next c = let n = next-place notations.Table (c .before .before .before .before .args .t .now) _ _ (c .before .loop-test .taken) (c .part-at .ensures) in
     record { fits = omega arith }
 
 sub-ticks-to-record : tie.Need-sub-ticks-to-record Inv-loop μ-loop
@@ -37,27 +33,24 @@ part-ticks-to-record-start : tie.Need-part-ticks-to-record-start Inv-loop μ-loo
 part-ticks-to-record-start c = search needs
 
 part-ticks-to-record-end : tie.Need-part-ticks-to-record-end Inv-loop μ-loop
-part-ticks-to-record-end c =
-    let n = next-place notations.Table (c .before .before .before .before .args .t .now) _ _ (c .before .loop-test .taken) (c .part-at .ensures) in
+part-ticks-to-record-end c = let n = next-place notations.Table (c .before .before .before .before .args .t .now) _ _ (c .before .loop-test .taken) (c .part-at .ensures) in
     omega arith
 
 ticks-to-record-requires : tie.Need-ticks-to-record-requires Inv-loop μ-loop
 ticks-to-record-requires c κs = search needs
 
 loop-less : tie.Need-loop-less Inv-loop μ-loop
-loop-less c =
-    let n = next-place notations.Table (c .before .before .before .before .before .before .args .t .now) _ _ (c .before .before .before .loop-test .taken) (c .before .before .part-at .ensures) in
+loop-less c = let n = next-place notations.Table (c .before .before .before .before .before .before .args .t .now) _ _ (c .before .before .before .loop-test .taken) (c .before .before .part-at .ensures) in
     omega arith
 
 loop-again : tie.Need-loop-again Inv-loop μ-loop
-loop-again c =
-    quiet-on (c .before .before .before .before .before .before .args .t .now) _ _ _ (c .before .before .before .loop-test .taken) (c .before .before .part-at .ensures) refl _ _ _ (c .ticks-to-record .ensures) ∙ c .before .before .before .before .loop .inv
+loop-again c = quiet-on (c .before .before .before .before .before .before .args .t .now) _ _ _ (c .before .before .before .loop-test .taken) (c .before .before .part-at .ensures) refl _ _ _ (c .ticks-to-record .ensures) ∙ c .before .before .before .before .loop .inv
 
 returns : tie.Need-returns Inv-loop μ-loop
 returns c = quiet-end (c .before .before .before .args .t .now) _ _ _ (c .loop-test .left) ∙ c .before .loop .inv
 
-pub quiet-ticks-spec : {M : Type 1} → statement M
-quiet-ticks-spec =
+pub quiet-from-spec : {M : Type 1} → statement M
+quiet-from-spec =
     tie.close
     (tie.spec
     Inv-loop
