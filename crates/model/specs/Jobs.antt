@@ -1,16 +1,14 @@
 -- The tests of a thread on what the code has at hand: its job j, or the view v of the clock, its record and its job.
 use mathlib.Core.Bool.{Bool, false, cond, _&&_, _||_, not}
-use mathlib.Core.List.{List}
 use Prim.Native.Nat.{ℕ, _+_}
 use lib.Dec.{eqb, leb}
-use Rattle.numbers.specs.Lists.{item}
 use Rattle.numbers.specs.Multiples.{isMultiple}
 use Rattle.model_format.specs.declared.Thread.{Thread}
+use Rattle.model_format.specs.declared.Connection.{Connection}
 use Rattle.model_format.specs.declared.ModeTransition.{ModeTransition}
 use Rattle.model_format.specs.declared.Timing.{Timing}
-use Rattle.model_format.specs.Model.{maxThreads, noThread, threadAt, immediate, delayed, sourceThread}
+use Rattle.model_format.specs.Model.{threadAt, immediate, delayed, sourceThread}
 use Rattle.model.specs.declared.Clock.{Clock}
-use Rattle.model.specs.declared.Threads.{Threads}
 use Rattle.model.specs.declared.State.{State}
 use Rattle.model.specs.declared.Job.{Job}
 use Rattle.model.specs.declared.View.{View}
@@ -87,6 +85,10 @@ besideComes v j =
 abbrev pub beside : View → Job → Bool
 beside v j = besideRuns v j || besideComes v j
 
+-- the connection x, live or not, is a live one of a kind into thread t, where owner is that of its target
+unfoldable pub leadsTo : Connection → ℕ → Bool → ℕ → ℕ → Bool
+leadsTo x owner live kind t = eqb (x .kind) kind && (eqb owner t && live)
+
 -- connection c holds thread t's DISPATCH back, or its START
 unfoldable pub holdsDispatch : Timing → State → ℕ → ℕ → Bool
 holdsDispatch m s t c = feeds m s delayed t c && (hasJob (codeOf s (sourceThread m c)) && isDue m s (sourceThread m c))
@@ -100,7 +102,3 @@ enters k x q = eqb (k .phase) 1 && (eqb (k .pending) q && isMultiple (k .now .0)
 
 unfoldable pub leaves : Clock → ModeTransition → ℕ → Bool
 leaves k x q = eqb (k .phase) 2 && (eqb (k .pending) q && (not (eqb (k .now .0) (k .entered .0)) && isMultiple (k .now .0) (x .h2 .0)))
-
--- thread t of an array has no event
-unfoldable pub isCalm : Clock → List Thread → Threads → ℕ → Bool
-isCalm k l y t = not (mayAct k (item maxThreads l t noThread) (jobOf y t))

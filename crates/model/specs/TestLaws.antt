@@ -2,18 +2,19 @@
 use mathlib.Core.Path.{_≡_, refl, sym, _∙_}
 use mathlib.Core.Bool.{Bool, true, false, cond, _&&_, _||_, not}
 use mathlib.Core.List.{List}
-use Prim.Native.Nat.{ℕ, zero, suc, _<_, _≤_}
+use Prim.Native.Nat.{ℕ, zero, suc, _<_, _≤_, min}
 use native.Mathlib.Omega.{arith}
-use native.Mathlib.Decide.{ℕ-discrete}
+use native.Mathlib.Decide.{ℕ-discrete, decLt}
 use lib.Dec.{eqb, ltb, leb}
 use lib.ListN.{getD}
 use borrow.Author.Tests.{lt-ltb, le-ltb, ne-eqb, not-true, not-false}
 use Rattle.numbers.specs.Lists.{item, anyBelow}
 use Rattle.numbers.specs.ListLaws.{any-none, any-some}
+use Rattle.numbers.specs.Values.{duration}
 use Rattle.model_format.specs.declared.Thread.{Thread}
 use Rattle.model_format.specs.declared.ModeTransition.{ModeTransition}
 use Rattle.model_format.specs.declared.Timing.{Timing}
-use Rattle.model_format.specs.Model.{maxConnections, noThread, threadAt, switchAt, immediate, delayed, isKind, sourceThread, targetThread}
+use Rattle.model_format.specs.Model.{maxThreads, maxInputs, maxConnections, noThread, noConnection, connectionAt, inputOwner, threadAt, switchAt, immediate, delayed, isKind, sourceThread, targetThread}
 use Rattle.model.specs.declared.Clock.{Clock}
 use Rattle.model.specs.declared.Threads.{Threads}
 use Rattle.model.specs.declared.State.{State}
@@ -22,11 +23,15 @@ use Rattle.model.specs.declared.View.{View}
 use Rattle.model.specs.State.{none, isActive, codeOf, dispatchTime, lengthOf, spentOf, isLive}
 use Rattle.model.specs.Parts.{jobOf}
 use Rattle.model.specs.Tests.{isWaiting, isUnfinished, hasJob, dueOf, isDue, isPeriodic, feeds, canActivate, canDeactivate, awaitsDelayed, canDispatch, runsBeside, comesBeside, awaitsImmediate, startFault, canComplete, canMeetDeadline, canMiss, canEnter, canLeave, threadBusy, switchBusy, isBusy}
-use Rattle.model.specs.Jobs.{viewOf, activates, deactivates, completes, dispatchesAlone, startsAlone, faultOf, meets, misses, mayAct, dueWithJob, besideRuns, besideComes, holdsDispatch, holdsStart, enters, leaves, isCalm}
+use Rattle.model.specs.Jobs.{viewOf, activates, deactivates, completes, dispatchesAlone, startsAlone, faultOf, meets, misses, mayAct, dueWithJob, besideRuns, besideComes, holdsDispatch, holdsStart, leadsTo, enters, leaves}
 
 -- ---- Bools
 pub false-true : {A : Type 0} → false ≡ true → A
 false-true e = let z : _≡_ {A = ℕ} 0 1 = cc in absurd (omega arith)
+
+and-false : (b : Bool) → (b && false) ≡ false
+and-false true = refl
+and-false false = refl
 
 and-assoc : (a b c d : Bool) → ((a && (b && c)) && d) ≡ (a && (b && (c && d)))
 and-assoc true true c d = refl
@@ -132,82 +137,105 @@ pub switch-by : (m : Timing) (s : State) (q : ℕ) (a b : Bool) → a ≡ canEnt
 unfolding switchBusy
 switch-by m s q a b e f = rw (e, f)
 
--- ---- loops that look for a number below z; n is z as the code has it
-module _ (z n c : ℕ) (p : ℕ → Bool) (e : n ≡ z) where
+-- ---- loops that look for a number below z and stop at an array's room, past which there is none; n is where they stop
+module _ (z room n c : ℕ) (p : ℕ → Bool) (e : n ≡ min z room) where
   found : (b : Bool) → c < n → b ≡ p c → b ≡ true → true ≡ anyBelow z p
-  found b l g h = rw (← e) (sym (any-some n p c l (sym g ∙ h)))
+  found b l g h = sym (any-some z p c (omega arith) (sym g ∙ h))
 
-  not-found : n ≤ c → ((k : ℕ) → k < c → p k ≡ false) → false ≡ anyBelow z p
-  not-found l h = rw (← e) (sym (any-none n p (λ k i. h k (omega arith))))
+  not-found : ((k : ℕ) → room ≤ k → p k ≡ false) → n ≤ c → ((k : ℕ) → k < c → p k ≡ false) → false ≡ anyBelow z p
+  not-found past l h = sym (any-none z p (λ k i. go k i (decLt k c)))
+    where
+      go : (k : ℕ) → k < z → Dec (k < c) → p k ≡ false
+      go k i (yes j) = h k j
+      go k i (no j) = past k (omega arith)
 
-module _ (m : Timing) (s : State) (t n c : ℕ) (e : n ≡ m .connections) where
+module _ (m : Timing) (s : State) (t n c : ℕ) (e : n ≡ min (m .connections) maxConnections) where
   pub delayed-some : (b : Bool) → c < n → b ≡ holdsDispatch m s t c → b ≡ true → true ≡ awaitsDelayed m s t
   unfolding awaitsDelayed holdsDispatch
-  delayed-some = found (m .connections) n c (holdsDispatch m s t) e
+  delayed-some = found (m .connections) maxConnections n c (holdsDispatch m s t) e
 
   pub delayed-none : n ≤ c → ((k : ℕ) → k < c → holdsDispatch m s t k ≡ false) → false ≡ awaitsDelayed m s t
-  unfolding awaitsDelayed holdsDispatch
-  delayed-none = not-found (m .connections) n c (holdsDispatch m s t) e
+  unfolding awaitsDelayed holdsDispatch feeds isLive
+  delayed-none = not-found (m .connections) maxConnections n c (holdsDispatch m s t) e (λ k h. rw (le-ltb k maxConnections h) (simp and-false))
 
   pub immediate-some : (b : Bool) → c < n → b ≡ holdsStart m s t c → b ≡ true → true ≡ awaitsImmediate m s t
   unfolding awaitsImmediate holdsStart
-  immediate-some = found (m .connections) n c (holdsStart m s t) e
+  immediate-some = found (m .connections) maxConnections n c (holdsStart m s t) e
 
   pub immediate-none : n ≤ c → ((k : ℕ) → k < c → holdsStart m s t k ≡ false) → false ≡ awaitsImmediate m s t
-  unfolding awaitsImmediate holdsStart
-  immediate-none = not-found (m .connections) n c (holdsStart m s t) e
+  unfolding awaitsImmediate holdsStart feeds isLive
+  immediate-none = not-found (m .connections) maxConnections n c (holdsStart m s t) e (λ k h. rw (le-ltb k maxConnections h) (simp and-false))
 
-module _ (m : Timing) (s : State) (n c : ℕ) (e : n ≡ m .threads) where
-  pub threads-some : (b : Bool) → c < n → b ≡ threadBusy m s c → b ≡ true → true ≡ anyBelow (m .threads) (threadBusy m s)
-  threads-some = found (m .threads) n c (threadBusy m s) e
+  -- o is the owner of its target, at i
+  module _ (kind i o : ℕ) (b : Bool) (l : c < n) (f : i ≡ getD (m .connection) c noConnection .target) (g : o ≡ item maxInputs (m .input) i 0)
+      (h : b ≡ leadsTo (getD (m .connection) c noConnection) o (getD (s .live) c false) kind t) where
+    feeds-at : b ≡ feeds m s kind t c
+    unfolding leadsTo feeds isLive connectionAt inputOwner
+    feeds-at = h ∙ rw (g, f, lt-ltb c maxConnections (omega arith))
 
-  pub threads-none : n ≤ c → ((k : ℕ) → k < c → threadBusy m s k ≡ false) → false ≡ anyBelow (m .threads) (threadBusy m s)
-  threads-none = not-found (m .threads) n c (threadBusy m s) e
+    pub delayed-past : kind ≡ delayed → b ≡ false → holdsDispatch m s t c ≡ false
+    delayed-past j w = sym (dispatch-unfed m s t c b (rw j at feeds-at) w)
+
+    pub immediate-past : kind ≡ immediate → b ≡ false → holdsStart m s t c ≡ false
+    immediate-past j w = sym (start-unfed m s t c b (rw j at feeds-at) w)
 
 -- ---- a calm thread has no event: a Active, k the code
-and-false : (b : Bool) → (b && false) ≡ false
-and-false true = refl
-and-false false = refl
-
 calm-of : (a : Bool) (k : ℕ) (due done periodic free delay wait known fits : Bool) →
-    not (cond (eqb k 0) a (cond (eqb k 1) (not a || periodic) (cond (eqb k 2) (free || due) (cond (eqb k 3) (done || due) (cond (eqb k 4) due false))))) ≡ true →
+    cond (eqb k 0) a (cond (eqb k 1) (not a || periodic) (cond (eqb k 2) (free || due) (cond (eqb k 3) (done || due) (cond (eqb k 4) due false)))) ≡ false →
     ((a && eqb k 0) || ((not a && eqb k 1) || ((eqb k 1 && (a && (periodic && not delay))) ||
     (eqb (cond (known && (eqb k 2 && not due)) (cond free (cond wait 3 (cond fits 0 4)) 2) 1) 0 ||
     ((eqb k 3 && done) || ((eqb k 4 && due) || (due && (eqb k 2 || (eqb k 3 && not done))))))))) ≡ false
-calm-of true zero due done periodic free delay wait known fits h = false-true h
+calm-of true zero due done periodic free delay wait known fits h = false-true (sym h)
 calm-of false zero due done periodic free delay wait known fits h = simp and-false
-calm-of false (suc zero) due done periodic free delay wait known fits h = false-true h
-calm-of true (suc zero) due done true free delay wait known fits h = false-true h
+calm-of false (suc zero) due done periodic free delay wait known fits h = false-true (sym h)
+calm-of true (suc zero) due done true free delay wait known fits h = false-true (sym h)
 calm-of true (suc zero) due done false free delay wait known fits h = simp and-false
-calm-of a (suc (suc zero)) due done periodic true delay wait known fits h = false-true h
-calm-of a (suc (suc zero)) true done periodic false delay wait known fits h = false-true h
+calm-of a (suc (suc zero)) due done periodic true delay wait known fits h = false-true (sym h)
+calm-of a (suc (suc zero)) true done periodic false delay wait known fits h = false-true (sym h)
 calm-of true (suc (suc zero)) false done periodic false delay wait true fits h = refl
 calm-of true (suc (suc zero)) false done periodic false delay wait false fits h = refl
 calm-of false (suc (suc zero)) false done periodic false delay wait true fits h = refl
 calm-of false (suc (suc zero)) false done periodic false delay wait false fits h = refl
-calm-of a (suc (suc (suc zero))) due true periodic free delay wait known fits h = false-true h
-calm-of a (suc (suc (suc zero))) true false periodic free delay wait known fits h = false-true h
+calm-of a (suc (suc (suc zero))) due true periodic free delay wait known fits h = false-true (sym h)
+calm-of a (suc (suc (suc zero))) true false periodic free delay wait known fits h = false-true (sym h)
 calm-of a (suc (suc (suc zero))) false false periodic free delay wait known fits h = simp and-false
-calm-of a (suc (suc (suc (suc zero)))) true done periodic free delay wait known fits h = false-true h
+calm-of a (suc (suc (suc (suc zero)))) true done periodic free delay wait known fits h = false-true (sym h)
 calm-of a (suc (suc (suc (suc zero)))) false done periodic free delay wait known fits h = simp and-false
 calm-of a (suc (suc (suc (suc (suc k))))) due done periodic free delay wait known fits h =
     let n = suc (suc (suc (suc (suc k)))) in
     rw (ne-eqb n 0 (λ e. omega arith), ne-eqb n 1 (λ e. omega arith), ne-eqb n 2 (λ e. omega arith), ne-eqb n 3 (λ e. omega arith), ne-eqb n 4 (λ e. omega arith)) (simp and-false)
 
-pub calm : (m : Timing) (s : State) (t : ℕ) → isCalm (s .clock) (m .thread) (s .threads) t ≡ true → threadBusy m s t ≡ false
-unfolding isCalm mayAct jobOf threadBusy canActivate canDeactivate canDispatch startFault canComplete canMeetDeadline canMiss dueOf isActive codeOf dispatchTime lengthOf spentOf threadAt
+pub calm : (m : Timing) (s : State) (t : ℕ) → mayAct (s .clock) (threadAt m t) (jobOf (s .threads) t) ≡ false → threadBusy m s t ≡ false
+unfolding mayAct jobOf threadBusy canActivate canDeactivate canDispatch startFault canComplete canMeetDeadline canMiss dueOf isActive codeOf dispatchTime lengthOf spentOf threadAt
 calm m s t h =
     calm-of (isActive s t) (codeOf s t) (isDue m s t) (eqb (spentOf s t) (lengthOf s t)) (isPeriodic m s t) (eqb (s .clock .cpu) none)
     (awaitsDelayed m s t) (awaitsImmediate m s t) (ltb t (m .threads)) (leb (threadAt m t .bcet .0) (threadAt m t .bcet .0) && leb (threadAt m t .bcet .0) (threadAt m t .wcet .0)) h
 
--- t lies past the array: nothing is there
-pub calm-past : (k : Clock) (l : List Thread) (y : Threads) (t : ℕ) → 16 ≤ t → true ≡ isCalm k l y t
-unfolding isCalm mayAct jobOf
-calm-past k l y t h = rw (le-ltb t 16 h)
+-- t lies past the arrays: nothing is there
+calm-past : (m : Timing) (s : State) (t : ℕ) → 16 ≤ t → threadBusy m s t ≡ false
+unfolding mayAct jobOf
+calm-past m s t h = calm m s t (rw (le-ltb t 16 h))
 
-pub calm-at : (k : Clock) (l : List Thread) (y : Threads) (t : ℕ) (j : Job) (b : Bool) → t < 16 → j ≡ jobOf y t → b ≡ mayAct k (getD l t noThread) j → not b ≡ isCalm k l y t
-unfolding isCalm
-calm-at k l y t j b h e f = rw (lt-ltb t 16 h, f, e)
+-- and the job that the code puts together
+abbrev pub jobHere : Threads → ℕ → Job
+jobHere y t = record {
+  active = getD (y .active) t false;
+  code = getD (y .code) t 0;
+  dispatched = getD (y .dispatched) t (duration 0);
+  length = getD (y .length) t (duration 0);
+  spent = getD (y .spent) t (duration 0);
+}
+
+pub calm-here : (m : Timing) (s : State) (t : ℕ) (b : Bool) → t < 16 → b ≡ mayAct (s .clock) (getD (m .thread) t noThread) (jobHere (s .threads) t) → b ≡ false → threadBusy m s t ≡ false
+unfolding jobOf threadAt
+calm-here m s t b h e f = calm m s t (rw (lt-ltb t 16 h) (sym e ∙ f))
+
+module _ (m : Timing) (s : State) (n c : ℕ) (e : n ≡ min (m .threads) maxThreads) where
+  pub threads-some : (b : Bool) → c < n → b ≡ threadBusy m s c → b ≡ true → true ≡ anyBelow (m .threads) (threadBusy m s)
+  threads-some = found (m .threads) maxThreads n c (threadBusy m s) e
+
+  pub threads-none : n ≤ c → ((k : ℕ) → k < c → threadBusy m s k ≡ false) → false ≡ anyBelow (m .threads) (threadBusy m s)
+  threads-none = not-found (m .threads) maxThreads n c (threadBusy m s) e (calm-past m s)
 
 pub busy-by : (m : Timing) (s : State) (t n : ℕ) (x : Thread) (a b c d e f : Bool) → x ≡ threadAt m t → n ≡ startFault m s t (x .bcet .0) →
     a ≡ canActivate s t → b ≡ canDeactivate s t → c ≡ canDispatch m s t → d ≡ canComplete s t → e ≡ canMeetDeadline m s t → f ≡ canMiss m s t →

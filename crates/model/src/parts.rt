@@ -6,18 +6,10 @@ use crate::Threads;
 use numbers::Duration;
 use numbers::Value;
 ghost use mathlib.Core.Path.{_≡_};
-ghost use Prim.Native.Nat.{_<_};
 ghost use Rattle.numbers.specs.Lists.{item};
 ghost use Rattle.numbers.specs.Values.{natural};
 ghost use Rattle.model.specs.Parts as parts;
 ghost use mathlib.Core.Bool.{false};
-
-// A count that a struct holds. A loop up to it asks that it fits its type, and sees that only of a result.
-pub fn size(n: usize) -> usize
-    ensures { λ r. ⌜ (r ≡ n) × (n < 18446744073709551616) ⌝ }
-{
-    n
-}
 
 fn no_job() -> Job
     ensures { λ r. ⌜ r ≡ parts.noJob ⌝ }

@@ -3,12 +3,14 @@
 use crate::Clock;
 use crate::Job;
 use crate::State;
-use crate::Threads;
 use crate::View;
 use crate::parts::job_of;
 use crate::parts::mark_at;
-use crate::parts::size;
+use crate::setters::owner_at;
 use crate::setters::wide;
+use crate::setters::wide16;
+use crate::setters::within;
+use model_format::Connection;
 use model_format::ModeTransition;
 use model_format::Thread;
 use model_format::Timing;
@@ -21,8 +23,7 @@ use numbers::is_multiple;
 ghost use mathlib.Core.Path.{_≡_};
 ghost use Prim.Native.Nat.{_+_};
 ghost use lib.Dec.{eqb};
-ghost use Rattle.numbers.specs.Lists.{item, anyBelow};
-ghost use Rattle.model_format.specs.Model.{noThread};
+ghost use Rattle.numbers.specs.Lists.{anyBelow};
 ghost use Rattle.model.specs.Parts.{jobOf};
 ghost use Rattle.model.specs.Jobs as jobs;
 ghost use Rattle.model.specs.Tests as tests;
@@ -178,14 +179,29 @@ fn holds_start(m: Timing, s: State, t: usize, c: usize) -> bool
     beside_runs(v, j) | beside_comes(v, j)
 }
 
+// Connection x is a live one of a kind into thread t: `owner` is that of its target.
+fn leads_to(x: Connection, owner: u8, live: bool, kind: u8, t: usize) -> bool
+    ensures { λ r. ⌜ r ≡ jobs.leadsTo x owner live kind t ⌝ }
+{
+    let is = x.kind;
+    let to = wide(owner);
+    (is == kind) & ((to == t) & live)
+}
+
 pub fn awaits_delayed(m: Timing, s: State, t: usize) -> bool
     ensures { λ r. ⌜ r ≡ tests.awaitsDelayed m s t ⌝ }
 {
-    let n = size(m.connections);
+    let owners = m.input;
+    let n = within(m.connections, 32);
     let mut c: usize = 0;
     while c < n {
-        if holds_dispatch(m, s, t, c) {
-            return true;
+        let x = m.connection[c];
+        let live = s.live[c];
+        let owner = owner_at(owners, wide16(x.target));
+        if leads_to(x, owner, live, 1, t) {
+            if holds_dispatch(m, s, t, c) {
+                return true;
+            }
         }
         c += 1;
     }
@@ -195,11 +211,17 @@ pub fn awaits_delayed(m: Timing, s: State, t: usize) -> bool
 pub fn awaits_immediate(m: Timing, s: State, t: usize) -> bool
     ensures { λ r. ⌜ r ≡ tests.awaitsImmediate m s t ⌝ }
 {
-    let n = size(m.connections);
+    let owners = m.input;
+    let n = within(m.connections, 32);
     let mut c: usize = 0;
     while c < n {
-        if holds_start(m, s, t, c) {
-            return true;
+        let x = m.connection[c];
+        let live = s.live[c];
+        let owner = owner_at(owners, wide16(x.target));
+        if leads_to(x, owner, live, 0, t) {
+            if holds_start(m, s, t, c) {
+                return true;
+            }
         }
         c += 1;
     }
@@ -327,27 +349,28 @@ pub fn switch_busy(m: Timing, s: State, q: usize) -> bool
     can_enter(m, s, q) | can_leave(m, s, q)
 }
 
-fn is_calm(k: Clock, l: [Thread; 16], y: Threads, t: usize) -> bool
-    ensures { λ r. ⌜ r ≡ jobs.isCalm k l y t ⌝ }
-{
-    if 16 <= t {
-        return true;
-    }
-    let x = l[t];
-    let j = job_of(y, t);
-    !may_act(k, x, j)
-}
-
 fn threads_busy(m: Timing, s: State) -> bool
     ensures { λ r. ⌜ r ≡ anyBelow (m .threads) (tests.threadBusy m s) ⌝ }
 {
-    let n = size(m.threads);
+    let n = within(m.threads, 16);
     let k = s.clock;
-    let l = m.thread;
     let y = s.threads;
     let mut t: usize = 0;
     while t < n {
-        if !is_calm(k, l, y, t) {
+        let x = m.thread[t];
+        let active = y.active[t];
+        let code = y.code[t];
+        let dispatched = y.dispatched[t];
+        let length = y.length[t];
+        let spent = y.spent[t];
+        let j = Job {
+            active: active,
+            code: code,
+            dispatched: dispatched,
+            length: length,
+            spent: spent,
+        };
+        if may_act(k, x, j) {
             if thread_busy(m, s, t) {
                 return true;
             }

@@ -1,31 +1,50 @@
-use Rattle.model.specs.TestLaws.{delayed-some, delayed-none}
+use mathlib.Core.Logic.{⊎-elim}
+use Rattle.model.specs.TestLaws.{delayed-some, delayed-none, delayed-past}
 use Rattle.model.specs.Jobs.{holdsDispatch}
 use borrow.Author.Count.{below-more}
 use native.Mathlib.Omega.{arith}
 use Prim.Native.Nat.{ℕ, _<_, _≤_, _-_}
 use mathlib.Core.Bool.{false}
-use mathlib.Core.Path.{_≡_, sym, _∙_}
+use mathlib.Core.Path.{_≡_, refl, sym, _∙_}
 use borrow.Author.Needs.{needs}
 use Rattle.model.proofs.tests.awaits_delayed.Statement.{statement}
 use Rattle.model.proofs.tests.awaits_delayed.Tie as tie
 
 abbrev Inv-loop : tie.InvT-loop
-Inv-loop m s t n c₀ c = (c ≤ n) × ((k : ℕ) → k < c → holdsDispatch m s t k ≡ false)
+Inv-loop t m s owners n c₀ c = (c ≤ n) × ((k : ℕ) → k < c → holdsDispatch m s t k ≡ false)
 
 abbrev μ-loop : tie.MeasureT-loop
-μ-loop m s t n c₀ c = n - c
+μ-loop t m s owners n c₀ c = n - c
 
-size-requires : tie.Need-size-requires Inv-loop μ-loop
-size-requires c κs = search needs
+within-requires : tie.Need-within-requires Inv-loop μ-loop
+within-requires c κs = search needs
 
 loop-holds : tie.Need-loop-holds Inv-loop μ-loop
 loop-holds c = (omega arith, λ k l. absurd (omega arith))
+
+mul-x : tie.Need-mul-x Inv-loop μ-loop
+mul-x c = search needs
+
+element-copy-out-x : tie.Need-element-copy-out-x Inv-loop μ-loop
+element-copy-out-x c = search needs
+
+element-copy-out-live : tie.Need-element-copy-out-live Inv-loop μ-loop
+element-copy-out-live c = search needs
+
+wide16-requires : tie.Need-wide16-requires Inv-loop μ-loop
+wide16-requires c κs = search needs
+
+owner-at-requires : tie.Need-owner-at-requires Inv-loop μ-loop
+owner-at-requires c κs = search needs
+
+leads-to-requires : tie.Need-leads-to-requires Inv-loop μ-loop
+leads-to-requires c κs = search needs
 
 holds-dispatch-requires : tie.Need-holds-dispatch-requires Inv-loop μ-loop
 holds-dispatch-requires c κs = search needs
 
 returns : tie.Need-returns Inv-loop μ-loop
-returns c = delayed-some _ _ _ _ _ (c .before .before .before .before .size .ensures .0) _ (c .before .before .loop-test .taken) (c .before .holds-dispatch .ensures) (c .if1 .taken)
+returns c = delayed-some _ _ _ _ _ (c .before .before .before .before .before .before .before .before .before .before .within .ensures) _ (c .before .before .before .before .before .before .before .before .loop-test .taken) (c .before .holds-dispatch .ensures) (c .if2 .taken)
 
 add-c : tie.Need-add-c Inv-loop μ-loop
 add-c c = search needs
@@ -34,10 +53,10 @@ loop-less : tie.Need-loop-less Inv-loop μ-loop
 loop-less c = search needs
 
 loop-again : tie.Need-loop-again Inv-loop μ-loop
-loop-again c = (omega arith, below-more _ _ (c .before .before .before .loop .inv .1) (sym (c .before .holds-dispatch .ensures) ∙ c .if1 .left))
+loop-again c = (omega arith, below-more _ _ (c .before .before .before .before .before .before .before .loop .inv .1) (⊎-elim (λ w. sym (w .1 .ensures) ∙ w .2 .left) (λ w. delayed-past (c .before .before .before .before .before .before .before .before .before .before .args .t1) (c .before .before .before .before .before .before .before .before .before .before .args .t2) (c .before .before .before .before .before .before .before .before .before .before .args .t) _ _ (c .before .before .before .before .before .before .before .before .within .ensures) 1 _ _ _ (c .before .before .before .before .before .before .loop-test .taken) (c .before .before .before .wide16 .ensures) (c .before .before .owner-at .ensures) (c .before .leads-to .ensures) refl (w .left)) (c .if1 .came)))
 
 returns-2 : tie.Need-returns-2 Inv-loop μ-loop
-returns-2 c = delayed-none _ _ _ _ _ (c .before .before .size .ensures .0) (c .loop-test .left) (c .before .loop .inv .1)
+returns-2 c = delayed-none _ _ _ _ _ (c .before .before .within .ensures) (c .loop-test .left) (c .before .loop .inv .1)
 
 pub awaits-delayed-spec : {M : Type 1} → statement M
 awaits-delayed-spec =
@@ -45,8 +64,14 @@ awaits-delayed-spec =
     (tie.spec
     Inv-loop
     μ-loop
-    size-requires
+    within-requires
     loop-holds
+    mul-x
+    element-copy-out-x
+    element-copy-out-live
+    wide16-requires
+    owner-at-requires
+    leads-to-requires
     holds-dispatch-requires
     returns
     add-c
