@@ -1,5 +1,7 @@
 pub mod State
 pub mod Parts
+pub mod Quiet
+pub mod QuietLaws
 pub mod Tests
 pub mod Jobs
 pub mod TestLaws

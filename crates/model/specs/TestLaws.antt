@@ -29,7 +29,7 @@ use Rattle.model.specs.Jobs.{viewOf, activates, deactivates, completes, 
 pub false-true : {A : Type 0} → false ≡ true → A
 false-true e = let z : _≡_ {A = ℕ} 0 1 = cc in absurd (omega arith)
 
-and-false : (b : Bool) → (b && false) ≡ false
+pub and-false : (b : Bool) → (b && false) ≡ false
 and-false true = refl
 and-false false = refl
 
@@ -244,7 +244,7 @@ unfolding threadBusy
 busy-by m s t n x a b c d e f p q ha hb hc hd he hf = rw (ha, hb, hc, q, p, hd, he, hf)
 
 -- ---- all of it: only the pending mode transition can have an event
-other-switch : (m : Timing) (s : State) (q : ℕ) → (s .clock .pending ≡ q → ⊥) → switchBusy m s q ≡ false
+pub other-switch : (m : Timing) (s : State) (q : ℕ) → (s .clock .pending ≡ q → ⊥) → switchBusy m s q ≡ false
 unfolding switchBusy canEnter canLeave
 other-switch m s q h = rw (ne-eqb (s .clock .pending) q h) (simp and-false)
 

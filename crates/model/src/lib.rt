@@ -1,6 +1,7 @@
 // A model's state, and the test of each event.
 
 mod parts;
+mod quiet;
 mod setters;
 mod tests;
 
@@ -15,6 +16,8 @@ pub use parts::with_behavior;
 pub use parts::with_dispatch;
 pub use parts::with_job;
 pub use parts::with_missed;
+pub use quiet::least;
+pub use quiet::quiet_ticks;
 use records::Cause;
 pub use setters::owner_at;
 pub use setters::put_buffer;

@@ -2,15 +2,14 @@
 use mathlib.Core.Path.{_≡_, refl, sym, _∙_, ap}
 use mathlib.Core.Bool.{Bool, true, false, cond, _&&_}
 use mathlib.Core.List.{List}
-use Prim.Native.Nat.{ℕ, zero, suc, _+_, _-_, _<_, _≤_}
+use Prim.Native.Nat.{ℕ, zero, suc, _+_, _-_, _<_, _≤_, min}
 use native.Mathlib.Omega.{arith}
 use lib.Dec.{eqb, ltb}
 use lib.ListN.{getD, set, length, take as front, drop}
 use borrow.Author.Tests.{lt-ltb, le-ltb, ne-eqb}
 use Rattle.numbers.specs.declared.Duration.{Duration}
-use Rattle.numbers.specs.Lists.{item, store, foldBelow}
 use Rattle.numbers.specs.ListLaws.{fold-zero, fold-next}
-use Rattle.numbers.specs.Values.{duration, oneMore}
+use Rattle.numbers.specs.Values.{duration}
 use Rattle.records.specs.declared.Cause.the-variants.{BrokenEvent, NotEnabled, LastClock}
 use Rattle.records.specs.declared.Event.{Event}
 use Rattle.records.specs.Events.{eventOf, isBroken, lastClock}
@@ -26,66 +25,44 @@ use Rattle.model.specs.declared.State.{State}
 use Rattle.model.specs.declared.Stepped.{Stepped}
 use Rattle.model_machine.specs.declared.Ran.{Ran}
 use Rattle.model_machine.specs.declared.Tallied.{Tallied}
-use Rattle.model.specs.State.{codeOf, spentOf, nowOf, withNow, withSpent}
+use Rattle.model.specs.State.{nowOf, withNow}
 use Rattle.model.specs.Tests.{execution, canActivate, canDeactivate, canDispatch, startFault, canComplete, canMeetDeadline, canMiss, canEnter, canLeave, isBusy}
 use Rattle.model.specs.Effects.{tick}
+use Rattle.model.specs.Quiet.{moreBy, spending, spentBy, withSpents, later, Quiet}
+use Rattle.model.specs.QuietLaws.{later-none, later-next}
+use Rattle.model_effects.specs.Laws.{fold-room}
 use Rattle.model.specs.Machine.{startState, isEnabled, effect, refuse, take, ticks, step, machineOf, runModel}
 
--- ---- a tick: Spent by thread, where code and old are those before it
-unfoldable pub spendAt : List ℕ → List Duration → ℕ → List Duration → List Duration
-spendAt code old t l =
-    cond (eqb (item maxThreads code t 0) execution) (store maxThreads l t (duration (oneMore (item maxThreads old t (duration 0) .0)))) l
+-- ---- Spent q ticks later
+pub spent-begin : (q : ℕ) (code : List ℕ) (old : List Duration) → old ≡ spentBy q code old 0
+unfolding spentBy
+spent-begin q code old = sym (fold-zero (spending q code old) old)
 
-unfoldable pub spendAll : List ℕ → List Duration → ℕ → List Duration
-spendAll code old n = foldBelow n (spendAt code old) old
+-- a loop come to t, which stops at count
+module _ (q : ℕ) (code : List ℕ) (old : List Duration) (n count : ℕ) (e : count ≡ min n maxThreads) (t : ℕ) (l : List Duration) (f : l ≡ spentBy q code old t) where
+  pub spent-rests : t < count → (getD code t 0 ≡ 3 → ⊥) → l ≡ spentBy q code old (t + 1)
+  unfolding spentBy
+  spent-rests h z = rw (fold-next t (spending q code old) old, lt-ltb t maxThreads (omega arith), ne-eqb (getD code t 0) 3 z) f
 
-module _ (code : List ℕ) (old l : List Duration) (t : ℕ) where
-  pub spend-past : 16 ≤ t → l ≡ spendAt code old t l
-  unfolding spendAt
-  spend-past h = rw (le-ltb t 16 h)
+  pub spent-runs : (k : ℕ) → t < count → getD code t 0 ≡ 3 → k ≡ moreBy q (getD old t (duration 0) .0) → set l t (duration k) ≡ spentBy q code old (t + 1)
+  unfolding spentBy
+  spent-runs k h z w = rw (fold-next t (spending q code old) old, lt-ltb t maxThreads (omega arith), z, ← w, ← f)
 
-  pub spend-rests : t < 16 → (getD code t 0 ≡ 3 → ⊥) → l ≡ spendAt code old t l
-  unfolding spendAt
-  spend-rests h n = rw (lt-ltb t 16 h, ne-eqb (getD code t 0) 3 n)
+  pub spent-all : t ≤ count → count ≤ t → l ≡ spentBy q code old n
+  unfolding spentBy
+  spent-all h k = let z : t ≡ min n maxThreads = omega arith in f ∙ rw z (fold-room n maxThreads (spending q code old) old past)
+    where
+      same : (c : Bool) (x : List Duration) → cond c x x ≡ x
+      same true x = refl
+      same false x = refl
 
-  pub spend-runs : (n : ℕ) → t < 16 → getD code t 0 ≡ 3 → n ≡ oneMore (getD old t (duration 0) .0) → set l t (duration n) ≡ spendAt code old t l
-  unfolding spendAt
-  spend-runs n h e f = rw (lt-ltb t 16 h, e, f)
+      past : (j : ℕ) (x : List Duration) → maxThreads ≤ j → spending q code old j x ≡ x
+      past j x b = rw (le-ltb j maxThreads b) (same (eqb 0 execution) x)
 
-pub spend-none : (code : List ℕ) (old : List Duration) → old ≡ spendAll code old 0
-unfolding spendAll
-spend-none code old = sym (fold-zero (spendAt code old) old)
-
-pub spend-next : (code : List ℕ) (old l r : List Duration) (t : ℕ) → l ≡ spendAll code old t → r ≡ spendAt code old t l → r ≡ spendAll code old (t + 1)
-unfolding spendAll
-spend-next code old l r t e f = rw (fold-next t (spendAt code old) old, ← e) f
-
-pub spend-done : (code : List ℕ) (old l : List Duration) (t n : ℕ) → l ≡ spendAll code old t → t ≤ n → n ≤ t → l ≡ spendAll code old n
-spend-done code old l t n e h k = let p : t ≡ n = omega arith in e ∙ ap (spendAll code old) p
-
--- the state with that Spent
-unfoldable pub withSpents : State → List Duration → State
-withSpents s l = record {
-  clock = s .clock;
-  threads = record { active = s .threads .active; code = s .threads .code; dispatched = s .threads .dispatched; length = s .threads .length; spent = l; behavior = s .threads .behavior; missed = s .threads .missed };
-  live = s .live;
-  ports = s .ports;
-}
-
-one-spends : (b : Bool) (s : State) (l : List Duration) (t n : ℕ) → cond b (withSpent (withSpents s l) t n) (withSpents s l) ≡ withSpents s (cond b (store maxThreads l t (duration n)) l)
-unfolding withSpents withSpent
-one-spends true s l t n = refl
-one-spends false s l t n = refl
-
-spends : (s : State) (n : ℕ) → foldBelow n (λ t x. cond (eqb (codeOf s t) execution) (withSpent x t (oneMore (spentOf s t))) x) s ≡ withSpents s (spendAll (s .threads .code) (s .threads .spent) n)
-unfolding spendAll spendAt foldBelow withSpents codeOf spentOf
-spends s zero = refl
-spends s (suc n) = rw (spends s n) (one-spends (eqb (codeOf s n) execution) s (spendAll (s .threads .code) (s .threads .spent) n) n (oneMore (spentOf s n)))
-
-pub tick-by : (m : Timing) (s : State) (l : List Duration) → l ≡ spendAll (s .threads .code) (s .threads .spent) (m .threads) →
-    withNow (withSpents s l) (nowOf s + 1) ≡ tick m s
-unfolding tick
-tick-by m s l e = rw (spends s (m .threads), e)
+pub later-by : (m : Timing) (s : State) (q : ℕ) (l : List Duration) → l ≡ spentBy q (s .threads .code) (s .threads .spent) (m .threads) →
+    withNow (withSpents s l) (nowOf s + q) ≡ later m q s
+unfolding later
+later-by m s q l e = rw e
 
 -- ---- TICK n from s₀, of which k ticks are left at x
 module _ (m : Timing) (s₀ x : State) where
@@ -97,19 +74,39 @@ module _ (m : Timing) (s₀ x : State) where
   unfolding ticks
   some-left k h = let p : k ≡ suc (k - 1) = omega arith in ap (λ (j : ℕ). ticks m s₀ j x) p
 
-  module _ (n k : ℕ) (inv : ticks m s₀ k x ≡ ticks m s₀ n s₀) where
-    pub ticks-end : k ≤ 0 → take x ≡ ticks m s₀ n s₀
-    ticks-end h = let p : k ≡ 0 = omega arith in sym (ap (λ (j : ℕ). ticks m s₀ j x) p ∙ none-left) ∙ inv
+now-below : (m : Timing) (x : State) (i : ℕ) → nowOf x + i < lastClock → ltb (nowOf (later m i x)) lastClock ≡ true
+unfolding later withNow
+now-below m x i l = lt-ltb (nowOf x + i) lastClock l
 
-    module _ (h : 0 < k) (b : Bool) (e : b ≡ isBusy m x) where
-      pub ticks-busy : b ≡ true → refuse NotEnabled s₀ ≡ ticks m s₀ n s₀
-      ticks-busy g = rw (some-left k h, ← e, g) at inv
+-- i ticks of which none is refused
+passes : (m : Timing) (s₀ x : State) (i r : ℕ) → ((j : ℕ) → j < i → isBusy m (later m j x) ≡ false) → nowOf x + i ≤ lastClock →
+    ticks m s₀ (i + r) x ≡ ticks m s₀ r (later m i x)
+unfolding ticks
+passes m s₀ x zero r h l = let p : 0 + r ≡ r = omega arith in rw (p, later-none m x)
+passes m s₀ x (suc i) r h l =
+    let p : suc i + r ≡ i + suc r = omega arith in
+    rw p (passes m s₀ x i (suc r) (λ j k. h j (omega arith)) (omega arith) ∙ rw (h i (omega arith), now-below m x i (omega arith), later-next m i x))
 
-      pub ticks-late : b ≡ false → lastClock ≤ nowOf x → refuse LastClock s₀ ≡ ticks m s₀ n s₀
-      ticks-late g l = rw (some-left k h, ← e, g, le-ltb (nowOf x) lastClock l) at inv
+module _ (m : Timing) (s₀ x : State) (n k : ℕ) (inv : ticks m s₀ k x ≡ ticks m s₀ n s₀) where
+  pub ticks-end : k ≤ 0 → take x ≡ ticks m s₀ n s₀
+  ticks-end h = let p : k ≡ 0 = omega arith in sym (ap (λ (j : ℕ). ticks m s₀ j x) p ∙ none-left m s₀ x) ∙ inv
 
-      pub ticks-on : (y : State) → b ≡ false → nowOf x < lastClock → y ≡ tick m x → ticks m s₀ (k - 1) y ≡ ticks m s₀ n s₀
-      ticks-on y g l f = rw f (rw (some-left k h, ← e, g, lt-ltb (nowOf x) lastClock l) at inv)
+  module _ (h : 0 < k) (b : Bool) (e : b ≡ isBusy m x) where
+    pub ticks-busy : b ≡ true → refuse NotEnabled s₀ ≡ ticks m s₀ n s₀
+    ticks-busy g = rw (some-left m s₀ x k h, ← e, g) at inv
+
+    module _ (g : b ≡ false) where
+      pub ticks-late : lastClock ≤ nowOf x → refuse LastClock s₀ ≡ ticks m s₀ n s₀
+      ticks-late l = rw (some-left m s₀ x k h, ← e, g, le-ltb (nowOf x) lastClock l) at inv
+
+      pub ticks-on : (q : ℕ) (y : State) → q ≤ k → nowOf x + q ≤ lastClock → Quiet m x q → y ≡ later m q x → ticks m s₀ (k - q) y ≡ ticks m s₀ n s₀
+      ticks-on q y l z c f =
+          let p : k ≡ q + (k - q) = omega arith in
+          rw f (sym (passes m s₀ x q (k - q) free z) ∙ ap (λ (j : ℕ). ticks m s₀ j x) (sym p) ∙ inv)
+        where
+          free : (j : ℕ) → j < q → isBusy m (later m j x) ≡ false
+          free zero i = rw (later-none m x) (sym e ∙ g)
+          free (suc j) i = c (suc j) (omega arith) i
 
 -- ---- which event: t is its id
 module _ (m : Timing) (s : State) (e : Event) (t : ℕ) (w : t ≡ e .id) where

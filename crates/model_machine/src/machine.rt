@@ -13,13 +13,15 @@ use model::can_leave;
 use model::can_meet_deadline;
 use model::can_miss;
 use model::is_busy;
+use model::least;
+use model::quiet_ticks;
 use model::start_fault;
 use model::wide;
+use model::within;
 use model_effects::effect;
 use model_format::Model;
 use model_format::Timing;
 use numbers::Duration;
-use numbers::one_more;
 use records::Cause;
 use records::Event;
 use records::Holder;
@@ -30,54 +32,57 @@ use records::is_broken;
 use records::is_none;
 use records::part_at;
 ghost use mathlib.Core.Path.{_≡_};
-ghost use Prim.Native.Nat.{_<_};
+ghost use Prim.Native.Nat.{_+_, _≤_};
 ghost use Rattle.model.specs.State.{nowOf};
 ghost use Rattle.model.specs.Effects as effects;
 ghost use Rattle.model.specs.Machine as machine;
+ghost use Rattle.model.specs.Quiet as quiet;
 ghost use Rattle.model_machine.specs.Laws as laws;
 
-// Spent of thread t, one more where it runs: `old` is Spent before the tick.
-fn spend(code: [u8; 16], old: [Duration; 16], l: [Duration; 16], t: usize) -> [Duration; 16]
-    ensures { λ r. ⌜ r ≡ laws.spendAt code old t l ⌝ }
+// n, and q more as far as 32 bits go.
+fn more_by(n: u32, q: u32) -> u32
+    ensures { λ r. ⌜ r ≡ quiet.moreBy q n ⌝ }
 {
-    if 16 <= t {
-        return l;
+    if n <= 4294967295 - q {
+        n + q
+    } else {
+        4294967295
     }
-    let k = code[t];
-    if k != 3 {
-        return l;
-    }
-    let d = old[t];
-    let more = Duration(one_more(d.0));
-    let mut r = l;
-    r[t] = more;
-    r
 }
 
-fn spend_all(code: [u8; 16], old: [Duration; 16], n: usize) -> [Duration; 16]
-    ensures { λ r. ⌜ r ≡ laws.spendAll code old n ⌝ }
+// Spent of each thread, q more where it runs: `old` is Spent before.
+fn spend_all(code: [u8; 16], old: [Duration; 16], n: usize, q: u32) -> [Duration; 16]
+    ensures { λ r. ⌜ r ≡ quiet.spentBy q code old n ⌝ }
 {
+    let count = within(n, 16);
     let mut l = old;
     let mut t: usize = 0;
-    while t < n {
-        let r = spend(code, old, l, t);
-        l = r;
+    while t < count {
+        let k = code[t];
+        if k != 3 {
+            t += 1;
+            continue;
+        }
+        let d = old[t];
+        let more = Duration(more_by(d.0, q));
+        l[t] = more;
         t += 1;
     }
     l
 }
 
-fn tick(m: Timing, s: State) -> State
-    requires { ⌜ s .clock .now .0 < 1000000000 ⌝ }
-    ensures { λ r. ⌜ r ≡ effects.tick m s ⌝ }
+// The state q ticks later.
+fn pass(m: Timing, s: State, q: u32) -> State
+    requires { ⌜ s .clock .now .0 + q ≤ 1000000000 ⌝ }
+    ensures { λ r. ⌜ r ≡ quiet.later m q s ⌝ }
 {
     let mut y = s.threads;
     let code = y.code;
     let old = y.spent;
-    let l = spend_all(code, old, m.threads);
+    let l = spend_all(code, old, m.threads, q);
     y.spent = l;
     let mut k = s.clock;
-    let now = Duration(k.now.0 + 1);
+    let now = Duration(k.now.0 + q);
     k.now = now;
     let mut r = s;
     r.clock = k;
@@ -94,7 +99,7 @@ fn answered(c: Cause, s: State) -> Stepped
     }
 }
 
-// TICK n: all of its ticks, or none.
+// TICK n: all of its ticks, or none. Those that are quiet pass at once.
 pub fn ticks(m: Timing, s: State, n: u32) -> Stepped
     ensures { λ r. ⌜ r ≡ machine.ticks m s n s ⌝ }
 {
@@ -109,8 +114,10 @@ pub fn ticks(m: Timing, s: State, n: u32) -> Stepped
             let c = Cause::LastClock;
             return answered(c, s);
         }
-        x = tick(m, x);
-        k -= 1;
+        let room = 1000000000 - x.clock.now.0;
+        let q = quiet_ticks(m, x, least(k, room));
+        x = pass(m, x, q);
+        k -= q;
     }
     let c = Cause::None;
     answered(c, x)

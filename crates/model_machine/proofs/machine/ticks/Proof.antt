@@ -1,5 +1,6 @@
 use Rattle.model_machine.specs.Laws.{ticks-end, ticks-busy, ticks-late, ticks-on}
 use Rattle.model.specs.Machine as machine
+use native.Mathlib.Omega.{arith}
 use mathlib.Core.Path.{_≡_, refl, _∙_}
 use borrow.Author.Needs.{needs}
 use Rattle.model_machine.proofs.machine.ticks.Statement.{statement}
@@ -29,17 +30,26 @@ answered-requires-2 c κs = search needs
 returns-2 : tie.Need-returns-2 Inv-loop μ-loop
 returns-2 c = c .answered2 .ensures ∙ ticks-late _ _ _ _ _ (c .before .before .before .before .before .before .loop .inv) (c .before .before .before .before .before .loop-test .taken) _ (c .before .before .before .before .is-busy .ensures) (c .before .before .before .if1 .left) (c .before .if2 .taken)
 
-tick-requires : tie.Need-tick-requires Inv-loop μ-loop
-tick-requires c κs = search needs
+sub-room : tie.Need-sub-room Inv-loop μ-loop
+sub-room c = search needs
+
+least-requires : tie.Need-least-requires Inv-loop μ-loop
+least-requires c κs = search needs
+
+quiet-ticks-requires : tie.Need-quiet-ticks-requires Inv-loop μ-loop
+quiet-ticks-requires c κs = omega (arith, c .least .ensures, c .before .before .if2 .left, c .before .before .before .before .before .before .loop-test .taken)
+
+pass-requires : tie.Need-pass-requires Inv-loop μ-loop
+pass-requires c κs = omega (arith, c .quiet-ticks .ensures .1 .0, c .before .least .ensures, c .before .before .before .if2 .left)
 
 sub-k : tie.Need-sub-k Inv-loop μ-loop
-sub-k c = search needs
+sub-k c = omega (arith, c .before .quiet-ticks .ensures .1 .0, c .before .before .least .ensures)
 
 loop-less : tie.Need-loop-less Inv-loop μ-loop
-loop-less c = search needs
+loop-less c = omega (arith, c .before .quiet-ticks .ensures .0, c .before .quiet-ticks .ensures .1 .0, c .before .before .least .ensures, c .before .before .before .before .before .before .before .before .loop-test .taken)
 
 loop-again : tie.Need-loop-again Inv-loop μ-loop
-loop-again c = ticks-on _ _ _ _ _ (c .before .before .before .before .before .before .loop .inv) (c .before .before .before .before .before .loop-test .taken) _ (c .before .before .before .before .is-busy .ensures) _ (c .before .before .before .if1 .left) (c .before .if2 .left) (c .tick .ensures)
+loop-again c = ticks-on _ _ _ _ _ (c .before .before .before .before .before .before .before .before .before .loop .inv) (c .before .before .before .before .before .before .before .before .loop-test .taken) _ (c .before .before .before .before .before .before .before .is-busy .ensures) (c .before .before .before .before .before .before .if1 .left) _ _ (omega (arith, c .before .quiet-ticks .ensures .1 .0, c .before .before .least .ensures)) (omega (arith, c .before .quiet-ticks .ensures .1 .0, c .before .before .least .ensures, c .before .before .before .before .if2 .left)) (c .before .quiet-ticks .ensures .1 .1) (c .pass .ensures)
 
 answered-requires-3 : tie.Need-answered-requires-3 Inv-loop μ-loop
 answered-requires-3 c κs = search needs
@@ -59,7 +69,10 @@ ticks-spec =
     returns
     answered-requires-2
     returns-2
-    tick-requires
+    sub-room
+    least-requires
+    quiet-ticks-requires
+    pass-requires
     sub-k
     loop-less
     loop-again
