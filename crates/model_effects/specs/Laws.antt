@@ -9,7 +9,7 @@ use lib.Dec.{eqb, ltb}
 use lib.ListN.{getD, set}
 use borrow.Author.Tests.{lt-ltb, le-ltb, eq-eqb, ne-eqb}
 use Rattle.numbers.specs.declared.Value.{Value}
-use Rattle.numbers.specs.Lists.{item, store, anyBelow, allBelow, foldBelow}
+use Rattle.numbers.specs.Lists.{item, store, anyBelow, allBelow, firstBelow, foldBelow}
 use Rattle.numbers.specs.ListLaws.{any-suc, all-next, all-zero, all-not, fold-next, fold-suc, first-none, first-found}
 use Rattle.numbers.specs.Values.{duration, natural, bitsOf, oneMore}
 use Rattle.records.specs.declared.Operand.{Operand}
@@ -22,7 +22,7 @@ use Rattle.model_format.specs.declared.Timing.{Timing}
 use Rattle.model_format.specs.declared.Behavior.{Behavior}
 use Rattle.model_format.specs.declared.Model.{Model}
 use Rattle.model_format.specs.Model.{maxThreads, maxInputs, maxOutputs, maxLocals, maxConnections, maxTransitions, maxEach, maxTimes, noThread, noConnection, noTransition, noAtom, noAssignment, immediate, delayed, inputOwner, outputOwner, threadAt, connectionAt, switchAt, transitionAt, atomAt, assignmentAt, inMode}
-use Rattle.model_format.specs.Laws.{drawn-within}
+use Rattle.model_format.specs.Laws.{drawn-within, drawn-past}
 use Rattle.model.specs.declared.Clock.{Clock}
 use Rattle.model.specs.declared.Threads.{Threads}
 use Rattle.model.specs.declared.Job.{Job}
@@ -204,76 +204,119 @@ module _ (p : Ports) (a : Atom) (i : ℕ) (v : Value) (e : i ≡ a .number) wher
   unfolding leftValue localOf
   left-local g h = h ∙ rw (e, ne-eqb _ _ g)
 
--- an item where the place of it is within the array
-pub transition-within : (b : Behavior) (k : ℕ) (x : Transition) → k < maxTransitions → x ≡ getD (b .transition) k noTransition → x ≡ transitionAt b k
-unfolding transitionAt
-transition-within b k x h f = rw (lt-ltb k maxTransitions h) f
+-- the items of arrays
+unfoldable pub transitionIn : List Transition → ℕ → Transition
+transitionIn list k = item maxTransitions list k noTransition
 
-module _ (b : Behavior) (k j i : ℕ) (e : i ≡ min (k * maxEach + j) maxTimes) (h : i < maxTimes) where
-  pub atom-within : (a : Atom) → a ≡ getD (b .atom) i noAtom → a ≡ atomAt b k j
-  unfolding atomAt
-  atom-within a f = f ∙ drawn-within maxTimes (b .atom) i (k * maxEach + j) noAtom e h
+unfoldable pub atomIn : List Atom → ℕ → ℕ → Atom
+atomIn l k j = item maxTimes l (k * maxEach + j) noAtom
 
-  pub assignment-within : (a : Assignment) → a ≡ getD (b .assignment) i noAssignment → a ≡ assignmentAt b k j
-  unfolding assignmentAt
-  assignment-within a f = f ∙ drawn-within maxTimes (b .assignment) i (k * maxEach + j) noAssignment e h
+unfoldable pub assignmentIn : List Assignment → ℕ → ℕ → Assignment
+assignmentIn l k j = item maxTimes l (k * maxEach + j) noAssignment
+
+-- where the place of one is within the array, and where it is not
+module _ (list : List Transition) (k : ℕ) (x : Transition) where
+  pub transition-within : k < maxTransitions → x ≡ getD list k noTransition → x ≡ transitionIn list k
+  unfolding transitionIn
+  transition-within h f = rw (lt-ltb k maxTransitions h) f
+
+  pub transition-past : maxTransitions ≤ k → x ≡ noTransition → x ≡ transitionIn list k
+  unfolding transitionIn
+  transition-past h f = rw (le-ltb k maxTransitions h) f
+
+module _ (k j i : ℕ) (e : i ≡ min (k * maxEach + j) maxTimes) where
+  module _ (l : List Atom) (a : Atom) where
+    pub atom-within : i < maxTimes → a ≡ getD l i noAtom → a ≡ atomIn l k j
+    unfolding atomIn
+    atom-within h f = f ∙ drawn-within maxTimes l i (k * maxEach + j) noAtom e h
+
+    pub atom-past : maxTimes ≤ i → a ≡ noAtom → a ≡ atomIn l k j
+    unfolding atomIn
+    atom-past h f = f ∙ sym (drawn-past maxTimes l i (k * maxEach + j) noAtom e h)
+
+  module _ (l : List Assignment) (a : Assignment) where
+    pub assignment-within : i < maxTimes → a ≡ getD l i noAssignment → a ≡ assignmentIn l k j
+    unfolding assignmentIn
+    assignment-within h f = f ∙ drawn-within maxTimes l i (k * maxEach + j) noAssignment e h
+
+    pub assignment-past : maxTimes ≤ i → a ≡ noAssignment → a ≡ assignmentIn l k j
+    unfolding assignmentIn
+    assignment-past h f = f ∙ sym (drawn-past maxTimes l i (k * maxEach + j) noAssignment e h)
 
 -- the first n atoms of transition k hold
-unfoldable pub guardHolds : Behavior → Ports → ℕ → ℕ → Bool
-guardHolds b p k n = allBelow n (λ j. atomHolds p (atomAt b k j))
+unfoldable pub guardHolds : List Atom → Ports → ℕ → ℕ → Bool
+guardHolds l p k n = allBelow n (λ j. atomHolds p (atomIn l k j))
 
-module _ (b : Behavior) (p : Ports) (k : ℕ) where
-  pub guard-none : guardHolds b p k 0 ≡ true
+module _ (l : List Atom) (p : Ports) (k : ℕ) where
+  pub guard-none : guardHolds l p k 0 ≡ true
   unfolding guardHolds
-  guard-none = all-zero (λ j. atomHolds p (atomAt b k j))
+  guard-none = all-zero (λ j. atomHolds p (atomIn l k j))
 
-  module _ (j : ℕ) (a : Atom) (r : Bool) (e : a ≡ atomAt b k j) (f : r ≡ atomHolds p a) where
-    pub guard-on : not r ≡ false → guardHolds b p k j ≡ true → guardHolds b p k (j + 1) ≡ true
+  module _ (j : ℕ) (a : Atom) (r : Bool) (e : a ≡ atomIn l k j) (f : r ≡ atomHolds p a) where
+    pub guard-on : not r ≡ false → guardHolds l p k j ≡ true → guardHolds l p k (j + 1) ≡ true
     unfolding guardHolds
     guard-on g h =
-        let y : atomHolds p (atomAt b k j) ≡ true = rw (← e, ← f) (not-false r g) in
-        all-next j (λ i. atomHolds p (atomAt b k i)) ∙ rw (h, y)
+        let y : atomHolds p (atomIn l k j) ≡ true = rw (← e, ← f) (not-false r g) in
+        all-next j (λ i. atomHolds p (atomIn l k i)) ∙ rw (h, y)
 
-    pub guard-off : (n : ℕ) → j < n → not r ≡ true → false ≡ guardHolds b p k n
+    pub guard-off : (n : ℕ) → j < n → not r ≡ true → false ≡ guardHolds l p k n
     unfolding guardHolds
-    guard-off n l g =
-        let y : atomHolds p (atomAt b k j) ≡ false = rw (← e, ← f) (not-true r g) in
-        sym (all-not n (λ i. atomHolds p (atomAt b k i)) j l y)
+    guard-off n h g =
+        let y : atomHolds p (atomIn l k j) ≡ false = rw (← e, ← f) (not-true r g) in
+        sym (all-not n (λ i. atomHolds p (atomIn l k i)) j h y)
 
-  pub guard-all : (j n : ℕ) → j ≤ n → n ≤ j → guardHolds b p k j ≡ true → true ≡ guardHolds b p k n
-  guard-all j n l h e = let q : n ≡ j = omega arith in rw (q, e)
+  pub guard-all : (j n : ℕ) → j ≤ n → n ≤ j → guardHolds l p k j ≡ true → true ≡ guardHolds l p k n
+  guard-all j n u h e = let q : n ≡ j = omega arith in rw (q, e)
 
 -- transition x is one of thread t from a behaviour state
 unfoldable pub leaves : Transition → ℕ → ℕ → Bool
 leaves x t from = eqb (x .thread) t && eqb (x .from) from
 
-abbrev pub openAt : Behavior → Ports → ℕ → ℕ → ℕ → Bool
-openAt b p from t k = eqb (transitionAt b k .thread) t && (eqb (transitionAt b k .from) from && guardHolds b p k (transitionAt b k .atoms))
+abbrev pub openAt : List Transition → List Atom → Ports → ℕ → ℕ → ℕ → Bool
+openAt list atom p from t k =
+    eqb (transitionIn list k .thread) t && (eqb (transitionIn list k .from) from && guardHolds atom p k (transitionIn list k .atoms))
 
-module _ (b : Behavior) (p : Ports) (from t k : ℕ) (x : Transition) (r : Bool) (e : x ≡ transitionAt b k) (f : r ≡ leaves x t from) where
-  pub open-not : r ≡ false → openAt b p from t k ≡ false
+module _ (list : List Transition) (atom : List Atom) (p : Ports) (from t k : ℕ) (x : Transition) (r : Bool) (e : x ≡ transitionIn list k) (f : r ≡ leaves x t from) where
+  pub open-not : r ≡ false → openAt list atom p from t k ≡ false
   unfolding leaves
-  open-not h = rw (← e) (and-shut (eqb (x .thread) t) (eqb (x .from) from) (guardHolds b p k (x .atoms)) (sym f ∙ h))
+  open-not h = rw (← e) (and-shut (eqb (x .thread) t) (eqb (x .from) from) (guardHolds atom p k (x .atoms)) (sym f ∙ h))
 
-  pub open-is : (n : ℕ) (h v : Bool) → r ≡ true → n ≡ x .atoms → h ≡ guardHolds b p k n → h ≡ v → openAt b p from t k ≡ v
+  pub open-is : (n : ℕ) (h v : Bool) → r ≡ true → n ≡ x .atoms → h ≡ guardHolds atom p k n → h ≡ v → openAt list atom p from t k ≡ v
   unfolding leaves
   open-is n h v i j l o =
-      rw (← e) (and-open (eqb (x .thread) t) (eqb (x .from) from) (guardHolds b p k (x .atoms)) (sym f ∙ i) ∙ rw j at (sym l ∙ o))
+      rw (← e) (and-open (eqb (x .thread) t) (eqb (x .from) from) (guardHolds atom p k (x .atoms)) (sym f ∙ i) ∙ rw j at (sym l ∙ o))
+
+-- the first of n transitions that is open, or n
+unfoldable pub firstOf : ℕ → List Transition → List Atom → Ports → ℕ → ℕ → ℕ
+firstOf n list atom p from t = firstBelow n (openAt list atom p from t)
 
 -- a search come to k
-module _ (b : Behavior) (s : State) (t from k : ℕ) (e : from ≡ item maxThreads (s .threads .behavior) t 0)
-    (h : (j : ℕ) → j < k → openAt b (s .ports) from t j ≡ false) where
-  pub first-is : k < b .transitions → openAt b (s .ports) from t k ≡ true → k ≡ firstOpen b s t
-  unfolding firstOpen isOpen behaviorOf guardHolds
-  first-is l f = rw e at (sym (first-found (b .transitions) (openAt b (s .ports) from t) k l f h))
+module _ (n : ℕ) (list : List Transition) (atom : List Atom) (p : Ports) (from t k : ℕ) (h : (j : ℕ) → j < k → openAt list atom p from t j ≡ false) where
+  pub first-is : k < n → openAt list atom p from t k ≡ true → k ≡ firstOf n list atom p from t
+  unfolding firstOf
+  first-is l f = sym (first-found n (openAt list atom p from t) k l f h)
 
-  pub first-end : b .transitions ≤ k → b .transitions ≡ firstOpen b s t
-  unfolding firstOpen isOpen behaviorOf guardHolds
-  first-end l = rw e at (sym (first-none (b .transitions) (openAt b (s .ports) from t) (λ j i. h j (omega arith))))
+  pub first-end : n ≤ k → n ≡ firstOf n list atom p from t
+  unfolding firstOf
+  first-end l = sym (first-none n (openAt list atom p from t) (λ j i. h j (omega arith)))
 
--- transition k, or one that keeps the behaviour state; thread 0 stands for any
-unfoldable pub takenFrom : Behavior → ℕ → ℕ → Transition
-takenFrom b k from = cond (ltb k (b .transitions)) (transitionAt b k) (record { thread = 0; from = from; to = from; atoms = 0; assignments = 0 })
+first-open : (b : Behavior) (s : State) (t from : ℕ) → from ≡ item maxThreads (s .threads .behavior) t 0 →
+    firstOf (b .transitions) (b .transition) (b .atom) (s .ports) from t ≡ firstOpen b s t
+unfolding firstOf firstOpen isOpen behaviorOf guardHolds transitionIn transitionAt atomIn atomAt
+first-open b s t from e = rw e
+
+-- transition k of n, or one that keeps the behaviour state; thread 0 stands for any
+unfoldable pub takenFrom : ℕ → List Transition → ℕ → ℕ → Transition
+takenFrom n list k from = cond (ltb k n) (transitionIn list k) (record { thread = 0; from = from; to = from; atoms = 0; assignments = 0 })
+
+module _ (n : ℕ) (list : List Transition) (k from : ℕ) where
+  pub taken-none : n ≤ k → record { thread = 0; from = from; to = from; atoms = 0; assignments = 0 } ≡ takenFrom n list k from
+  unfolding takenFrom
+  taken-none h = rw (le-ltb k n h)
+
+  pub taken-some : (x : Transition) → k < n → x ≡ transitionIn list k → x ≡ takenFrom n list k from
+  unfolding takenFrom
+  taken-some x h f = rw (lt-ltb k n h) f
 
 -- one assignment, which reads p and writes q
 unfoldable pub assignOne : Ports → Ports → Assignment → Ports
@@ -288,22 +331,35 @@ module _ (p q : Ports) (a : Assignment) (v : Value) (i : ℕ) (r : Ports) (e : v
   unfolding assignOne
   assign-local g h = h ∙ rw (f, e, ne-eqb _ _ g)
 
-module _ (b : Behavior) (p : Ports) (k : ℕ) where
-  pub assigned-none : p ≡ assign b p k 0
-  unfolding assign foldBelow
+-- the first n assignments of transition k
+unfoldable pub assigned : List Assignment → Ports → ℕ → ℕ → Ports
+assigned m p k n = record {
+  input = p .input;
+  buffer = p .buffer;
+  output = foldBelow n (λ j l. let a = assignmentIn m k j in cond (eqb (a .tag) 3) (store maxOutputs l (a .number) (assignedValue p a)) l) (p .output);
+  local = foldBelow n (λ j l. let a = assignmentIn m k j in cond (eqb (a .tag) 3) l (store maxLocals l (a .number) (assignedValue p a))) (p .local);
+}
+
+assigned-is : (b : Behavior) (p : Ports) (k n : ℕ) → assigned (b .assignment) p k n ≡ assign b p k n
+unfolding assigned assign assignmentIn assignmentAt
+assigned-is b p k n = refl
+
+module _ (m : List Assignment) (p : Ports) (k : ℕ) where
+  pub assigned-none : p ≡ assigned m p k 0
+  unfolding assigned foldBelow
   assigned-none = refl
 
   outputs : ℕ → List Value → List Value
-  outputs j l = let a = assignmentAt b k j in cond (eqb (a .tag) 3) (store maxOutputs l (a .number) (assignedValue p a)) l
+  outputs j l = let a = assignmentIn m k j in cond (eqb (a .tag) 3) (store maxOutputs l (a .number) (assignedValue p a)) l
 
   locals : ℕ → List Value → List Value
-  locals j l = let a = assignmentAt b k j in cond (eqb (a .tag) 3) l (store maxLocals l (a .number) (assignedValue p a))
+  locals j l = let a = assignmentIn m k j in cond (eqb (a .tag) 3) l (store maxLocals l (a .number) (assignedValue p a))
 
-  assigned-more : (j : ℕ) → assignOne p (assign b p k j) (assignmentAt b k j) ≡ assign b p k (j + 1)
-  unfolding assignOne assign outputs locals
+  assigned-more : (j : ℕ) → assignOne p (assigned m p k j) (assignmentIn m k j) ≡ assigned m p k (j + 1)
+  unfolding assignOne assigned outputs locals
   assigned-more j =
       rw (fold-next j outputs (p .output), fold-next j locals (p .local))
-      (go (eqb (assignmentAt b k j .tag) 3) (assignmentAt b k j) (foldBelow j outputs (p .output)) (foldBelow j locals (p .local)))
+      (go (eqb (assignmentIn m k j .tag) 3) (assignmentIn m k j) (foldBelow j outputs (p .output)) (foldBelow j locals (p .local)))
     where
       go : (c : Bool) (a : Assignment) (o l : List Value) →
           _≡_ {A = Ports}
@@ -313,10 +369,10 @@ module _ (b : Behavior) (p : Ports) (k : ℕ) where
       go true a o l = refl
       go false a o l = refl
 
-  pub assigned-next : (j : ℕ) (q r : Ports) (a : Assignment) → q ≡ assign b p k j → a ≡ assignmentAt b k j → r ≡ assignOne p q a → r ≡ assign b p k (j + 1)
+  pub assigned-next : (j : ℕ) (q r : Ports) (a : Assignment) → q ≡ assigned m p k j → a ≡ assignmentIn m k j → r ≡ assignOne p q a → r ≡ assigned m p k (j + 1)
   assigned-next j q r a e f h = h ∙ rw (e, f) (assigned-more j)
 
-  pub assigned-all : (j n : ℕ) (q : Ports) → j ≤ n → n ≤ j → q ≡ assign b p k j → q ≡ assign b p k n
+  pub assigned-all : (j n : ℕ) (q : Ports) → j ≤ n → n ≤ j → q ≡ assigned m p k j → q ≡ assigned m p k n
   assigned-all j n q l h e = let z : n ≡ j = omega arith in rw z e
 
 -- ---- connections
@@ -432,8 +488,8 @@ module _ (m : Timing) (s : State) where
   leave-is q x d l e f g = rw (f, g, e)
 
 module _ (b : Behavior) (s : State) (t : ℕ) where
-  taken-to : takenFrom b (firstOpen b s t) (behaviorOf s t) .to ≡ takenTransition b s t .to
-  unfolding takenFrom takenTransition
+  taken-to : takenFrom (b .transitions) (b .transition) (firstOpen b s t) (behaviorOf s t) .to ≡ takenTransition b s t .to
+  unfolding takenFrom takenTransition transitionIn transitionAt
   taken-to = go (ltb (firstOpen b s t) (b .transitions))
     where
       go : (c : Bool) → cond c (transitionAt b (firstOpen b s t)) (record { thread = 0; from = behaviorOf s t; to = behaviorOf s t; atoms = 0; assignments = 0 }) .to ≡
@@ -441,8 +497,8 @@ module _ (b : Behavior) (s : State) (t : ℕ) where
       go true = refl
       go false = refl
 
-  taken-assignments : takenFrom b (firstOpen b s t) (behaviorOf s t) .assignments ≡ takenTransition b s t .assignments
-  unfolding takenFrom takenTransition
+  taken-assignments : takenFrom (b .transitions) (b .transition) (firstOpen b s t) (behaviorOf s t) .assignments ≡ takenTransition b s t .assignments
+  unfolding takenFrom takenTransition transitionIn transitionAt
   taken-assignments = go (ltb (firstOpen b s t) (b .transitions))
     where
       go : (c : Bool) → cond c (transitionAt b (firstOpen b s t)) (record { thread = 0; from = behaviorOf s t; to = behaviorOf s t; atoms = 0; assignments = 0 }) .assignments ≡
@@ -451,15 +507,17 @@ module _ (b : Behavior) (s : State) (t : ℕ) where
       go false = refl
 
 pub complete-is : (m : Model) (s : State) (t k from n : ℕ) (x : Transition) (new p : Ports) (q : State) (w : Threads) →
-    k ≡ firstOpen (m .behavior) s t → from ≡ item maxThreads (s .threads .behavior) t 0 → x ≡ takenFrom (m .behavior) k from → n ≡ x .assignments →
-    new ≡ assign (m .behavior) (s .ports) k n → p ≡ send (m .timing) s immediate t new → q ≡ endJob (m .timing) s t completed → w ≡ setBehavior (q .threads) t (x .to) →
-    withPorts (withThreads q w) p ≡ complete m s t
+    k ≡ firstOf (m .behavior .transitions) (m .behavior .transition) (m .behavior .atom) (s .ports) from t → from ≡ item maxThreads (s .threads .behavior) t 0 →
+    x ≡ takenFrom (m .behavior .transitions) (m .behavior .transition) k from → n ≡ x .assignments → new ≡ assigned (m .behavior .assignment) (s .ports) k n →
+    p ≡ send (m .timing) s immediate t new → q ≡ endJob (m .timing) s t completed → w ≡ setBehavior (q .threads) t (x .to) → withPorts (withThreads q w) p ≡ complete m s t
 unfolding complete withBehavior setBehavior behaviorOf
 complete-is m s t k from n x new p q w e f g h i j o u =
-    let y : x ≡ takenFrom (m .behavior) (firstOpen (m .behavior) s t) (behaviorOf s t) = rw (← e, ← f) g in
-    let z : x .to ≡ takenTransition (m .behavior) s t .to = ap (λ (r : Transition). r .to) y ∙ taken-to (m .behavior) s t in
-    let v : n ≡ takenTransition (m .behavior) s t .assignments = h ∙ ap (λ (r : Transition). r .assignments) y ∙ taken-assignments (m .behavior) s t in
-    rw (u, o, j, i, e, v, z)
+    let b = m .behavior in
+    let c : k ≡ firstOpen b s t = e ∙ first-open b s t from f in
+    let y : x ≡ takenFrom (b .transitions) (b .transition) (firstOpen b s t) (behaviorOf s t) = rw (← c, ← f) g in
+    let z : x .to ≡ takenTransition b s t .to = ap (λ (r : Transition). r .to) y ∙ taken-to b s t in
+    let v : n ≡ takenTransition b s t .assignments = h ∙ ap (λ (r : Transition). r .assignments) y ∙ taken-assignments b s t in
+    rw (u, o, j, i, c, v, z, assigned-is b (s .ports) (firstOpen b s t) (takenTransition b s t .assignments))
 
 -- ---- what a loop over items stores
 module _ (m : Timing) (n t : ℕ) (e : n ≡ min (m .threads) maxThreads) (h : t < n) where

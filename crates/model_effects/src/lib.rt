@@ -25,17 +25,13 @@ use model::with_thread_code;
 use model::within;
 use model_format::Assignment;
 use model_format::Atom;
-use model_format::Behavior;
 use model_format::Connection;
 use model_format::Model;
 use model_format::Timing;
 use model_format::Transition;
-use model_format::assignment_at;
-use model_format::atom_at;
 use model_format::in_mode;
 use model_format::place;
 use model_format::switch_at;
-use model_format::transition_at;
 use numbers::Duration;
 use numbers::Value;
 use numbers::bits;
@@ -45,6 +41,7 @@ use numbers::one_more;
 use records::Event;
 use records::Operand;
 ghost use mathlib.Core.Path.{_≡_};
+ghost use Rattle.model_format.specs.Model.{noOperand, noTransition, noAtom, noAssignment};
 ghost use Rattle.model.specs.State as state;
 ghost use Rattle.model.specs.Effects as effects;
 ghost use Rattle.model.specs.Machine as machine;
@@ -166,6 +163,54 @@ fn start(m: Timing, s: State, id: u8, n: u32) -> State
 }
 
 // ---- behaviours
+// The items of an array past its end.
+fn blank_transition() -> Transition
+    ensures { λ r. ⌜ r ≡ noTransition ⌝ }
+{
+    Transition {
+        thread: 0,
+        from: 0,
+        to: 0,
+        atoms: 0,
+        assignments: 0,
+    }
+}
+
+fn blank_operand() -> Operand
+    ensures { λ r. ⌜ r ≡ noOperand ⌝ }
+{
+    let none = Value(0);
+    Operand {
+        tag: 0,
+        value: none,
+    }
+}
+
+fn blank_atom() -> Atom
+    ensures { λ r. ⌜ r ≡ noAtom ⌝ }
+{
+    let none = blank_operand();
+    Atom {
+        op: 0,
+        tag: 0,
+        number: 0,
+        right: none,
+    }
+}
+
+fn blank_assignment() -> Assignment
+    ensures { λ r. ⌜ r ≡ noAssignment ⌝ }
+{
+    let none = blank_operand();
+    Assignment {
+        tag: 0,
+        number: 0,
+        op: 0,
+        first: none,
+        second: none,
+    }
+}
+
 fn operand_value(p: Ports, o: Operand) -> Value
     ensures { λ r. ⌜ r ≡ effects.operandValue p o ⌝ }
 {
@@ -205,14 +250,14 @@ fn atom_holds(p: Ports, a: Atom) -> bool
     compares(a.op, x, y)
 }
 
-// The first n atoms of transition k hold.
-fn guard_holds(b: Behavior, p: Ports, k: usize, n: usize) -> bool
-    ensures { λ r. ⌜ r ≡ laws.guardHolds b p k n ⌝ }
+// The first n atoms of transition k hold. Here and below the arrays of the behaviours go one by one: they are large, and are copied.
+fn guard_holds(l: [Atom; 256], p: Ports, k: usize, n: usize) -> bool
+    ensures { λ r. ⌜ r ≡ laws.guardHolds l p k n ⌝ }
 {
     let mut j: usize = 0;
     while j < n {
         let i = place(k, j);
-        let a = if i < 256 { b.atom[i] } else { atom_at(b, k, j) };
+        let a = if i < 256 { l[i] } else { blank_atom() };
         if !atom_holds(p, a) {
             return false;
         }
@@ -230,24 +275,23 @@ fn leaves(x: Transition, t: usize, from: u8) -> bool
     (thread == t) & (here == from)
 }
 
-// Only a transition from the behaviour state has its atoms looked at.
-fn first_open(b: Behavior, s: State, t: usize) -> usize
-    ensures { λ r. ⌜ r ≡ effects.firstOpen b s t ⌝ }
+// The first transition that is open, or n. Only one from the behaviour state has its atoms looked at.
+fn first_open(
+    n: usize,
+    list: [Transition; 64],
+    atom: [Atom; 256],
+    p: Ports,
+    t: usize,
+    from: u8,
+) -> usize
+    ensures { λ r. ⌜ r ≡ laws.firstOf n list atom p from t ⌝ }
 {
-    let p = s.ports;
-    let y = s.threads;
-    let from = behavior_of(y, t);
-    let n = b.transitions;
     let mut k: usize = 0;
     while k < n {
-        let x = if k < 64 {
-            b.transition[k]
-        } else {
-            transition_at(b, k)
-        };
+        let x = if k < 64 { list[k] } else { blank_transition() };
         if leaves(x, t, from) {
             let atoms = wide(x.atoms);
-            if guard_holds(b, p, k, atoms) {
+            if guard_holds(atom, p, k, atoms) {
                 return k;
             }
         }
@@ -256,21 +300,20 @@ fn first_open(b: Behavior, s: State, t: usize) -> usize
     n
 }
 
-// Transition k, or where there is none, one that keeps the behaviour state; the thread of that one is never asked for.
-fn taken_transition(b: Behavior, k: usize, from: u8) -> Transition
-    ensures { λ r. ⌜ r ≡ laws.takenFrom b k from ⌝ }
+// Transition k of n, or where there is none, one that keeps the behaviour state; the thread of that one is never asked for.
+fn taken_transition(n: usize, list: [Transition; 64], k: usize, from: u8) -> Transition
+    ensures { λ r. ⌜ r ≡ laws.takenFrom n list k from ⌝ }
 {
-    let n = b.transitions;
-    if k < n {
-        return transition_at(b, k);
+    if n <= k {
+        return Transition {
+            thread: 0,
+            from: from,
+            to: from,
+            atoms: 0,
+            assignments: 0,
+        };
     }
-    Transition {
-        thread: 0,
-        from: from,
-        to: from,
-        atoms: 0,
-        assignments: 0,
-    }
+    if k < 64 { list[k] } else { blank_transition() }
 }
 
 fn assigned_value(p: Ports, a: Assignment) -> Value
@@ -296,18 +339,14 @@ fn assign_one(p: Ports, q: Ports, a: Assignment) -> Ports
     put_local(q, i, v)
 }
 
-fn assign(b: Behavior, p: Ports, k: usize, n: usize) -> Ports
-    ensures { λ r. ⌜ r ≡ effects.assign b p k n ⌝ }
+fn assign(l: [Assignment; 256], p: Ports, k: usize, n: usize) -> Ports
+    ensures { λ r. ⌜ r ≡ laws.assigned l p k n ⌝ }
 {
     let mut q = p;
     let mut j: usize = 0;
     while j < n {
         let i = place(k, j);
-        let a = if i < 256 {
-            b.assignment[i]
-        } else {
-            assignment_at(b, k, j)
-        };
+        let a = if i < 256 { l[i] } else { blank_assignment() };
         q = assign_one(p, q, a);
         j += 1;
     }
@@ -391,13 +430,16 @@ fn complete(m: Model, s: State, t: usize) -> State
 {
     let b = m.behavior;
     let x = m.timing;
-    let k = first_open(b, s, t);
     let y = s.threads;
     let from = behavior_of(y, t);
-    let taken = taken_transition(b, k, from);
-    let n = wide(taken.assignments);
     let old = s.ports;
-    let new = assign(b, old, k, n);
+    let list = b.transition;
+    let atom = b.atom;
+    let assignment = b.assignment;
+    let k = first_open(b.transitions, list, atom, old, t, from);
+    let taken = taken_transition(b.transitions, list, k, from);
+    let n = wide(taken.assignments);
+    let new = assign(assignment, old, k, n);
     let p = send(x, s, 0, t, new);
     let mut q = end_job(x, s, t, 4);
     let u = q.threads;

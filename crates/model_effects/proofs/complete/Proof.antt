@@ -4,11 +4,11 @@ use borrow.Author.Needs.{needs}
 use Rattle.model_effects.proofs.complete.Statement.{statement}
 use Rattle.model_effects.proofs.complete.Tie as tie
 
-first-open-requires : tie.Need-first-open-requires
-first-open-requires c κs = search needs
-
 behavior-of-requires : tie.Need-behavior-of-requires
 behavior-of-requires c κs = search needs
+
+first-open-requires : tie.Need-first-open-requires
+first-open-requires c κs = search needs
 
 taken-transition-requires : tie.Need-taken-transition-requires
 taken-transition-requires c κs = search needs
@@ -30,14 +30,14 @@ with-behavior-requires c κs = search needs
 
 returns : tie.Need-returns
 unfolding withPorts
-returns c = complete-is (c .before .before .before .before .before .before .before .before .before .before .before .before .before .args .m) (c .before .before .before .before .before .before .before .before .before .before .before .before .before .args .s) (c .before .before .before .before .before .before .before .before .before .before .before .before .before .args .t) _ _ _ _ _ _ _ _ (c .before .before .before .before .before .before .before .before .before .before .first-open .ensures) (c .before .before .before .before .before .before .before .before .behavior-of .ensures) (c .before .before .before .before .before .before .before .taken-transition .ensures) (c .before .before .before .before .before .before .wide .ensures) (c .before .before .before .before .assign .ensures) (c .before .before .before .send .ensures) (c .before .before .end-job .ensures) (c .with-behavior .ensures)
+returns c = complete-is (c .before .before .before .before .before .before .before .before .before .before .before .before .before .before .before .before .args .m) (c .before .before .before .before .before .before .before .before .before .before .before .before .before .before .before .before .args .s) (c .before .before .before .before .before .before .before .before .before .before .before .before .before .before .before .before .args .t) _ _ _ _ _ _ _ _ (c .before .before .before .before .before .before .before .first-open .ensures) (c .before .before .before .before .before .before .before .before .before .before .before .before .behavior-of .ensures) (c .before .before .before .before .before .before .taken-transition .ensures) (c .before .before .before .before .before .wide .ensures) (c .before .before .before .before .assign .ensures) (c .before .before .before .send .ensures) (c .before .before .end-job .ensures) (c .with-behavior .ensures)
 
 pub complete-spec : {M : Type 1} → statement M
 complete-spec =
     tie.close
     (tie.spec
-    first-open-requires
     behavior-of-requires
+    first-open-requires
     taken-transition-requires
     wide-requires
     assign-requires

@@ -1,0 +1,12 @@
+use borrow.Author.Needs.{needs}
+use Rattle.model_effects.proofs.blank_assignment.Statement.{statement}
+use Rattle.model_effects.proofs.blank_assignment.Tie as tie
+
+blank-operand-requires : tie.Need-blank-operand-requires
+blank-operand-requires c κs = search needs
+
+returns : tie.Need-returns
+returns c = rw (c .blank-operand .ensures)
+
+pub blank-assignment-spec : {M : Type 1} → statement M
+blank-assignment-spec = tie.close (tie.spec blank-operand-requires returns)
