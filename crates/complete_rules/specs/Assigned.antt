@@ -4,24 +4,26 @@ use mathlib.Core.Bool.{Bool, true, false, cond, _&&_}
 use mathlib.Core.List.{List, [], _∷_}
 use Prim.Native.Nat.{ℕ, _+_, _<_, _≤_}
 use native.Mathlib.Omega.{arith}
-use lib.ListN.{length}
+use lib.ListN.{getD}
 use lib.Dec.{eqb}
 use borrow.Author.Tests.{eq-eqb, ne-eqb}
-use Rattle.numbers.specs.Lists.{joinBelow, only}
-use Rattle.numbers.specs.ListLaws.{fold-zero, fold-next}
+use Rattle.numbers.specs.Lists.{joinBelow, foldBelow, only}
+use Rattle.numbers.specs.ListLaws.{item-within, fold-zero, fold-next}
 use Rattle.records.specs.declared.Operand.{Operand}
 use Rattle.model_format.specs.declared.Assignment.{Assignment}
 use Rattle.model_format.specs.declared.Connection.{Connection}
 use Rattle.model_format.specs.declared.Timing.{Timing}
 use Rattle.model_format.specs.declared.Behavior.{Behavior}
-use Rattle.model_format.specs.Model.{connectionAt, assignmentAt, immediate, isKind, sourceThread}
+use Rattle.model_format.specs.Model.{maxConnections, maxOutputs, maxEach, noConnection, noAssignment, transitionAt, assignmentAt, connectionAt, outputOwner, immediate, isKind, sourceThread}
 use Rattle.model_format.specs.WellFormed.{GoodTiming}
 use Rattle.table_format.specs.declared.Update.{Update}
 use Rattle.table_format.specs.Variables.{flagVar, bufferVar, outputVar}
 use Rattle.translate.specs.Parts.{constant, variable, Expression, copied, updateWhen, update}
 use Rattle.translate.specs.Rules.{variableOf, operandOf, assignedExpression, assignmentUpdates, sentExpression, sendUpdates}
-use Rattle.rule_writer.specs.Lists.{WroteUpdates, Counted, joins-updates, wrote-none, loop-next, loop-ends}
+use Rattle.rule_writer.specs.Lists.{WroteUpdates, Counted, joins-updates, wrote-none}
 use Rattle.complete_rules.specs.declared.updates.Expression as held
+use Rattle.complete_rules.specs.declared.gathered.Assigned.{Assigned}
+use Rattle.complete_rules.specs.Gathered.{assignedOf, assignmentIn, of-four, join-alike, fold-alike}
 
 -- an expression as the code holds it
 abbrev pub expressionOf : held.Expression → Expression
@@ -41,21 +43,15 @@ module _ (a : Assignment) (f s : Operand) (h : f ≡ operandOf (a .first)) where
   assigned-both z e = rw (ne-eqb _ _ z, h, e)
 
 -- ---- assignments
-abbrev pub assignedAt : Behavior → ℕ → ℕ → List Update
-assignedAt b k j = update (variableOf (assignmentAt b k j .tag) (assignmentAt b k j .number)) (assignedExpression (assignmentAt b k j)) ∷ []
+abbrev pub assignedAt : Assigned → ℕ → List Update
+assignedAt w j = update (variableOf (assignmentIn w j .tag) (assignmentIn w j .number)) (assignedExpression (assignmentIn w j)) ∷ []
+
+abbrev pub updatesOf : Assigned → List Update
+updatesOf w = joinBelow (w .assignments) (assignedAt w)
 
 pub assignment-written : {d e : List ℕ} {at p : ℕ} (a : Assignment) (target : ℕ) (x : Expression) → target ≡ variableOf (a .tag) (a .number) → x ≡ assignedExpression a →
     WroteUpdates d at (update target x ∷ []) e p → WroteUpdates d at (update (variableOf (a .tag) (a .number)) (assignedExpression a) ∷ []) e p
 assignment-written a target x h g w = rw (← h, ← g) w
-
-module _ {d e : List ℕ} {at p : ℕ} (b : Behavior) (k j : ℕ) (w : WroteUpdates d at (joinBelow j (assignedAt b k)) e p) where
-  pub assignments-next : {g : List ℕ} {q : ℕ} (a : Assignment) → a ≡ assignmentAt b k j → Counted (length d) →
-      WroteUpdates e p (update (variableOf (a .tag) (a .number)) (assignedExpression a) ∷ []) g q → WroteUpdates d at (joinBelow (j + 1) (assignedAt b k)) g q
-  assignments-next a i h v = loop-next joins-updates j (assignedAt b k) h w (rw i at v)
-
-  pub assignments-end : (n : ℕ) → j ≤ n → n ≤ j → WroteUpdates d at (assignmentUpdates b k n) e p
-  unfolding assignmentUpdates
-  assignments-end n h l = loop-ends joins-updates (assignedAt b k) n j h l w
 
 -- ---- what an output port holds after the assignments
 abbrev pub sentAfter : Assignment → ℕ → Expression → Expression
@@ -68,41 +64,77 @@ module _ (a : Assignment) (o : ℕ) (x : Expression) where
   pub sent-old : (eqb (a .tag) 3 && eqb (a .number) o) ≡ false → x ≡ sentAfter a o x
   sent-old t = rw t
 
-module _ (b : Behavior) (k o : ℕ) where
-  pub sent-none : (x : Expression) → x ≡ copied (variable (outputVar o)) → x ≡ sentExpression b k 0 o
-  unfolding sentExpression
+-- after the first n of the assignments, and after all
+abbrev pub sentFirst : Assigned → ℕ → ℕ → Expression
+sentFirst w o n = foldBelow n (λ j x. sentAfter (assignmentIn w j) o x) (copied (variable (outputVar o)))
+
+abbrev pub sentBy : Assigned → ℕ → Expression
+sentBy w o = sentFirst w o (w .assignments)
+
+module _ (w : Assigned) (o : ℕ) where
+  pub sent-none : (x : Expression) → x ≡ copied (variable (outputVar o)) → x ≡ sentFirst w o 0
   sent-none x h = h ∙ sym (fold-zero _ _)
 
-  pub sent-next : (j : ℕ) (a : Assignment) (x y : Expression) → x ≡ sentExpression b k j o → a ≡ assignmentAt b k j → y ≡ sentAfter a o x → y ≡ sentExpression b k (j + 1) o
-  unfolding sentExpression
-  sent-next j a x y h i e = e ∙ rw (h, i, fold-next j _ _)
+  pub sent-next : (j : ℕ) (x y : Expression) → x ≡ sentFirst w o j → y ≡ sentAfter (assignmentIn w j) o x → y ≡ sentFirst w o (j + 1)
+  sent-next j x y h e = e ∙ rw (h, fold-next j _ _)
 
-  pub sent-all : (n j : ℕ) (x : Expression) → j ≤ n → n ≤ j → x ≡ sentExpression b k j o → x ≡ sentExpression b k n o
-  sent-all n j x h l e = let q : n ≡ j = omega arith in rw q e
+  pub sent-all : (j : ℕ) (x : Expression) → j ≤ w .assignments → w .assignments ≤ j → x ≡ sentFirst w o j → x ≡ sentBy w o
+  sent-all j x h l e = let q : w .assignments ≡ j = omega arith in rw q e
+
+-- what connection c sends, where it is an immediate one from thread t
+abbrev pub sentAt : Timing → ℕ → (ℕ → Expression) → ℕ → List Update
+sentAt m t from c =
+    only (isKind m immediate c && eqb (sourceThread m c) t) (updateWhen (flagVar c) 1 (bufferVar (connectionAt m c .target)) (from (connectionAt m c .source)))
+
+-- ---- of transition k
+module _ (b : Behavior) (k : ℕ) (h : transitionAt b k .assignments ≤ maxEach) where
+  pub updates-same : updatesOf (assignedOf b k) ≡ assignmentUpdates b k (transitionAt b k .assignments)
+  unfolding assignmentUpdates
+  updates-same = join-alike (transitionAt b k .assignments) (assignedAt (assignedOf b k)) _ (λ j l. rw (of-four (assignmentAt b k) noAssignment j (omega arith)))
+
+  sent-same : (o : ℕ) → sentBy (assignedOf b k) o ≡ sentExpression b k (transitionAt b k .assignments) o
+  unfolding sentExpression
+  sent-same o =
+      fold-alike (transitionAt b k .assignments) (λ j x. sentAfter (assignmentIn (assignedOf b k) j) o x) _ _
+      (λ j l x. rw (of-four (assignmentAt b k) noAssignment j (omega arith)))
+
+  pub sends-same : (m : Timing) (t : ℕ) → sendUpdates m immediate t (sentBy (assignedOf b k)) ≡ sendUpdates m immediate t (sentExpression b k (transitionAt b k .assignments))
+  sends-same m t = join-alike (m .connections) (sentAt m t (sentBy (assignedOf b k))) _ (λ c l. rw (sent-same (connectionAt m c .source)))
 
 -- ---- connections
-abbrev pub sentAt : Timing → Behavior → ℕ → ℕ → ℕ → ℕ → List Update
-sentAt m b t k n c =
-    only (isKind m immediate c && eqb (sourceThread m c) t)
-    (updateWhen (flagVar c) 1 (bufferVar (connectionAt m c .target)) (sentExpression b k n (connectionAt m c .source)))
+-- connection c, which is x
+abbrev pub sendOf : Assigned → ℕ → Connection → Update
+sendOf w c x = updateWhen (flagVar c) 1 (bufferVar (x .target)) (sentBy w (x .source))
 
--- connection c, which is x: its ports
-module _ (m : Timing) (g : GoodTiming m) (c : ℕ) (h : c < m .connections) (x : Connection) (i : x ≡ connectionAt m c) where
-  pub source-small : x .source < 32
-  source-small = rw i (omega (arith, g .source c h, g .outputs))
+pub send-written : {d e : List ℕ} {at p : ℕ} (w : Assigned) (c : ℕ) (x : Connection) (f v : ℕ) (z : Expression) → f ≡ flagVar c → v ≡ bufferVar (x .target) → z ≡ sentBy w (x .source) →
+    WroteUpdates d at (updateWhen f 1 v z ∷ []) e p → WroteUpdates d at (sendOf w c x ∷ []) e p
+send-written w c x f v z fe ve ze k = rw (fe, ve, ze) at k
 
-  pub target-small : x .target < 32
-  target-small = rw i (omega (arith, g .target c h, g .inputs))
+-- a connection by its place, and the owner of its source
+abbrev pub connectionIn : Timing → ℕ → Connection
+connectionIn m c = getD (m .connection) c noConnection
 
-module _ (m : Timing) (b : Behavior) (t k n c : ℕ) (y : Bool) (u : ℕ) (h : y ≡ isKind m immediate c) (l : u ≡ sourceThread m c) where
-  pub send-written : {d e : List ℕ} {at p : ℕ} (x : Connection) (f v : ℕ) (z : Expression) → x ≡ connectionAt m c → (y && eqb u t) ≡ true →
-      f ≡ flagVar c → v ≡ bufferVar (x .target) → z ≡ sentExpression b k n (x .source) →
-      WroteUpdates d at (updateWhen f 1 v z ∷ []) e p → WroteUpdates d at (sentAt m b t k n c) e p
-  send-written x f v z i s fe ve ze w = rw (← h, ← l, s, ← i) (rw (fe, ve, ze) at w)
+abbrev pub isSent : Timing → ℕ → ℕ → Bool
+isSent m t c = eqb (connectionIn m c .kind) 0 && eqb (getD (m .output) (connectionIn m c .source) 0) t
 
-  pub send-none : {d : List ℕ} {at : ℕ} → (y && eqb u t) ≡ false → Counted at → WroteUpdates d at (sentAt m b t k n c) d at
-  send-none s o = rw (← h, ← l, s) (wrote-none joins-updates o)
+module _ (m : Timing) (g : GoodTiming m) (c : ℕ) (h : c < m .connections) where
+  connection-is : connectionIn m c ≡ connectionAt m c
+  unfolding connectionAt
+  connection-is = rw (item-within maxConnections (m .connection) c noConnection (omega (arith, g .connections)))
 
-pub sends-end : {d e : List ℕ} {at p : ℕ} (m : Timing) (b : Behavior) (t k n c : ℕ) → WroteUpdates d at (joinBelow c (sentAt m b t k n)) e p →
-    c ≤ m .connections → m .connections ≤ c → WroteUpdates d at (sendUpdates m immediate t (sentExpression b k n)) e p
-sends-end m b t k n c w h l = loop-ends joins-updates (sentAt m b t k n) (m .connections) c h l w
+  pub source-small : connectionIn m c .source < 32
+  source-small = rw connection-is (omega (arith, g .source c h, g .outputs))
+
+  pub target-small : connectionIn m c .target < 32
+  target-small = rw connection-is (omega (arith, g .target c h, g .inputs))
+
+  owner-is : getD (m .output) (connectionAt m c .source) 0 ≡ sourceThread m c
+  unfolding outputOwner
+  owner-is = rw (item-within maxOutputs (m .output) (connectionAt m c .source) 0 (omega (arith, g .source c h, g .outputs)))
+
+  module _ (w : Assigned) (t : ℕ) where
+    pub sent-over : {d e : List ℕ} {at p : ℕ} → isSent m t c ≡ true → WroteUpdates d at (sendOf w c (connectionIn m c) ∷ []) e p → WroteUpdates d at (sentAt m t (sentBy w) c) e p
+    sent-over s v = rw (rw (connection-is, owner-is) at s) (rw connection-is at v)
+
+    pub sent-not : {d : List ℕ} {at : ℕ} → isSent m t c ≡ false → Counted at → WroteUpdates d at (sentAt m t (sentBy w) c) d at
+    sent-not s o = rw (rw (connection-is, owner-is) at s) (wrote-none joins-updates o)

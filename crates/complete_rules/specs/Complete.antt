@@ -2,15 +2,15 @@
 use mathlib.Core.Path.{_≡_, refl}
 use mathlib.Core.Bool.{cond}
 use mathlib.Core.List.{List, [], _∷_, _++_}
-use Prim.Native.Nat.{ℕ, _≤_}
+use Prim.Native.Nat.{ℕ, _<_, _≤_}
 use lib.ListN.{length}
 use lib.Dec.{eqb}
 use borrow.Author.Tests.{eq-eqb, ne-eqb}
 use Rattle.numbers.specs.Lists.{joinBelow, foldBelow}
-use Rattle.model_format.specs.declared.Transition.{Transition}
 use Rattle.model_format.specs.declared.Behavior.{Behavior}
+use Rattle.model_format.specs.declared.Timing.{Timing}
 use Rattle.model_format.specs.declared.Model.{Model}
-use Rattle.model_format.specs.Model.{transitionAt, immediate}
+use Rattle.model_format.specs.Model.{maxTransitions, transitionAt, immediate}
 use Rattle.model.specs.Tests.{execution, completed}
 use Rattle.table_format.specs.declared.Atom.{Atom}
 use Rattle.table_format.specs.declared.Update.{Update}
@@ -23,6 +23,12 @@ use Rattle.translate.specs.Parts.{constant, variable, equals, plain, copied, se
 use Rattle.translate.specs.Rules.{stateIs, endIsNow, jobEnds, guardClauses, perTransition, earlierClause, otherwiseClause, assignmentUpdates, sentExpression, sendUpdates, transitionRule, defaultRule, completeRules}
 use Rattle.writer.specs.Written.{Wrote}
 use Rattle.rule_writer.specs.Lists.{WroteClauses, WroteUpdates, WroteRules, Joins, Counted, joins-clauses, joins-updates, joins-rules, wrote-none, wrote-both, wrote-then, wrote-rule, loop-ends}
+use Rattle.complete_rules.specs.declared.gathered.Guard.{Guard}
+use Rattle.complete_rules.specs.declared.gathered.Assigned.{Assigned}
+use Rattle.complete_rules.specs.Gathered.{guardOf, assignedOf, transitionIn, transition-is}
+use Rattle.complete_rules.specs.Named.{NamedBehavior, within}
+use Rattle.complete_rules.specs.Guards.{plainOf, plain-same}
+use Rattle.complete_rules.specs.Assigned.{updatesOf, sentBy, updates-same, sends-same}
 
 -- ---- the parts of a rule, as the definitions have them
 abbrev pub transitionClauses : Behavior → ℕ → ℕ → List (List Atom)
@@ -38,8 +44,12 @@ transitionUpdates m t k =
 abbrev pub defaultClauses : Behavior → ℕ → List (List Atom)
 defaultClauses b t = stateIs t execution ∷ endIsNow t ∷ perTransition b t (b .transitions) (otherwiseClause b t)
 
-abbrev pub defaultUpdates : Model → ℕ → List Update
-defaultUpdates m t = setTo (stateVar t) completed ∷ jobEnds t ++ sendUpdates (m .timing) immediate t (λ o. copied (variable (outputVar o)))
+-- the updates of a transition to a behaviour state, with its assignments
+abbrev pub updatesWith : Timing → Assigned → ℕ → ℕ → List Update
+updatesWith y w t to = setTo (stateVar t) completed ∷ jobEnds t ++ setTo (behaviorVar t) to ∷ updatesOf w ++ sendUpdates y immediate t (sentBy w)
+
+abbrev pub defaultUpdates : Timing → ℕ → List Update
+defaultUpdates y t = setTo (stateVar t) completed ∷ jobEnds t ++ sendUpdates y immediate t (λ o. copied (variable (outputVar o)))
 
 -- the rule of transition k, where it is one of thread t
 abbrev pub rulesAt : Model → ℕ → ℕ → List Body
@@ -66,23 +76,24 @@ module _ {d e g : List ℕ} {at p q : ℕ} (t s n : ℕ) (i : s ≡ stateVar t) 
       wrote-then joins-updates (setTo (stateVar t) completed ∷ []) (jobEnds t) h (rw i at w)
       (λ l. wrote-both joins-updates (setTo cpuVar none ∷ []) (setTo (endVar t) 0 ∷ []) l v (rw j at u))
 
--- ---- the rule of transition k, which is x
-module _ {d e f g a : List ℕ} {at p q r s : ℕ} (t k v : ℕ) (x : Transition) (j : v ≡ behaviorVar t) (h : Counted (length d)) where
-  pub clauses-written : (b : Behavior) → x ≡ transitionAt b k → WroteClauses d at (stateIs t execution ∷ endIsNow t ∷ []) e p →
-      WroteClauses e p (plain (equals v (constant (x .from))) ∷ []) f q → WroteClauses f q (guardClauses b k) g r →
+-- ---- the rule of transition k
+module _ {d e f g a : List ℕ} {at p q r s : ℕ} (t v : ℕ) (j : v ≡ behaviorVar t) (h : Counted (length d)) where
+  pub clauses-written : (b : Behavior) (k : ℕ) (n : NamedBehavior b) → k < b .transitions → (c : Guard) → c ≡ guardOf b k →
+      WroteClauses d at (stateIs t execution ∷ endIsNow t ∷ []) e p →
+      WroteClauses e p (plain (equals v (constant (transitionIn b k .from))) ∷ []) f q → WroteClauses f q (plainOf c) g r →
       WroteClauses g r (perTransition b t k (earlierClause b k)) a s → WroteClauses d at (transitionClauses b t k) a s
-  clauses-written b i w y z u =
+  clauses-written b k n o c y w v z u =
       wrote-then joins-clauses (stateIs t execution ∷ endIsNow t ∷ []) _ h w
-      (λ l. wrote-then joins-clauses (plain (equals (behaviorVar t) (constant (transitionAt b k .from))) ∷ []) _ l (rw (j, i) at y)
-      (λ l. wrote-both joins-clauses (guardClauses b k) (perTransition b t k (earlierClause b k)) l z u))
+      (λ l. wrote-then joins-clauses (plain (equals (behaviorVar t) (constant (transitionAt b k .from))) ∷ []) _ l (rw (j, transition-is b k (within b n k o)) at v)
+      (λ l. wrote-both joins-clauses (guardClauses b k) (perTransition b t k (earlierClause b k)) l (rw (← plain-same b k (n .guard k o .few)) (rw y at z)) u))
 
-  pub updates-written : (m : Model) → x ≡ transitionAt (m .behavior) k → WroteUpdates d at (setTo (stateVar t) completed ∷ jobEnds t) e p →
-      WroteUpdates e p (setTo v (x .to) ∷ []) f q → WroteUpdates f q (assignmentUpdates (m .behavior) k (x .assignments)) g r →
-      WroteUpdates g r (sendUpdates (m .timing) immediate t (sentExpression (m .behavior) k (x .assignments))) a s → WroteUpdates d at (transitionUpdates m t k) a s
-  updates-written m i w y z u =
-      wrote-then joins-updates (setTo (stateVar t) completed ∷ jobEnds t) _ h w
-      (λ l. wrote-then joins-updates (setTo (behaviorVar t) (transitionAt (m .behavior) k .to) ∷ []) _ l (rw (j, i) at y)
-      (λ l. wrote-both joins-updates (assignmentUpdates (m .behavior) k (transitionAt (m .behavior) k .assignments)) _ l (rw i at z) (rw i at u)))
+  pub updates-written : (y : Timing) (w : Assigned) (to : ℕ) → WroteUpdates d at (setTo (stateVar t) completed ∷ jobEnds t) e p →
+      WroteUpdates e p (setTo v to ∷ []) f q → WroteUpdates f q (updatesOf w) g r →
+      WroteUpdates g r (sendUpdates y immediate t (sentBy w)) a s → WroteUpdates d at (updatesWith y w t to) a s
+  updates-written y w to k n z u =
+      wrote-then joins-updates (setTo (stateVar t) completed ∷ jobEnds t) _ h k
+      (λ l. wrote-then joins-updates (setTo (behaviorVar t) to ∷ []) _ l (rw j at n)
+      (λ l. wrote-both joins-updates (updatesOf w) _ l z u))
 
 -- ---- the default rule
 module _ {d e f : List ℕ} {at p q : ℕ} (t : ℕ) (h : Counted (length d)) where
@@ -90,30 +101,35 @@ module _ {d e f : List ℕ} {at p q : ℕ} (t : ℕ) (h : Counted (length d)) wh
       WroteClauses e p (perTransition b t (b .transitions) (otherwiseClause b t)) f q → WroteClauses d at (defaultClauses b t) f q
   default-clauses b w v = wrote-both joins-clauses (stateIs t execution ∷ endIsNow t ∷ []) _ h w v
 
-  -- the first 0 assignments leave each output as it was
-  pub default-updates : (m : Model) (k : ℕ) → WroteUpdates d at (setTo (stateVar t) completed ∷ jobEnds t) e p →
-      WroteUpdates e p (sendUpdates (m .timing) immediate t (sentExpression (m .behavior) k 0)) f q → WroteUpdates d at (defaultUpdates m t) f q
-  unfolding sentExpression foldBelow
-  default-updates m k w v = wrote-both joins-updates (setTo (stateVar t) completed ∷ jobEnds t) (sendUpdates (m .timing) immediate t (λ o. copied (variable (outputVar o)))) h w v
+  -- no assignments leave each output as it was
+  pub default-updates : (y : Timing) (c : Assigned) → c .assignments ≡ 0 → WroteUpdates d at (setTo (stateVar t) completed ∷ jobEnds t) e p →
+      WroteUpdates e p (sendUpdates y immediate t (sentBy c)) f q → WroteUpdates d at (defaultUpdates y t) f q
+  unfolding foldBelow
+  default-updates y c z w v = wrote-both joins-updates (setTo (stateVar t) completed ∷ jobEnds t) (sendUpdates y immediate t (λ o. copied (variable (outputVar o)))) h w (rw z at v)
 
 -- ---- rules, with their heads
 module _ {d e f g : List ℕ} {at p q r : ℕ} (m : Model) (t : ℕ) (h : Counted (length d)) (w : Wrote d at (recordTo (Head (record { kind = 5; id = t; low = 0; high = 0 })) []) e p) where
-  pub transition-rule : (k : ℕ) → WroteClauses e p (transitionClauses (m .behavior) t k) f q → WroteUpdates f q (transitionUpdates m t k) g r →
+  pub transition-rule : (k : ℕ) → NamedBehavior (m .behavior) → k < m .behavior .transitions → (c : Assigned) → c ≡ assignedOf (m .behavior) k →
+      WroteClauses e p (transitionClauses (m .behavior) t k) f q → WroteUpdates f q (updatesWith (m .timing) c t (transitionIn (m .behavior) k .to)) g r →
       WroteRules d at (stamped 5 t (transitionRule m t k ∷ [])) g r
   unfolding stamped transitionRule
-  transition-rule k c u = wrote-rule _ (transitionClauses (m .behavior) t k) (transitionUpdates m t k) h w (λ l. c) (λ l. u)
+  transition-rule k n o c y z u =
+      let few = n .assigned k o .few in
+      wrote-rule _ (transitionClauses (m .behavior) t k) (transitionUpdates m t k) h w (λ l. z)
+      (λ l. rw (← updates-same (m .behavior) k few, ← sends-same (m .behavior) k few (m .timing) t) (rw (y, transition-is (m .behavior) k (within (m .behavior) n k o)) at u))
 
-  pub default-rule : WroteClauses e p (defaultClauses (m .behavior) t) f q → WroteUpdates f q (defaultUpdates m t) g r → WroteRules d at (stamped 5 t (defaultRule m t ∷ [])) g r
+  pub default-rule : WroteClauses e p (defaultClauses (m .behavior) t) f q → WroteUpdates f q (defaultUpdates (m .timing) t) g r → WroteRules d at (stamped 5 t (defaultRule m t ∷ [])) g r
   unfolding stamped defaultRule
-  default-rule c u = wrote-rule _ (defaultClauses (m .behavior) t) (defaultUpdates m t) h w (λ l. c) (λ l. u)
+  default-rule c u = wrote-rule _ (defaultClauses (m .behavior) t) (defaultUpdates (m .timing) t) h w (λ l. c) (λ l. u)
 
 -- ---- the rules of all transitions
-module _ (m : Model) (t k : ℕ) (x : Transition) (i : x ≡ transitionAt (m .behavior) k) where
-  pub rule-written : {d e : List ℕ} {at p : ℕ} → x .thread ≡ t → WroteRules d at (stamped 5 t (transitionRule m t k ∷ [])) e p → WroteRules d at (stamped 5 t (rulesAt m t k)) e p
-  rule-written s w = rw (← i, eq-eqb _ _ s) w
+module _ (m : Model) (t k : ℕ) (l : k < maxTransitions) where
+  pub rule-written : {d e : List ℕ} {at p : ℕ} → transitionIn (m .behavior) k .thread ≡ t → WroteRules d at (stamped 5 t (transitionRule m t k ∷ [])) e p →
+      WroteRules d at (stamped 5 t (rulesAt m t k)) e p
+  rule-written s w = rw (← transition-is (m .behavior) k l, eq-eqb _ _ s) w
 
-  pub rule-none : {d : List ℕ} {at : ℕ} → (x .thread ≡ t → ⊥) → Counted at → WroteRules d at (stamped 5 t (rulesAt m t k)) d at
-  rule-none s h = rw (← i, ne-eqb _ _ s) (wrote-none (joins-stamped 5 t) h)
+  pub rule-none : {d : List ℕ} {at : ℕ} → (transitionIn (m .behavior) k .thread ≡ t → ⊥) → Counted at → WroteRules d at (stamped 5 t (rulesAt m t k)) d at
+  rule-none s h = rw (← transition-is (m .behavior) k l, ne-eqb _ _ s) (wrote-none (joins-stamped 5 t) h)
 
 pub complete-end : {d e f : List ℕ} {at p q : ℕ} (m : Model) (t k : ℕ) → Counted (length d) → WroteRules d at (stamped 5 t (joinBelow k (rulesAt m t))) e p →
     k ≤ m .behavior .transitions → m .behavior .transitions ≤ k → WroteRules e p (stamped 5 t (defaultRule m t ∷ [])) f q → WroteRules d at (stamped 5 t (completeRules m t)) f q

@@ -1,3 +1,4 @@
+pub mod Gathered
 pub mod Named
 pub mod Operands
 pub mod Guards

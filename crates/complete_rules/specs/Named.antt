@@ -1,7 +1,7 @@
 -- The numbers by which atoms and assignments of a well-formed model name ports and locals: a byte holds them.
 use mathlib.Core.Path.{_≡_, refl}
 use mathlib.Core.Bool.{Bool, true, false, _||_}
-use Prim.Native.Nat.{ℕ, zero, suc, _<_}
+use Prim.Native.Nat.{ℕ, zero, suc, _<_, _≤_}
 use native.Mathlib.Omega.{arith}
 use lib.Dec.{eqb}
 use borrow.Author.Tests.{ltb-true, eqb-true}
@@ -12,9 +12,12 @@ use Rattle.model_format.specs.declared.Assignment.{Assignment}
 use Rattle.model_format.specs.declared.Timing.{Timing}
 use Rattle.model_format.specs.declared.Behavior.{Behavior}
 use Rattle.model_format.specs.declared.Model.{Model}
-use Rattle.model_format.specs.Model.{transitionAt, atomAt, assignmentAt}
+use Rattle.model_format.specs.Model.{maxTransitions, maxEach, noAtom, noAssignment, atomAt, assignmentAt}
 use Rattle.model_format.specs.Reading.{namesItem}
 use Rattle.model_format.specs.WellFormed.{GoodOperand, GoodAtom, GoodAssignment, GoodTiming, WellFormed}
+use Rattle.complete_rules.specs.declared.gathered.Guard.{Guard}
+use Rattle.complete_rules.specs.declared.gathered.Assigned.{Assigned}
+use Rattle.complete_rules.specs.Gathered.{guardOf, assignedOf, guardIn, atomIn, assignmentIn, of-four, guard-is}
 
 -- a constant names nothing
 pub record NamedOperand (o : Operand) : Type 0 where
@@ -29,16 +32,26 @@ pub record NamedAssignment (a : Assignment) : Type 0 where
   pub first : NamedOperand (a .first)
   pub second : NamedOperand (a .second)
 
--- the atoms, and the first n assignments, of transition k
-pub record NamedAtoms (b : Behavior) (k : ℕ) : Type 0 where
-  pub atom : (j : ℕ) → j < transitionAt b k .atoms → NamedAtom (atomAt b k j)
+pub record NamedGuard (g : Guard) : Type 0 where
+  pub few : g .atoms ≤ maxEach
+  pub atom : (j : ℕ) → j < g .atoms → NamedAtom (atomIn g j)
 
-pub record NamedAssignments (b : Behavior) (k n : ℕ) : Type 0 where
-  pub assignment : (j : ℕ) → j < n → NamedAssignment (assignmentAt b k j)
+pub record NamedAssigned (w : Assigned) : Type 0 where
+  pub few : w .assignments ≤ maxEach
+  pub assignment : (j : ℕ) → j < w .assignments → NamedAssignment (assignmentIn w j)
 
 pub record NamedBehavior (b : Behavior) : Type 0 where
-  pub atoms : (k : ℕ) → k < b .transitions → NamedAtoms b k
-  pub assignments : (k : ℕ) → k < b .transitions → NamedAssignments b k (transitionAt b k .assignments)
+  pub few : b .transitions ≤ maxTransitions
+  pub guard : (k : ℕ) → k < b .transitions → NamedGuard (guardOf b k)
+  pub assigned : (k : ℕ) → k < b .transitions → NamedAssigned (assignedOf b k)
+
+-- of a transition by its place
+module _ (b : Behavior) (n : NamedBehavior b) (k : ℕ) (h : k < b .transitions) where
+  pub within : k < maxTransitions
+  within = omega (arith, n .few)
+
+  pub guard-named : NamedGuard (guardIn b k)
+  guard-named = rw (guard-is b k within) (n .guard k h)
 
 -- ---- of a well-formed model
 either-below : (n a b c : ℕ) → a < c → b < c → (eqb n a || eqb n b) ≡ true → n < c
@@ -81,10 +94,19 @@ module _ (m : Timing) (g : GoodTiming m) where
   }
 
 pub behavior-named : {m : Model} → WellFormed m → NamedBehavior (m .behavior)
-behavior-named {m} w = record {
-  atoms = λ k h. record { atom = λ j l. atom-named (m .timing) (w .timing) _ (w .behavior .atom k j h l) };
-  assignments = λ k h. record { assignment = λ j l. assignment-named (m .timing) (w .timing) _ (w .behavior .assignment k j h l) };
-}
+behavior-named {m} w =
+    let b = m .behavior in
+    record {
+      few = w .behavior .transitions;
+      guard = λ k h. record {
+        few = w .behavior .atoms k h;
+        atom = λ j l. rw (of-four (atomAt b k) noAtom j (omega (arith, w .behavior .atoms k h))) (atom-named (m .timing) (w .timing) _ (w .behavior .atom k j h l));
+      };
+      assigned = λ k h. record {
+        few = w .behavior .assignments k h;
+        assignment = λ j l. rw (of-four (assignmentAt b k) noAssignment j (omega (arith, w .behavior .assignments k h))) (assignment-named (m .timing) (w .timing) _ (w .behavior .assignment k j h l));
+      };
+    }
 
-pub none-named : (b : Behavior) (k : ℕ) → NamedAssignments b k 0
-none-named b k = record { assignment = λ j h. absurd (omega arith) }
+pub none-named : (w : Assigned) → w .assignments ≡ 0 → NamedAssigned w
+none-named w e = record { few = omega (arith, e); assignment = λ j h. absurd (omega (arith, e)) }

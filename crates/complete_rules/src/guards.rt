@@ -1,5 +1,7 @@
 // The guards of a thread's transitions, as clauses.
 
+use crate::gathered::Guard;
+use crate::gathered::guard_of;
 use crate::parts::negated_op;
 use crate::parts::operand_of;
 use crate::parts::put_compare;
@@ -7,19 +9,17 @@ use crate::parts::variable_of;
 use model_format::Atom;
 use model_format::Behavior;
 use model_format::Transition;
-use model_format::atom_at;
-use model_format::transition_at;
 use rule_writer::behavior_var;
 use rule_writer::put_compared;
 use writer::put_clause;
 ghost use mathlib.Core.Path.{_≡_};
 ghost use mathlib.Core.List.{[], _∷_};
-ghost use Prim.Native.Nat.{_<_, _≤_};
+ghost use Prim.Native.Nat.{_<_};
 ghost use Rattle.translate.specs.Parts.{plain, negatedOp};
-ghost use Rattle.translate.specs.Rules.{atomWith, guardClauses, negatedGuard, perTransition, earlierClause, otherwiseClause};
+ghost use Rattle.translate.specs.Rules.{atomWith, perTransition, earlierClause, otherwiseClause};
 ghost use Rattle.rule_writer.specs.Lists.{WroteAtoms, WroteClauses};
-ghost use Rattle.complete_rules.specs.Named.{NamedAtom, NamedAtoms, NamedBehavior};
-ghost use Rattle.complete_rules.specs.Guards.{leavesFrom, earlierAt, otherwiseAt};
+ghost use Rattle.complete_rules.specs.Named.{NamedAtom, NamedGuard, NamedBehavior};
+ghost use Rattle.complete_rules.specs.Guards.{plainOf, negatedOf, leavesFrom, shutBy};
 
 // Atom a with the comparison given.
 fn put_with(d: &mut [u8], at: usize, op: u8, a: Atom) -> usize
@@ -49,36 +49,43 @@ fn put_opposite(d: &mut [u8], at: usize, a: Atom) -> usize
     put_with(d, at, op, a)
 }
 
-pub fn put_guard(d: &mut [u8], at: usize, b: Behavior, k: usize) -> usize
-    requires { ⌜ NamedAtoms b k ⌝ }
-    ensures { λ r. ⌜ WroteClauses (now (d .entry)) at (guardClauses b k) (now (d .exit)) r ⌝ }
+pub fn put_guard(d: &mut [u8], at: usize, g: Guard) -> usize
+    requires { ⌜ NamedGuard g ⌝ }
+    ensures { λ r. ⌜ WroteClauses (now (d .entry)) at (plainOf g) (now (d .exit)) r ⌝ }
 {
-    let x = transition_at(b, k);
-    let n = x.atoms as usize;
+    let n = g.atoms as usize;
     let mut p = at;
     let mut j: usize = 0;
     while j < n {
-        let a = atom_at(b, k, j);
+        let a = g.atom[j];
         p = put_plain(d, p, a);
         j += 1;
     }
     p
 }
 
-fn put_negated(d: &mut [u8], at: usize, b: Behavior, k: usize) -> usize
-    requires { ⌜ NamedAtoms b k ⌝ }
-    ensures { λ r. ⌜ WroteAtoms (now (d .entry)) at (negatedGuard b k) (now (d .exit)) r ⌝ }
+fn put_negated(d: &mut [u8], at: usize, g: Guard) -> usize
+    requires { ⌜ NamedGuard g ⌝ }
+    ensures { λ r. ⌜ WroteAtoms (now (d .entry)) at (negatedOf g) (now (d .exit)) r ⌝ }
 {
-    let x = transition_at(b, k);
-    let n = x.atoms as usize;
+    let n = g.atoms as usize;
     let mut p = at;
     let mut j: usize = 0;
     while j < n {
-        let a = atom_at(b, k, j);
+        let a = g.atom[j];
         p = put_opposite(d, p, a);
         j += 1;
     }
     p
+}
+
+// The clause that says that a guard fails. A guard without atoms never does: its clause is empty.
+fn put_failing(d: &mut [u8], at: usize, g: Guard) -> usize
+    requires { ⌜ NamedGuard g ⌝ }
+    ensures { λ r. ⌜ WroteClauses (now (d .entry)) at (negatedOf g ∷ []) (now (d .exit)) r ⌝ }
+{
+    let p = put_clause(d, at);
+    put_negated(d, p, g)
 }
 
 // Transition x is one of thread t, from the behaviour state given.
@@ -88,46 +95,43 @@ fn leaves(x: Transition, t: u8, from: u8) -> bool
     (x.thread == t) & (x.from == from)
 }
 
-// The guard of such a transition fails. One without atoms never does: its clause is empty.
-fn put_earlier_at(d: &mut [u8], at: usize, b: Behavior, t: u8, from: u8, e: usize) -> usize
-    requires { ⌜ NamedAtoms b e ⌝ }
-    ensures { λ r. ⌜ WroteClauses (now (d .entry)) at (earlierAt b t from e) (now (d .exit)) r ⌝ }
-{
-    let x = transition_at(b, e);
-    if leaves(x, t, from) {
-        let p = put_clause(d, at);
-        return put_negated(d, p, b, e);
-    }
-    at
-}
-
+// The guard of each such transition before transition k fails. There may be thousands of these pairs: each guard is taken out here.
 pub fn put_earlier(d: &mut [u8], at: usize, b: Behavior, t: u8, k: usize) -> usize
-    requires { ⌜ NamedBehavior b × (k ≤ b .transitions) ⌝ }
+    requires { ⌜ NamedBehavior b × (k < b .transitions) ⌝ }
     ensures { λ r. ⌜ WroteClauses (now (d .entry)) at (perTransition b t k (earlierClause b k)) (now (d .exit)) r ⌝ }
 {
-    let x = transition_at(b, k);
-    let from = x.from;
+    let own = b.transition[k];
+    let from = own.from;
     let mut p = at;
     let mut e: usize = 0;
     while e < k {
-        p = put_earlier_at(d, p, b, t, from, e);
+        let x = b.transition[e];
+        let i = e * 4;
         e += 1;
+        if leaves(x, t, from) {
+            let first = b.atom[i];
+            let second = b.atom[i + 1];
+            let third = b.atom[i + 2];
+            let last = b.atom[i + 3];
+            let atom = [first, second, third, last];
+            let g = Guard {
+                atoms: x.atoms,
+                atom: atom,
+            };
+            p = put_failing(d, p, g);
+        }
     }
     p
 }
 
-fn put_otherwise_at(d: &mut [u8], at: usize, b: Behavior, t: u8, k: usize) -> usize
-    requires { ⌜ NamedAtoms b k ⌝ }
-    ensures { λ r. ⌜ WroteClauses (now (d .entry)) at (otherwiseAt b t k) (now (d .exit)) r ⌝ }
+// The thread is not where a transition leaves, or the guard fails.
+fn put_shut(d: &mut [u8], at: usize, t: u8, from: u8, g: Guard) -> usize
+    requires { ⌜ NamedGuard g ⌝ }
+    ensures { λ r. ⌜ WroteClauses (now (d .entry)) at (shutBy t from g ∷ []) (now (d .exit)) r ⌝ }
 {
-    let x = transition_at(b, k);
-    let from = x.from;
-    if x.thread == t {
-        let p = put_clause(d, at);
-        let q = put_compared(d, p, 1, behavior_var(t), from as u32);
-        return put_negated(d, q, b, k);
-    }
-    at
+    let p = put_clause(d, at);
+    let q = put_compared(d, p, 1, behavior_var(t), from as u32);
+    put_negated(d, q, g)
 }
 
 pub fn put_otherwise(d: &mut [u8], at: usize, b: Behavior, t: u8) -> usize
@@ -138,8 +142,13 @@ pub fn put_otherwise(d: &mut [u8], at: usize, b: Behavior, t: u8) -> usize
     let mut p = at;
     let mut k: usize = 0;
     while k < n {
-        p = put_otherwise_at(d, p, b, t, k);
+        let i = k;
+        let x = b.transition[i];
         k += 1;
+        if x.thread == t {
+            let g = guard_of(b, i);
+            p = put_shut(d, p, t, x.from, g);
+        }
     }
     p
 }

@@ -1,25 +1,30 @@
 // The rules of COMPLETE for one thread, written into a lent slice: one for each transition of the thread, and one for where none is open.
 
+mod gathered;
 mod guards;
 mod parts;
 mod updates;
 
 ghost use mathlib.Core.List.{[], _∷_};
 ghost use Prim.Native.Nat.{_<_};
-ghost use Rattle.model_format.specs.WellFormed.{WellFormed};
+ghost use Rattle.model_format.specs.WellFormed.{GoodTiming, WellFormed};
 ghost use Rattle.model.specs.Tests.{execution, completed};
 ghost use Rattle.table_format.specs.Variables.{stateVar};
 ghost use Rattle.translate.specs.Parts.{setTo, stamped};
 ghost use Rattle.translate.specs.Rules.{stateIs, endIsNow, jobEnds, transitionRule, defaultRule, completeRules};
 ghost use Rattle.rule_writer.specs.Lists.{WroteClauses, WroteUpdates, WroteRules};
-ghost use Rattle.complete_rules.specs.Named.{NamedBehavior};
-ghost use Rattle.complete_rules.specs.Complete.{transitionClauses, transitionUpdates, defaultClauses, defaultUpdates, rulesAt};
+ghost use Rattle.complete_rules.specs.Named.{NamedAssigned, NamedBehavior};
+ghost use Rattle.complete_rules.specs.Complete.{transitionClauses, updatesWith, defaultClauses, defaultUpdates};
+use gathered::Assigned;
+use gathered::assigned_of;
+use gathered::guard_of;
+use gathered::none_assigned;
 use guards::put_earlier;
 use guards::put_guard;
 use guards::put_otherwise;
 use model_format::Behavior;
 use model_format::Model;
-use model_format::transition_at;
+use model_format::Timing;
 use rule_writer::CPU;
 use rule_writer::NOW;
 use rule_writer::behavior_var;
@@ -52,37 +57,35 @@ fn put_transition_clauses(d: &mut [u8], at: usize, b: Behavior, t: u8, k: usize)
     requires { ⌜ NamedBehavior b × (k < b .transitions) ⌝ }
     ensures { λ r. ⌜ WroteClauses (now (d .entry)) at (transitionClauses b t k) (now (d .exit)) r ⌝ }
 {
-    let x = transition_at(b, k);
-    let from = x.from;
+    let x = b.transition[k];
+    let g = guard_of(b, k);
     let p = put_running(d, at, t);
-    let q = put_condition(d, p, 0, behavior_var(t), from as u32);
-    let r = put_guard(d, q, b, k);
+    let q = put_condition(d, p, 0, behavior_var(t), x.from as u32);
+    let r = put_guard(d, q, g);
     put_earlier(d, r, b, t, k)
 }
 
-fn put_transition_updates(d: &mut [u8], at: usize, m: Model, t: u8, k: usize) -> usize
-    requires { ⌜ WellFormed m × (k < m .behavior .transitions) ⌝ }
-    ensures { λ r. ⌜ WroteUpdates (now (d .entry)) at (transitionUpdates m t k) (now (d .exit)) r ⌝ }
+fn put_transition_updates(d: &mut [u8], at: usize, y: Timing, w: Assigned, t: u8, to: u8) -> usize
+    requires { ⌜ GoodTiming y × NamedAssigned w ⌝ }
+    ensures { λ r. ⌜ WroteUpdates (now (d .entry)) at (updatesWith y w t to) (now (d .exit)) r ⌝ }
 {
-    let y = m.timing;
-    let b = m.behavior;
-    let x = transition_at(b, k);
-    let to = x.to;
-    let n = x.assignments as usize;
     let p = put_ends(d, at, t);
     let q = put_set(d, p, behavior_var(t), to as u32);
-    let r = put_assignments(d, q, b, k, n);
-    put_sends(d, r, y, b, t, k, n)
+    let r = put_assignments(d, q, w);
+    put_sends(d, r, y, w, t)
 }
 
 fn put_transition_rule(d: &mut [u8], at: usize, m: Model, t: u8, k: usize) -> usize
     requires { ⌜ WellFormed m × (k < m .behavior .transitions) ⌝ }
     ensures { λ r. ⌜ WroteRules (now (d .entry)) at (stamped 5 t (transitionRule m t k ∷ [])) (now (d .exit)) r ⌝ }
 {
+    let y = m.timing;
     let b = m.behavior;
+    let x = b.transition[k];
+    let w = assigned_of(b, k);
     let p = put_rule(d, at, 5, t, 0, 0);
     let q = put_transition_clauses(d, p, b, t, k);
-    put_transition_updates(d, q, m, t, k)
+    put_transition_updates(d, q, y, w, t, x.to)
 }
 
 fn put_default_clauses(d: &mut [u8], at: usize, b: Behavior, t: u8) -> usize
@@ -94,38 +97,24 @@ fn put_default_clauses(d: &mut [u8], at: usize, b: Behavior, t: u8) -> usize
 }
 
 // Without a transition there are no assignments, so each connection sends the old output.
-fn put_default_updates(d: &mut [u8], at: usize, m: Model, t: u8) -> usize
-    requires { ⌜ WellFormed m ⌝ }
-    ensures { λ r. ⌜ WroteUpdates (now (d .entry)) at (defaultUpdates m t) (now (d .exit)) r ⌝ }
+fn put_default_updates(d: &mut [u8], at: usize, y: Timing, t: u8) -> usize
+    requires { ⌜ GoodTiming y ⌝ }
+    ensures { λ r. ⌜ WroteUpdates (now (d .entry)) at (defaultUpdates y t) (now (d .exit)) r ⌝ }
 {
-    let y = m.timing;
-    let b = m.behavior;
+    let w = none_assigned();
     let p = put_ends(d, at, t);
-    put_sends(d, p, y, b, t, 0, 0)
+    put_sends(d, p, y, w, t)
 }
 
 fn put_default_rule(d: &mut [u8], at: usize, m: Model, t: u8) -> usize
     requires { ⌜ WellFormed m ⌝ }
     ensures { λ r. ⌜ WroteRules (now (d .entry)) at (stamped 5 t (defaultRule m t ∷ [])) (now (d .exit)) r ⌝ }
 {
+    let y = m.timing;
     let b = m.behavior;
     let p = put_rule(d, at, 5, t, 0, 0);
     let q = put_default_clauses(d, p, b, t);
-    put_default_updates(d, q, m, t)
-}
-
-// The rule of transition k, where it is one of thread t.
-fn put_rule_at(d: &mut [u8], at: usize, m: Model, t: u8, k: usize) -> usize
-    requires { ⌜ WellFormed m × (k < m .behavior .transitions) ⌝ }
-    ensures { λ r. ⌜ WroteRules (now (d .entry)) at (stamped 5 t (rulesAt m t k)) (now (d .exit)) r ⌝ }
-{
-    let b = m.behavior;
-    let x = transition_at(b, k);
-    let thread = x.thread;
-    if thread == t {
-        return put_transition_rule(d, at, m, t, k);
-    }
-    at
+    put_default_updates(d, q, y, t)
 }
 
 pub fn put_complete(d: &mut [u8], at: usize, m: Model, t: u8) -> usize
@@ -137,8 +126,12 @@ pub fn put_complete(d: &mut [u8], at: usize, m: Model, t: u8) -> usize
     let mut p = at;
     let mut k: usize = 0;
     while k < n {
-        p = put_rule_at(d, p, m, t, k);
+        let i = k;
+        let x = b.transition[i];
         k += 1;
+        if x.thread == t {
+            p = put_transition_rule(d, p, m, t, i);
+        }
     }
     put_default_rule(d, p, m, t)
 }

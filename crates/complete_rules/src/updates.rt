@@ -1,14 +1,11 @@
 // The assignments of a transition and the buffers that it fills, as updates.
 
+use crate::gathered::Assigned;
 use crate::parts::operand_of;
 use crate::parts::variable_of;
 use model_format::Assignment;
-use model_format::Behavior;
+use model_format::Connection;
 use model_format::Timing;
-use model_format::assignment_at;
-use model_format::connection_at;
-use model_format::is_kind;
-use model_format::source_thread;
 use records::Operand;
 use rule_writer::NO_VARIABLE;
 use rule_writer::buffer_var;
@@ -24,10 +21,10 @@ ghost use Rattle.model_format.specs.Model.{immediate};
 ghost use Rattle.model_format.specs.WellFormed.{GoodTiming};
 ghost use Rattle.table_format.specs.Variables.{outputVar};
 ghost use Rattle.translate.specs.Parts as parts;
-ghost use Rattle.translate.specs.Rules.{variableOf, assignedExpression, assignmentUpdates, sentExpression, sendUpdates};
+ghost use Rattle.translate.specs.Rules.{variableOf, assignedExpression, sendUpdates};
 ghost use Rattle.rule_writer.specs.Lists.{WroteUpdates};
-ghost use Rattle.complete_rules.specs.Named.{NamedAssignment, NamedAssignments};
-ghost use Rattle.complete_rules.specs.Assigned.{expressionOf, sentAfter, sentAt};
+ghost use Rattle.complete_rules.specs.Named.{NamedAssignment, NamedAssigned};
+ghost use Rattle.complete_rules.specs.Assigned.{expressionOf, updatesOf, sentAfter, sentBy, sendOf};
 
 // What a variable is set to: `op` of two operands.
 struct Expression {
@@ -108,15 +105,15 @@ fn put_assignment(d: &mut [u8], at: usize, a: Assignment) -> usize
     put_assigned(d, at, NO_VARIABLE, 0, target, x)
 }
 
-// The first n assignments of transition k.
-pub fn put_assignments(d: &mut [u8], at: usize, b: Behavior, k: usize, n: usize) -> usize
-    requires { ⌜ NamedAssignments b k n ⌝ }
-    ensures { λ r. ⌜ WroteUpdates (now (d .entry)) at (assignmentUpdates b k n) (now (d .exit)) r ⌝ }
+pub fn put_assignments(d: &mut [u8], at: usize, w: Assigned) -> usize
+    requires { ⌜ NamedAssigned w ⌝ }
+    ensures { λ r. ⌜ WroteUpdates (now (d .entry)) at (updatesOf w) (now (d .exit)) r ⌝ }
 {
+    let n = w.assignments as usize;
     let mut p = at;
     let mut j: usize = 0;
     while j < n {
-        let a = assignment_at(b, k, j);
+        let a = w.assignment[j];
         p = put_assignment(d, p, a);
         j += 1;
     }
@@ -134,65 +131,49 @@ fn sent_after(a: Assignment, o: u16, x: Expression) -> Expression
     x
 }
 
-// And after the first n of transition k.
-fn sent(b: Behavior, k: usize, n: usize, o: u16) -> Expression
-    requires { ⌜ NamedAssignments b k n × (o < 32) ⌝ }
-    ensures { λ r. ⌜ expressionOf r ≡ sentExpression b k n o ⌝ }
+// And after all of them.
+fn sent(w: Assigned, o: u16) -> Expression
+    requires { ⌜ NamedAssigned w × (o < 32) ⌝ }
+    ensures { λ r. ⌜ expressionOf r ≡ sentBy w o ⌝ }
 {
+    let n = w.assignments as usize;
     let mut x = copied_output(o);
     let mut j: usize = 0;
     while j < n {
-        let a = assignment_at(b, k, j);
+        let a = w.assignment[j];
         x = sent_after(a, o, x);
         j += 1;
     }
     x
 }
 
-// Connection c, where it is an immediate one from thread t.
-fn put_send(
-    d: &mut [u8],
-    at: usize,
-    m: Timing,
-    b: Behavior,
-    t: u8,
-    k: usize,
-    n: usize,
-    c: usize,
-) -> usize
-    requires { ⌜ GoodTiming m × (NamedAssignments b k n × (c < m .connections)) ⌝ }
-    ensures { λ r. ⌜ WroteUpdates (now (d .entry)) at (sentAt m b t k n c) (now (d .exit)) r ⌝ }
+// What connection c, which is x, sends.
+fn put_send(d: &mut [u8], at: usize, w: Assigned, c: usize, x: Connection) -> usize
+    requires { ⌜ NamedAssigned w × ((c < 32) × ((x .source < 32) × (x .target < 32))) ⌝ }
+    ensures { λ r. ⌜ WroteUpdates (now (d .entry)) at (sendOf w c x ∷ []) (now (d .exit)) r ⌝ }
 {
-    let x = connection_at(m, c);
-    let immediate = is_kind(m, 0, c);
-    let owner = source_thread(m, c);
-    if immediate & (owner == t) {
-        let o = x.source;
-        let i = x.target;
-        let e = sent(b, k, n, o);
-        return put_assigned(d, at, flag_var(c as u8), 1, buffer_var(i as u8), e);
-    }
-    at
+    let i = x.target;
+    let e = sent(w, x.source);
+    put_assigned(d, at, flag_var(c as u8), 1, buffer_var(i as u8), e)
 }
 
-pub fn put_sends(
-    d: &mut [u8],
-    at: usize,
-    m: Timing,
-    b: Behavior,
-    t: u8,
-    k: usize,
-    n: usize,
-) -> usize
-    requires { ⌜ GoodTiming m × NamedAssignments b k n ⌝ }
-    ensures { λ r. ⌜ WroteUpdates (now (d .entry)) at (sendUpdates m immediate t (sentExpression b k n)) (now (d .exit)) r ⌝ }
+// What the immediate connections from thread t send.
+pub fn put_sends(d: &mut [u8], at: usize, m: Timing, w: Assigned, t: u8) -> usize
+    requires { ⌜ GoodTiming m × NamedAssigned w ⌝ }
+    ensures { λ r. ⌜ WroteUpdates (now (d .entry)) at (sendUpdates m immediate t (sentBy w)) (now (d .exit)) r ⌝ }
 {
-    let l = m.connections;
+    let n = m.connections;
     let mut p = at;
     let mut c: usize = 0;
-    while c < l {
-        p = put_send(d, p, m, b, t, k, n, c);
+    while c < n {
+        let i = c;
+        let x = m.connection[i];
+        let o = x.source as usize;
+        let owner = m.output[o];
         c += 1;
+        if (x.kind == 0) & (owner == t) {
+            p = put_send(d, p, w, i, x);
+        }
     }
     p
 }

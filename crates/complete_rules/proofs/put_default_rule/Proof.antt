@@ -8,16 +8,16 @@ put-rule-requires : tie.Need-put-rule-requires
 put-rule-requires c κs = search needs
 
 put-default-clauses-requires : tie.Need-put-default-clauses-requires
-put-default-clauses-requires c κs = behavior-named (c .before .before .before .before .before .before .before .pre)
+put-default-clauses-requires c κs = behavior-named (c .before .before .before .before .before .before .before .before .pre)
 
 put-default-updates-requires : tie.Need-put-default-updates-requires
-put-default-updates-requires c κs = c .before .before .before .before .before .before .before .before .before .before .before .pre
+put-default-updates-requires c κs = c .before .before .before .before .before .before .before .before .before .before .before .before .pre .timing
 
 same-length : tie.Need-same-length
 same-length c = search needs
 
 returns : tie.Need-returns
-returns c = default-rule _ _ (c .before .before .before .before .before .before .before .before .before .before .before .before .before .before .good .0 .0) (c .before .before .before .before .before .before .before .before .before .before .put-rule .ensures) (c .before .before .before .before .before .before .put-default-clauses .ensures) (c .before .before .put-default-updates .ensures)
+returns c = default-rule (c .before .before .before .before .before .before .before .before .before .before .before .before .before .before .before .args .m) _ (c .before .before .before .before .before .before .before .before .before .before .before .before .before .before .before .good .0 .0) (c .before .before .before .before .before .before .before .before .before .before .put-rule .ensures) (c .before .before .before .before .before .before .put-default-clauses .ensures) (c .before .before .put-default-updates .ensures)
 
 pub put-default-rule-spec : {M : Type 1} → statement M
 put-default-rule-spec =

@@ -2,20 +2,23 @@ use Rattle.writer.specs.Written.{keeps-length}
 use Prim.Native.Nat.{_≤_, _-_}
 use native.Mathlib.Omega.{arith}
 use Rattle.numbers.specs.Lists.{joinBelow}
-use Rattle.rule_writer.specs.Lists.{WroteAtoms, joins-atoms, loop-begins}
-use Rattle.complete_rules.specs.Guards.{negatedAt, atom-is-named, negated-next, negated-end}
+use Rattle.rule_writer.specs.Lists.{WroteAtoms, joins-atoms, loop-begins, loop-next, loop-ends}
+use Rattle.complete_rules.specs.Guards.{negatedAt}
 use borrow.Author.Needs.{needs}
+use Rattle.writer.specs.Written.{keeps-length}
+use Prim.Native.Nat.{_≤_, _-_}
+use native.Mathlib.Omega.{arith}
+use Rattle.numbers.specs.Lists.{joinBelow}
+use Rattle.rule_writer.specs.Lists.{WroteAtoms, joins-atoms, loop-begins, loop-next, loop-ends}
+use Rattle.complete_rules.specs.Guards.{negatedAt}
 use Rattle.complete_rules.proofs.guards.put_negated.Statement.{statement}
 use Rattle.complete_rules.proofs.guards.put_negated.Tie as tie
 
 abbrev Inv-loop : tie.InvT-loop
-Inv-loop d₀ at b k n p₀ j₀ d p j = (j ≤ n) × WroteAtoms d₀ at (joinBelow j (negatedAt b k)) d p
+Inv-loop d₀ at g n p₀ j₀ d p j = (j ≤ n) × WroteAtoms d₀ at (joinBelow j (negatedAt g)) d p
 
 abbrev μ-loop : tie.MeasureT-loop
-μ-loop d₀ at b k n p₀ j₀ d p j = n - j
-
-transition-at-requires : tie.Need-transition-at-requires Inv-loop μ-loop
-transition-at-requires c κs = search needs
+μ-loop d₀ at g n p₀ j₀ d p j = n - j
 
 cast-n : tie.Need-cast-n Inv-loop μ-loop
 cast-n c = search needs
@@ -23,11 +26,14 @@ cast-n c = search needs
 loop-holds : tie.Need-loop-holds Inv-loop μ-loop
 loop-holds c = (omega arith, loop-begins joins-atoms _ (search needs))
 
-atom-at-requires : tie.Need-atom-at-requires Inv-loop μ-loop
-atom-at-requires c κs = search needs
+mul-a : tie.Need-mul-a Inv-loop μ-loop
+mul-a c = search needs
+
+element-copy-out-a : tie.Need-element-copy-out-a Inv-loop μ-loop
+element-copy-out-a c = let h = c .before .before .before .pre .few in let l = c .loop-test .taken in search needs
 
 put-opposite-requires : tie.Need-put-opposite-requires Inv-loop μ-loop
-put-opposite-requires c κs = atom-is-named _ _ _ _ (c .before .before .before .before .before .transition-at .ensures) _ (c .before .before .before .before .before .before .before .pre) (c .before .atom-at .ensures) (c .before .before .loop-test .taken)
+put-opposite-requires c κs = c .before .before .before .before .before .pre .atom _ (c .before .before .loop-test .taken)
 
 add-j : tie.Need-add-j Inv-loop μ-loop
 add-j c = search needs
@@ -36,13 +42,13 @@ loop-less : tie.Need-loop-less Inv-loop μ-loop
 loop-less c = search needs
 
 loop-again : tie.Need-loop-again Inv-loop μ-loop
-loop-again c = (omega arith, negated-next _ _ _ _ (c .before .before .before .before .atom-at .ensures) (c .before .before .before .before .before .before .before .before .before .before .good .0 .0) (c .before .before .before .before .before .before .loop .inv .1) (c .before .before .put-opposite .ensures))
+loop-again c = (omega arith, loop-next joins-atoms _ (negatedAt (c .before .before .before .before .before .before .before .before .args .t3)) (c .before .before .before .before .before .before .before .before .good .0 .0) (c .before .before .before .before .before .before .loop .inv .1) (c .before .before .put-opposite .ensures))
 
 same-length : tie.Need-same-length Inv-loop μ-loop
 same-length c = keeps-length (c .before .loop .inv .1)
 
 returns : tie.Need-returns Inv-loop μ-loop
-returns c = negated-end _ _ _ _ (c .before .before .before .transition-at .ensures) (c .before .loop .inv .1) (c .before .loop .inv .0) (c .loop-test .left)
+returns c = loop-ends joins-atoms (negatedAt (c .before .before .before .args .t3)) _ _ (c .before .loop .inv .0) (c .loop-test .left) (c .before .loop .inv .1)
 
 pub put-negated-spec : {M : Type 1} → statement M
 put-negated-spec =
@@ -50,10 +56,10 @@ put-negated-spec =
     (tie.spec
     Inv-loop
     μ-loop
-    transition-at-requires
     cast-n
     loop-holds
-    atom-at-requires
+    mul-a
+    element-copy-out-a
     put-opposite-requires
     add-j
     loop-less

@@ -2,26 +2,38 @@ use Rattle.writer.specs.Written.{keeps-length}
 use Prim.Native.Nat.{_≤_, _-_}
 use native.Mathlib.Omega.{arith}
 use Rattle.numbers.specs.Lists.{joinBelow}
-use Rattle.rule_writer.specs.Lists.{WroteUpdates, joins-updates, loop-begins}
-use Rattle.complete_rules.specs.Assigned.{assignedAt, assignments-next, assignments-end}
+use Rattle.rule_writer.specs.Lists.{WroteUpdates, joins-updates, loop-begins, loop-next, loop-ends}
+use Rattle.complete_rules.specs.Assigned.{assignedAt}
 use borrow.Author.Needs.{needs}
+use Rattle.writer.specs.Written.{keeps-length}
+use Prim.Native.Nat.{_≤_, _-_}
+use native.Mathlib.Omega.{arith}
+use Rattle.numbers.specs.Lists.{joinBelow}
+use Rattle.rule_writer.specs.Lists.{WroteUpdates, joins-updates, loop-begins, loop-next, loop-ends}
+use Rattle.complete_rules.specs.Assigned.{assignedAt}
 use Rattle.complete_rules.proofs.updates.put_assignments.Statement.{statement}
 use Rattle.complete_rules.proofs.updates.put_assignments.Tie as tie
 
 abbrev Inv-loop : tie.InvT-loop
-Inv-loop d₀ at b k n p₀ j₀ d p j = (j ≤ n) × WroteUpdates d₀ at (joinBelow j (assignedAt b k)) d p
+Inv-loop d₀ at w n p₀ j₀ d p j = (j ≤ n) × WroteUpdates d₀ at (joinBelow j (assignedAt w)) d p
 
 abbrev μ-loop : tie.MeasureT-loop
-μ-loop d₀ at b k n p₀ j₀ d p j = n - j
+μ-loop d₀ at w n p₀ j₀ d p j = n - j
+
+cast-n : tie.Need-cast-n Inv-loop μ-loop
+cast-n c = search needs
 
 loop-holds : tie.Need-loop-holds Inv-loop μ-loop
 loop-holds c = (omega arith, loop-begins joins-updates _ (search needs))
 
-assignment-at-requires : tie.Need-assignment-at-requires Inv-loop μ-loop
-assignment-at-requires c κs = search needs
+mul-a : tie.Need-mul-a Inv-loop μ-loop
+mul-a c = search needs
+
+element-copy-out-a : tie.Need-element-copy-out-a Inv-loop μ-loop
+element-copy-out-a c = let h = c .before .before .before .pre .few in let l = c .loop-test .taken in search needs
 
 put-assignment-requires : tie.Need-put-assignment-requires Inv-loop μ-loop
-put-assignment-requires c κs = rw (c .before .assignment-at .ensures) ((c .before .before .before .before .before .pre .assignment) _ (c .before .before .loop-test .taken))
+put-assignment-requires c κs = c .before .before .before .before .before .pre .assignment _ (c .before .before .loop-test .taken)
 
 add-j : tie.Need-add-j Inv-loop μ-loop
 add-j c = search needs
@@ -30,13 +42,13 @@ loop-less : tie.Need-loop-less Inv-loop μ-loop
 loop-less c = search needs
 
 loop-again : tie.Need-loop-again Inv-loop μ-loop
-loop-again c = (omega arith, assignments-next _ _ _ (c .before .before .before .before .before .before .loop .inv .1) _ (c .before .before .before .before .assignment-at .ensures) (c .before .before .before .before .before .before .before .before .good .0 .0) (c .before .before .put-assignment .ensures))
+loop-again c = (omega arith, loop-next joins-updates _ (assignedAt (c .before .before .before .before .before .before .before .before .args .t3)) (c .before .before .before .before .before .before .before .before .good .0 .0) (c .before .before .before .before .before .before .loop .inv .1) (c .before .before .put-assignment .ensures))
 
 same-length : tie.Need-same-length Inv-loop μ-loop
 same-length c = keeps-length (c .before .loop .inv .1)
 
 returns : tie.Need-returns Inv-loop μ-loop
-returns c = assignments-end _ _ _ (c .before .loop .inv .1) _ (c .before .loop .inv .0) (c .loop-test .left)
+returns c = loop-ends joins-updates (assignedAt (c .before .before .before .args .t3)) _ _ (c .before .loop .inv .0) (c .loop-test .left) (c .before .loop .inv .1)
 
 pub put-assignments-spec : {M : Type 1} → statement M
 put-assignments-spec =
@@ -44,8 +56,10 @@ put-assignments-spec =
     (tie.spec
     Inv-loop
     μ-loop
+    cast-n
     loop-holds
-    assignment-at-requires
+    mul-a
+    element-copy-out-a
     put-assignment-requires
     add-j
     loop-less
