@@ -6,39 +6,43 @@ use Prim.Native.Nat.{ℕ, _+_, _≤_}
 use lib.ListN.{length}
 use lib.Dec.{eqb, ltb}
 use Rattle.numbers.specs.Lists.{joinBelow}
+use Rattle.model_format.specs.declared.Timing.{Timing}
 use Rattle.model_format.specs.declared.Model.{Model}
-use Rattle.model_format.specs.WellFormed.{WellFormed}
+use Rattle.model_format.specs.WellFormed.{GoodTiming}
 use Rattle.table_format.specs.Table.{Rule}
 use Rattle.writer.specs.Written.{keeps-length}
 use Rattle.rule_writer.specs.Lists.{WroteRules, Counted, joins-rules, wrote-none, loop-begins, loop-next}
 use Rattle.translate.specs.Parts.{Body, stamped, rulesOfGroups}
 use Rattle.translate.specs.Rules.{activateRules, deactivateRules, dispatchRules, startRules, completeRules, deadlineRules, missRules, requestRules, enterRules, leaveRules, groupsOf, rulesOf}
 
-abbrev pub countOf : Model → ℕ → ℕ
-countOf m kind = cond (ltb kind 8) (m .timing .threads) (m .timing .switches)
+abbrev pub countOf : Timing → ℕ → ℕ
+countOf x kind = cond (ltb kind 8) (x .threads) (x .switches)
 
-abbrev pub bodiesOf : Model → ℕ → ℕ → List Body
-bodiesOf m kind i =
+-- the rules of each kind but COMPLETE
+abbrev pub bodiesOf : Timing → ℕ → ℕ → List Body
+bodiesOf x kind i =
     cond (eqb kind 1) (activateRules i)
     (cond (eqb kind 2) (deactivateRules i)
-    (cond (eqb kind 3) (dispatchRules (m .timing) i)
-    (cond (eqb kind 4) (startRules (m .timing) i)
-    (cond (eqb kind 5) (completeRules m i)
-    (cond (eqb kind 6) (deadlineRules (m .timing) i)
+    (cond (eqb kind 3) (dispatchRules x i)
+    (cond (eqb kind 4) (startRules x i)
+    (cond (eqb kind 6) (deadlineRules x i)
     (cond (eqb kind 7) (missRules i)
-    (cond (eqb kind 8) (requestRules (m .timing) i)
-    (cond (eqb kind 9) (enterRules (m .timing) i)
-    (cond (eqb kind 10) (leaveRules (m .timing) i) [])))))))))
+    (cond (eqb kind 8) (requestRules x i)
+    (cond (eqb kind 9) (enterRules x i)
+    (cond (eqb kind 10) (leaveRules x i) []))))))))
 
-abbrev pub groupRules : Model → ℕ → List Rule
-groupRules m kind = joinBelow (countOf m kind) (λ i. stamped kind i (bodiesOf m kind i))
+abbrev pub groupRules : Timing → ℕ → List Rule
+groupRules x kind = joinBelow (countOf x kind) (λ i. stamped kind i (bodiesOf x kind i))
 
-pub count-small : (m : Model) (kind : ℕ) → WellFormed m → countOf m kind ≤ 16
-count-small m kind w = go (ltb kind 8)
+abbrev pub completesOf : Model → List Rule
+completesOf m = joinBelow (m .timing .threads) (λ i. stamped 5 i (completeRules m i))
+
+pub count-small : (x : Timing) (kind : ℕ) → GoodTiming x → countOf x kind ≤ 16
+count-small x kind g = go (ltb kind 8)
   where
-    go : (b : Bool) → cond b (m .timing .threads) (m .timing .switches) ≤ 16
-    go true = w .timing .threads
-    go false = w .timing .switches
+    go : (b : Bool) → cond b (x .threads) (x .switches) ≤ 16
+    go true = g .threads
+    go false = g .switches
 
 -- a kind that has no rules
 pub no-rules : {d : List ℕ} {at : ℕ} (kind i : ℕ) (l : List Body) → l ≡ [] → Counted at → WroteRules d at (stamped kind i l) d at
@@ -68,7 +72,7 @@ module _ (x : ℕ → List Rule) where
 
 -- ---- the ten kinds, one after the other
 abbrev pub kindRules : Model → ℕ → List Rule
-kindRules m i = groupRules m (i + 1)
+kindRules m i = cond (eqb (i + 1) 5) (completesOf m) (groupRules (m .timing) (i + 1))
 
 ten : (a b c d e f g h i j : List Rule) →
     [] ++ a ++ b ++ c ++ d ++ e ++ f ++ g ++ h ++ i ++ j ≡ a ++ (b ++ (c ++ (d ++ (e ++ (f ++ (g ++ (h ++ (i ++ (j ++ [])))))))))
@@ -77,4 +81,5 @@ ten a b c d e f g h i j = simp (append-assoc, append-nil)
 pub all-rules : (m : Model) → joinBelow 10 (kindRules m) ≡ rulesOf m
 unfolding joinBelow rulesOfGroups groupsOf
 all-rules m =
-    ten (groupRules m 1) (groupRules m 2) (groupRules m 3) (groupRules m 4) (groupRules m 5) (groupRules m 6) (groupRules m 7) (groupRules m 8) (groupRules m 9) (groupRules m 10)
+    let x = m .timing in
+    ten (groupRules x 1) (groupRules x 2) (groupRules x 3) (groupRules x 4) (completesOf m) (groupRules x 6) (groupRules x 7) (groupRules x 8) (groupRules x 9) (groupRules x 10)

@@ -8,7 +8,7 @@ use borrow.Author.Tests.{lt-ltb, le-ltb, ltb-false}
 use lib.ListN.{getD, length, take}
 use mir.Syntax.{w8}
 use mir.Val.{Fits}
-use lib.Seq.{sets, sets-eq}
+use lib.Seq.{sets-eq}
 use lib.Dec.{ltb}
 use Rattle.records.specs.declared.Cause.the-variants.{ShortOutput}
 use Rattle.records.specs.Refusals.{numberOf, isNone, inModel, noRefusal}
@@ -24,7 +24,7 @@ use Rattle.rule_writer.specs.Lists.{WroteRules, WroteInitial, Counted}
 use Rattle.translate.specs.declared.Translation.{Translation}
 use Rattle.translate.specs.Rules.{rulesOf}
 use Rattle.translate.specs.Translate.{initialOf, tableFrom, tableBytes, translated, outputAfter}
-use Rattle.translate.specs.TableLength.{table-short}
+use Rattle.translate.specs.TableLength.{table-most, table-short}
 use Rattle.simulation.specs.Compared.{Simulates}
 use Rattle.simulation.specs.Simulation.{written-is, simulates}
 
@@ -79,6 +79,14 @@ module _ (model out : List ℕ) (r : ModelRead) (b : Bool) (e : r ≡ readModel 
     output = let z : 0 + n ≡ n = omega arith in w .bytes ∙ sets-eq (tableBytes (r .model)) out 0 (omega arith) ∙ rw (← e, ← g, f, ← k, le-ltb _ n l, z);
     simulated = λ s. simulates model s out bytes;
   }
+
+  -- an output with room for any table
+  pub table-made-at-once : b ≡ true → 394304 ≤ length out → (after : List ℕ) (n : ℕ) → Wrote out 0 (tableBytes (r .model)) after n →
+      Translates model out (record { refusal = noRefusal; bytes = n }) after
+  table-made-at-once f l after n w =
+      let good = model-good f in
+      let k = length-told (r .model) good w in
+      table-made f n k (omega (arith, table-most (r .model) good)) after n w
 
 -- ---- what a caller has of it: the bytes that are told lie in the output, and are the table
 fits : (model : List ℕ) (n : ℕ) → isNone (translated model n .refusal .cause) ≡ true → translated model n .bytes ≤ n

@@ -3,40 +3,38 @@
 ghost use mathlib.Core.Path.{_≡_};
 ghost use lib.ListN.{length};
 ghost use Rattle.records.specs.Refusals.{inModel};
-ghost use Rattle.model_format.specs.WellFormed.{WellFormed};
+ghost use Rattle.model_format.specs.WellFormed.{GoodTiming, WellFormed};
 ghost use Rattle.writer.specs.Written.{Wrote};
 ghost use Rattle.rule_writer.specs.Lists.{WroteRules};
 ghost use Rattle.translate.specs.Parts.{stamped};
 ghost use Rattle.translate.specs.Rules.{rulesOf};
 ghost use Rattle.translate.specs.Translate.{tableBytes};
-ghost use Rattle.translator.specs.Groups.{countOf, bodiesOf, groupRules};
+ghost use Rattle.translator.specs.Groups.{countOf, bodiesOf, groupRules, completesOf};
 ghost use Rattle.translator.specs.Tables.{Translates};
 use model_format::Model;
+use model_format::Timing;
 use records::Cause;
 use records::Holder;
 use records::Refusal;
 use translate::Translation;
 
 // How many items an event kind has rules for: threads, or mode transitions.
-fn count_of(m: Model, kind: u8) -> usize
-    ensures { λ r. ⌜ r ≡ countOf m kind ⌝ }
+fn count_of(x: Timing, kind: u8) -> usize
+    ensures { λ r. ⌜ r ≡ countOf x kind ⌝ }
 {
-    let x = m.timing;
     if kind < 8 { x.threads } else { x.switches }
 }
 
-// The rules of an event kind and an item.
-fn put_item(d: &mut [u8], at: usize, m: Model, kind: u8, i: u8) -> usize
-    requires { ⌜ WellFormed m ⌝ }
-    ensures { λ r. ⌜ WroteRules (now (d .entry)) at (stamped kind i (bodiesOf m kind i)) (now (d .exit)) r ⌝ }
+// The rules of an event kind and an item. COMPLETE has its own function: only it needs the behaviours, and they are long.
+fn put_item(d: &mut [u8], at: usize, x: Timing, kind: u8, i: u8) -> usize
+    requires { ⌜ GoodTiming x ⌝ }
+    ensures { λ r. ⌜ WroteRules (now (d .entry)) at (stamped kind i (bodiesOf x kind i)) (now (d .exit)) r ⌝ }
 {
-    let x = m.timing;
     match kind {
         1 => thread_rules::put_activate(d, at, i),
         2 => thread_rules::put_deactivate(d, at, i),
         3 => thread_rules::put_dispatch(d, at, x, i),
         4 => thread_rules::put_start(d, at, x, i),
-        5 => complete_rules::put_complete(d, at, m, i),
         6 => thread_rules::put_deadline(d, at, x, i),
         7 => thread_rules::put_miss(d, at, i),
         8 => mode_rules::put_request(d, at, x, i),
@@ -47,15 +45,30 @@ fn put_item(d: &mut [u8], at: usize, m: Model, kind: u8, i: u8) -> usize
 }
 
 // The rules of an event kind.
-fn put_group(d: &mut [u8], at: usize, m: Model, kind: u8) -> usize
-    requires { ⌜ WellFormed m ⌝ }
-    ensures { λ r. ⌜ WroteRules (now (d .entry)) at (groupRules m kind) (now (d .exit)) r ⌝ }
+fn put_group(d: &mut [u8], at: usize, x: Timing, kind: u8) -> usize
+    requires { ⌜ GoodTiming x ⌝ }
+    ensures { λ r. ⌜ WroteRules (now (d .entry)) at (groupRules x kind) (now (d .exit)) r ⌝ }
 {
-    let n = count_of(m, kind);
+    let n = count_of(x, kind);
     let mut p = at;
     let mut i = 0;
     while i < n {
-        p = put_item(d, p, m, kind, i as u8);
+        p = put_item(d, p, x, kind, i as u8);
+        i += 1;
+    }
+    p
+}
+
+fn put_completes(d: &mut [u8], at: usize, m: Model) -> usize
+    requires { ⌜ WellFormed m ⌝ }
+    ensures { λ r. ⌜ WroteRules (now (d .entry)) at (completesOf m) (now (d .exit)) r ⌝ }
+{
+    let x = m.timing;
+    let n = x.threads;
+    let mut p = at;
+    let mut i = 0;
+    while i < n {
+        p = complete_rules::put_complete(d, p, m, i as u8);
         i += 1;
     }
     p
@@ -66,11 +79,17 @@ fn put_rules(d: &mut [u8], at: usize, m: Model) -> usize
     requires { ⌜ WellFormed m ⌝ }
     ensures { λ r. ⌜ WroteRules (now (d .entry)) at (rulesOf m) (now (d .exit)) r ⌝ }
 {
+    let x = m.timing;
     let mut p = at;
     let mut i: u8 = 0;
     while i < 10 {
-        p = put_group(d, p, m, i + 1);
-        i += 1;
+        let kind = i + 1;
+        i = kind;
+        if kind == 5 {
+            p = put_completes(d, p, m);
+        } else {
+            p = put_group(d, p, x, kind);
+        }
     }
     p
 }
@@ -105,7 +124,8 @@ fn refused(c: Cause, start: usize, end: usize) -> Refusal
     }
 }
 
-// The table of an accepted model, at the beginning of the output, where it fits; else the output is as it was.
+// The table of an accepted model, at the beginning of the output, where it fits; else the output is as it was. No table is longer than
+// 394304 bytes: an output with that room needs no count first.
 pub fn translate(model: &[u8], out: &mut [u8]) -> Translation
     ensures { λ r. ⌜ Translates (now (model .entry)) (now (out .entry)) r (now (out .exit)) ⌝ }
 {
@@ -119,6 +139,15 @@ pub fn translate(model: &[u8], out: &mut [u8]) -> Translation
         };
     }
     let m = r.model;
+    if 394304 <= out.len() {
+        let k = put_table(out, m);
+        let o = Cause::None;
+        let g = refused(o, 0, 0);
+        return Translation {
+            refusal: g,
+            bytes: k,
+        };
+    }
     let n = table_length(m);
     if out.len() < n {
         let end = model.len();

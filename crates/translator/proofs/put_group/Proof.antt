@@ -7,10 +7,10 @@ use Rattle.translator.proofs.put_group.Statement.{statement}
 use Rattle.translator.proofs.put_group.Tie as tie
 
 abbrev Inv-loop : tie.InvT-loop
-Inv-loop d₀ at m kind n p₀ i₀ d p i = (i ≤ n) × Looping (λ k. stamped kind k (bodiesOf m kind k)) d₀ at d p i
+Inv-loop d₀ at x kind n p₀ i₀ d p i = (i ≤ n) × Looping (λ k. stamped kind k (bodiesOf x kind k)) d₀ at d p i
 
 abbrev μ-loop : tie.MeasureT-loop
-μ-loop d₀ at m kind n p₀ i₀ d p i = n - i
+μ-loop d₀ at x kind n p₀ i₀ d p i = n - i
 
 count-of-requires : tie.Need-count-of-requires Inv-loop μ-loop
 count-of-requires c κs = search needs
@@ -19,10 +19,10 @@ loop-holds : tie.Need-loop-holds Inv-loop μ-loop
 loop-holds c = (search needs, loop-start _ (search needs) (search needs))
 
 cast-put-item : tie.Need-cast-put-item Inv-loop μ-loop
-cast-put-item c = let k = count-small _ (c .before .before .before .before .before .args .kind) (c .before .before .before .before .before .pre) in let e = c .before .before .before .count-of .ensures in let l = c .before .loop-test .taken in search needs
+cast-put-item c = let k = count-small (c .before .before .before .before .before .args .x) (c .before .before .before .before .before .args .kind) (c .before .before .before .before .before .pre) in let e = c .before .before .before .count-of .ensures in let l = c .before .loop-test .taken in search needs
 
 put-item-requires : tie.Need-put-item-requires Inv-loop μ-loop
-put-item-requires c κs = search needs
+put-item-requires c κs = c .before .before .before .before .before .pre
 
 add-i : tie.Need-add-i Inv-loop μ-loop
 add-i c = search needs

@@ -11,16 +11,13 @@ put-deactivate-requires : tie.Need-put-deactivate-requires
 put-deactivate-requires c κs = search needs
 
 put-dispatch-requires : tie.Need-put-dispatch-requires
-put-dispatch-requires c κs = search needs
+put-dispatch-requires c κs = c .before .before .before .pre
 
 put-start-requires : tie.Need-put-start-requires
-put-start-requires c κs = search needs
-
-put-complete-requires : tie.Need-put-complete-requires
-put-complete-requires c κs = search needs
+put-start-requires c κs = c .before .before .before .pre
 
 put-deadline-requires : tie.Need-put-deadline-requires
-put-deadline-requires c κs = search needs
+put-deadline-requires c κs = c .before .before .before .pre
 
 put-miss-requires : tie.Need-put-miss-requires
 put-miss-requires c κs = search needs
@@ -29,10 +26,10 @@ put-request-requires : tie.Need-put-request-requires
 put-request-requires c κs = search needs
 
 put-enter-requires : tie.Need-put-enter-requires
-put-enter-requires c κs = search needs
+put-enter-requires c κs = c .before .before .before .pre
 
 put-leave-requires : tie.Need-put-leave-requires
-put-leave-requires c κs = search needs
+put-leave-requires c κs = c .before .before .before .pre
 
 same-length : tie.Need-same-length
 same-length c = search needs
@@ -62,40 +59,34 @@ same-length-5 : tie.Need-same-length-5
 same-length-5 c = search needs
 
 returns-5 : tie.Need-returns-5
-returns-5 c = rw (c .before .before .before .before .match .keys5) (c .before .before .put-complete .ensures)
+returns-5 c = rw (c .before .before .before .before .match .keys5) (c .before .before .put-deadline .ensures)
 
 same-length-6 : tie.Need-same-length-6
 same-length-6 c = search needs
 
 returns-6 : tie.Need-returns-6
-returns-6 c = rw (c .before .before .before .before .match .keys6) (c .before .before .put-deadline .ensures)
+returns-6 c = rw (c .before .before .before .before .match .keys6) (c .before .before .put-miss .ensures)
 
 same-length-7 : tie.Need-same-length-7
 same-length-7 c = search needs
 
 returns-7 : tie.Need-returns-7
-returns-7 c = rw (c .before .before .before .before .match .keys7) (c .before .before .put-miss .ensures)
+returns-7 c = rw (c .before .before .before .before .match .keys7) (c .before .before .put-request .ensures)
 
 same-length-8 : tie.Need-same-length-8
 same-length-8 c = search needs
 
 returns-8 : tie.Need-returns-8
-returns-8 c = rw (c .before .before .before .before .match .keys8) (c .before .before .put-request .ensures)
+returns-8 c = rw (c .before .before .before .before .match .keys8) (c .before .before .put-enter .ensures)
 
 same-length-9 : tie.Need-same-length-9
 same-length-9 c = search needs
 
 returns-9 : tie.Need-returns-9
-returns-9 c = rw (c .before .before .before .before .match .keys9) (c .before .before .put-enter .ensures)
-
-same-length-10 : tie.Need-same-length-10
-same-length-10 c = search needs
+returns-9 c = rw (c .before .before .before .before .match .keys9) (c .before .before .put-leave .ensures)
 
 returns-10 : tie.Need-returns-10
-returns-10 c = rw (c .before .before .before .before .match .keys10) (c .before .before .put-leave .ensures)
-
-returns-11 : tie.Need-returns-11
-returns-11 c = no-rules _ _ _ (simp (ne-eqb _ 1 (c .match .rest .0 .0 .0 .0 .0 .0 .0 .0 .0 .1), ne-eqb _ 2 (c .match .rest .0 .0 .0 .0 .0 .0 .0 .0 .1), ne-eqb _ 3 (c .match .rest .0 .0 .0 .0 .0 .0 .0 .1), ne-eqb _ 4 (c .match .rest .0 .0 .0 .0 .0 .0 .1), ne-eqb _ 5 (c .match .rest .0 .0 .0 .0 .0 .1), ne-eqb _ 6 (c .match .rest .0 .0 .0 .0 .1), ne-eqb _ 7 (c .match .rest .0 .0 .0 .1), ne-eqb _ 8 (c .match .rest .0 .0 .1), ne-eqb _ 9 (c .match .rest .0 .1), ne-eqb _ 10 (c .match .rest .1))) (search needs)
+returns-10 c = no-rules _ _ _ (simp (ne-eqb _ 1 (c .match .rest .0 .0 .0 .0 .0 .0 .0 .0 .1), ne-eqb _ 2 (c .match .rest .0 .0 .0 .0 .0 .0 .0 .1), ne-eqb _ 3 (c .match .rest .0 .0 .0 .0 .0 .0 .1), ne-eqb _ 4 (c .match .rest .0 .0 .0 .0 .0 .1), ne-eqb _ 6 (c .match .rest .0 .0 .0 .0 .1), ne-eqb _ 7 (c .match .rest .0 .0 .0 .1), ne-eqb _ 8 (c .match .rest .0 .0 .1), ne-eqb _ 9 (c .match .rest .0 .1), ne-eqb _ 10 (c .match .rest .1))) (search needs)
 
 pub put-item-spec : {M : Type 1} → statement M
 put-item-spec =
@@ -105,7 +96,6 @@ put-item-spec =
     put-deactivate-requires
     put-dispatch-requires
     put-start-requires
-    put-complete-requires
     put-deadline-requires
     put-miss-requires
     put-request-requires
@@ -129,6 +119,4 @@ put-item-spec =
     returns-8
     same-length-9
     returns-9
-    same-length-10
-    returns-10
-    returns-11)
+    returns-10)

@@ -1,6 +1,6 @@
 use borrow.Author.Tests.{not-true, not-false}
+use Rattle.translator.specs.Tables.{bytes-known, model-refused, model-good, output-short, table-made, table-made-at-once}
 use borrow.Author.Needs.{needs}
-use Rattle.translator.specs.Tables.{bytes-known, model-refused, model-good, output-short, table-made}
 use Rattle.translator.proofs.translate.Statement.{statement}
 use Rattle.translator.proofs.translate.Tie as tie
 
@@ -13,26 +13,38 @@ is-none-requires c κs = search needs
 returns : tie.Need-returns
 returns c = model-refused (c .before .before .before .before .before .before .args .model .now) (c .before .before .before .before .before .before .args .out .now) (c .before .before .before .read-model .result) _ (c .before .before .before .read-model .ensures) (c .before .is-none .ensures) (bytes-known (c .before .before .before .before .before .before .args .model .now) (c .before .before .before .before .before .shared-slice-known .given)) (not-true _ (c .if1 .taken))
 
-table-length-requires : tie.Need-table-length-requires
-table-length-requires c κs = model-good (c .before .before .before .before .before .before .before .args .model .now) (c .before .before .before .before .before .before .before .args .out .now) (c .before .before .before .before .read-model .result) _ (c .before .before .before .before .read-model .ensures) (c .before .before .is-none .ensures) (bytes-known (c .before .before .before .before .before .before .before .args .model .now) (c .before .before .before .before .before .before .shared-slice-known .given)) (not-false _ (c .before .if1 .left))
+put-table-requires : tie.Need-put-table-requires
+put-table-requires c κs = model-good (c .before .before .before .before .before .before .before .before .before .args .model .now) (c .before .before .before .before .before .before .before .before .before .args .out .now) (c .before .before .before .before .before .before .read-model .result) _ (c .before .before .before .before .before .before .read-model .ensures) (c .before .before .before .before .is-none .ensures) (bytes-known (c .before .before .before .before .before .before .before .before .before .args .model .now) (c .before .before .before .before .before .before .before .before .shared-slice-known .given)) (not-false _ (c .before .before .before .if1 .left))
 
 refused-requires : tie.Need-refused-requires
 refused-requires c κs = search needs
 
-returns-2 : tie.Need-returns-2
-returns-2 c = rw (c .refused .ensures) (output-short (c .before .before .before .before .before .before .before .before .before .before .args .model .now) (c .before .before .before .before .before .before .before .before .before .before .args .out .now) (c .before .before .before .before .before .before .before .read-model .result) _ (c .before .before .before .before .before .before .before .read-model .ensures) (c .before .before .before .before .before .is-none .ensures) (bytes-known (c .before .before .before .before .before .before .before .before .before .before .args .model .now) (c .before .before .before .before .before .before .before .before .before .shared-slice-known .given)) (not-false _ (c .before .before .before .before .if1 .left)) _ (c .before .before .table-length .ensures) (c .before .if2 .taken))
+same-length : tie.Need-same-length
+same-length c = search needs
 
-put-table-requires : tie.Need-put-table-requires
-put-table-requires c κs = model-good (c .before .before .before .before .before .before .before .before .before .before .args .model .now) (c .before .before .before .before .before .before .before .before .before .before .args .out .now) (c .before .before .before .before .before .before .before .read-model .result) _ (c .before .before .before .before .before .before .before .read-model .ensures) (c .before .before .before .before .before .is-none .ensures) (bytes-known (c .before .before .before .before .before .before .before .before .before .before .args .model .now) (c .before .before .before .before .before .before .before .before .before .shared-slice-known .given)) (not-false _ (c .before .before .before .before .if1 .left))
+returns-2 : tie.Need-returns-2
+returns-2 c = rw (c .refused .ensures) (table-made-at-once (c .before .before .before .before .before .before .before .before .before .before .before .before .before .args .model .now) (c .before .before .before .before .before .before .before .before .before .before .before .before .before .args .out .now) (c .before .before .before .before .before .before .before .before .before .before .read-model .result) _ (c .before .before .before .before .before .before .before .before .before .before .read-model .ensures) (c .before .before .before .before .before .before .before .before .is-none .ensures) (bytes-known (c .before .before .before .before .before .before .before .before .before .before .before .before .before .args .model .now) (c .before .before .before .before .before .before .before .before .before .before .before .before .shared-slice-known .given)) (not-false _ (c .before .before .before .before .before .before .before .if1 .left)) (c .before .before .before .before .before .if2 .taken) _ _ (c .before .before .before .put-table .ensures))
+
+table-length-requires : tie.Need-table-length-requires
+table-length-requires c κs = model-good (c .before .before .before .before .before .before .before .before .args .model .now) (c .before .before .before .before .before .before .before .before .args .out .now) (c .before .before .before .before .before .read-model .result) _ (c .before .before .before .before .before .read-model .ensures) (c .before .before .before .is-none .ensures) (bytes-known (c .before .before .before .before .before .before .before .before .args .model .now) (c .before .before .before .before .before .before .before .shared-slice-known .given)) (not-false _ (c .before .before .if1 .left))
 
 refused-requires-2 : tie.Need-refused-requires-2
 refused-requires-2 c κs = search needs
 
-same-length : tie.Need-same-length
-same-length c = search needs
-
 returns-3 : tie.Need-returns-3
-returns-3 c = rw (c .refused2 .ensures) (table-made (c .before .before .before .before .before .before .before .before .before .before .before .before .before .before .args .model .now) (c .before .before .before .before .before .before .before .before .before .before .before .before .before .before .args .out .now) (c .before .before .before .before .before .before .before .before .before .before .before .read-model .result) _ (c .before .before .before .before .before .before .before .before .before .before .before .read-model .ensures) (c .before .before .before .before .before .before .before .before .before .is-none .ensures) (bytes-known (c .before .before .before .before .before .before .before .before .before .before .before .before .before .before .args .model .now) (c .before .before .before .before .before .before .before .before .before .before .before .before .before .shared-slice-known .given)) (not-false _ (c .before .before .before .before .before .before .before .before .if1 .left)) _ (c .before .before .before .before .before .before .table-length .ensures) (c .before .before .before .before .before .if2 .left) _ _ (c .before .before .before .put-table .ensures))
+returns-3 c = rw (c .refused2 .ensures) (output-short (c .before .before .before .before .before .before .before .before .before .before .before .args .model .now) (c .before .before .before .before .before .before .before .before .before .before .before .args .out .now) (c .before .before .before .before .before .before .before .before .read-model .result) _ (c .before .before .before .before .before .before .before .before .read-model .ensures) (c .before .before .before .before .before .before .is-none .ensures) (bytes-known (c .before .before .before .before .before .before .before .before .before .before .before .args .model .now) (c .before .before .before .before .before .before .before .before .before .before .shared-slice-known .given)) (not-false _ (c .before .before .before .before .before .if1 .left)) _ (c .before .before .table-length .ensures) (c .before .if3 .taken))
+
+put-table-requires-2 : tie.Need-put-table-requires-2
+put-table-requires-2 c κs = model-good (c .before .before .before .before .before .before .before .before .before .before .before .args .model .now) (c .before .before .before .before .before .before .before .before .before .before .before .args .out .now) (c .before .before .before .before .before .before .before .before .read-model .result) _ (c .before .before .before .before .before .before .before .before .read-model .ensures) (c .before .before .before .before .before .before .is-none .ensures) (bytes-known (c .before .before .before .before .before .before .before .before .before .before .before .args .model .now) (c .before .before .before .before .before .before .before .before .before .before .shared-slice-known .given)) (not-false _ (c .before .before .before .before .before .if1 .left))
+
+refused-requires-3 : tie.Need-refused-requires-3
+refused-requires-3 c κs = search needs
+
+same-length-2 : tie.Need-same-length-2
+same-length-2 c = search needs
+
+returns-4 : tie.Need-returns-4
+returns-4 c = rw (c .refused3 .ensures) (table-made (c .before .before .before .before .before .before .before .before .before .before .before .before .before .before .before .args .model .now) (c .before .before .before .before .before .before .before .before .before .before .before .before .before .before .before .args .out .now) (c .before .before .before .before .before .before .before .before .before .before .before .before .read-model .result) _ (c .before .before .before .before .before .before .before .before .before .before .before .before .read-model .ensures) (c .before .before .before .before .before .before .before .before .before .before .is-none .ensures) (bytes-known (c .before .before .before .before .before .before .before .before .before .before .before .before .before .before .before .args .model .now) (c .before .before .before .before .before .before .before .before .before .before .before .before .before .before .shared-slice-known .given)) (not-false _ (c .before .before .before .before .before .before .before .before .before .if1 .left)) _ (c .before .before .before .before .before .before .table-length .ensures) (c .before .before .before .before .before .if3 .left) _ _ (c .before .before .before .put-table2 .ensures))
 
 pub translate-spec : {M : Type 1} → statement M
 translate-spec =
@@ -41,10 +53,14 @@ translate-spec =
     read-model-requires
     is-none-requires
     returns
-    table-length-requires
-    refused-requires
-    returns-2
     put-table-requires
-    refused-requires-2
+    refused-requires
     same-length
-    returns-3)
+    returns-2
+    table-length-requires
+    refused-requires-2
+    returns-3
+    put-table-requires-2
+    refused-requires-3
+    same-length-2
+    returns-4)
