@@ -5,51 +5,84 @@ use mathlib.Core.List.{List, [], _∷_}
 use Prim.Native.Nat.{ℕ, _<_, _≤_}
 use native.Mathlib.Omega.{arith}
 use lib.Dec.{eqb}
-use lib.ListN.{length}
+use lib.ListN.{getD}
 use borrow.Author.Tests.{lt-ltb, le-ltb, eq-eqb, ne-eqb}
-use Rattle.numbers.specs.ListLaws.{first-found, first-none}
+use Rattle.numbers.specs.ListLaws.{item-within, first-found, first-none}
 use Rattle.model_format.specs.declared.Thread.{Thread}
 use Rattle.model_format.specs.declared.Timing.{Timing}
 use Rattle.model_format.specs.declared.Connection.{Connection}
-use Rattle.model_format.specs.Model.{threadAt, inputOwner, connectionAt, immediate, isKind, sourceThread}
+use Rattle.model_format.specs.Model.{maxThreads, maxInputs, maxOutputs, maxConnections, noThread, noConnection, threadAt, inputOwner, outputOwner, connectionAt, isKind, sourceThread, targetThread}
 use Rattle.model_format.specs.WellFormed.{GoodTiming}
 use Rattle.table_format.specs.declared.Update.{Update}
 use Rattle.table_format.specs.Variables.{flagVar, inputVar, bufferVar, outputVar, noVariable}
 use Rattle.translate.specs.Parts.{variable, copied, updateWhen}
 use Rattle.translate.specs.Rules.{delayedClause, besideClause, comingClause, takeBuffer, immediateInto, dispatchPort, startPort}
-use Rattle.rule_writer.specs.Lists.{WroteClauses, WroteUpdates, joins-clauses, joins-updates, Counted}
-use Rattle.thread_rules.specs.Pieces.{delayedFrom, besideFrom, comingFrom, feedsAtOnce}
-use Rattle.thread_rules.specs.Laws.{same-variable, update-named, wrote-more, where-passed, where-failed}
+use Rattle.rule_writer.specs.Lists.{WroteClauses, WroteUpdates, joins-updates, Counted}
+use Rattle.thread_rules.specs.Pieces.{delayedFrom, besideFrom, comingFrom, sentFrom, feedsAtOnce}
+use Rattle.thread_rules.specs.Laws.{same-variable, update-named, where-passed, where-failed}
 
--- ---- ports of a connection, which fit a byte
-module _ {m : Timing} (g : GoodTiming m) where
-  pub target-fits : {c : ℕ} {x : Connection} → c < m .connections → x ≡ connectionAt m c → x .target < 256
-  target-fits {c} h e = let k = g .inputs in let l = g .target c h in rw e (omega arith)
+-- ---- items by their places
+abbrev pub connectionIn : Timing → ℕ → Connection
+connectionIn m c = getD (m .connection) c noConnection
 
-  pub source-fits : {c : ℕ} {x : Connection} → c < m .connections → x ≡ connectionAt m c → x .source < 256
-  source-fits {c} h e = let k = g .outputs in let l = g .source c h in rw e (omega arith)
+abbrev pub sourceIn : Timing → ℕ → ℕ
+sourceIn m c = getD (m .output) (connectionIn m c .source) 0
+
+module _ {m : Timing} (g : GoodTiming m) {c : ℕ} (h : c < m .connections) where
+  connection-is : connectionIn m c ≡ connectionAt m c
+  unfolding connectionAt
+  connection-is = rw (item-within maxConnections (m .connection) c noConnection (omega (arith, g .connections)))
+
+  pub kind-is : (kind : ℕ) → eqb (connectionIn m c .kind) kind ≡ isKind m kind c
+  kind-is kind = rw connection-is
+
+  pub source-small : connectionIn m c .source < 32
+  source-small = rw connection-is (omega (arith, g .source c h, g .outputs))
+
+  pub target-small : connectionIn m c .target < 32
+  target-small = rw connection-is (omega (arith, g .target c h, g .inputs))
+
+  pub source-is : sourceIn m c ≡ sourceThread m c
+  unfolding outputOwner
+  source-is = rw (connection-is, item-within maxOutputs (m .output) (connectionAt m c .source) 0 (omega (arith, g .source c h, g .outputs)))
+
+  pub target-is : getD (m .input) (connectionIn m c .target) 0 ≡ targetThread m c
+  unfolding inputOwner
+  target-is = rw (connection-is, item-within maxInputs (m .input) (connectionAt m c .target) 0 (omega (arith, g .target c h, g .inputs)))
+
+  pub thread-small : sourceIn m c < 16
+  thread-small = rw source-is (omega (arith, g .output (connectionAt m c .source) (g .source c h), g .threads))
+
+  pub thread-is : getD (m .thread) (sourceIn m c) noThread ≡ threadAt m (sourceIn m c)
+  unfolding threadAt
+  thread-is = rw (item-within maxThreads (m .thread) (sourceIn m c) noThread thread-small)
+
+  -- what it sends
+  pub sent-over : {d e : List ℕ} {at p : ℕ} → WroteUpdates d at (sentFrom c (connectionIn m c) ∷ []) e p → WroteUpdates d at (sentFrom c (connectionAt m c) ∷ []) e p
+  sent-over w = rw connection-is at w
+
+  pub feeds-is : (i : ℕ) → (eqb (connectionIn m c .kind) 0 && eqb (connectionIn m c .target) i) ≡ feedsAtOnce m i c
+  feeds-is i = rw connection-is
+
+pub input-is : {m : Timing} (g : GoodTiming m) {i : ℕ} → i < m .inputs → getD (m .input) i 0 ≡ inputOwner m i
+unfolding inputOwner
+input-is {m} g {i} h = rw (item-within maxInputs (m .input) i 0 (omega (arith, g .inputs)))
 
 -- ---- connection c
-module _ (m : Timing) (c : ℕ) {d : List ℕ} {at : ℕ} where
-  pub sent-over : {e : List ℕ} {p flag buffer output : ℕ} {x : Connection} →
-      x ≡ connectionAt m c → flag ≡ flagVar c → buffer ≡ bufferVar (x .target) → output ≡ outputVar (x .source) →
-      WroteUpdates d at (updateWhen flag 1 buffer (copied (variable output)) ∷ []) e p →
-      WroteUpdates d at (updateWhen (flagVar c) 1 (bufferVar (connectionAt m c .target)) (copied (variable (outputVar (connectionAt m c .source)))) ∷ []) e p
-  sent-over y q r s w = update-named _ _ _ q (rw y at r) (same-variable (rw y at s)) w
+pub sent-from : {d e : List ℕ} {at p flag buffer output : ℕ} (c : ℕ) (x : Connection) → flag ≡ flagVar c → buffer ≡ bufferVar (x .target) → output ≡ outputVar (x .source) →
+    WroteUpdates d at (updateWhen flag 1 buffer (copied (variable output)) ∷ []) e p → WroteUpdates d at (sentFrom c x ∷ []) e p
+sent-from c x q r s w = update-named _ _ _ q r (same-variable s) w
 
+module _ (m : Timing) (c : ℕ) {d : List ℕ} {at : ℕ} where
   pub delayed-wait : {e : List ℕ} {p u : ℕ} → u ≡ sourceThread m c → WroteClauses d at (delayedFrom c u ∷ []) e p → WroteClauses d at (delayedClause m c ∷ []) e p
   delayed-wait k w = rw k at w
 
-  pub immediate-wait : (t : ℕ) {e g : List ℕ} {p q u : ℕ} {x : Thread} → Counted (length d) → u ≡ sourceThread m c → x ≡ threadAt m u →
-      WroteClauses d at (besideFrom t c u ∷ []) e p → WroteClauses e p (comingFrom t c u (x .period .0) ∷ []) g q →
-      WroteClauses d at (besideClause m t c ∷ comingClause m t c ∷ []) g q
-  immediate-wait t h k y w v = wrote-more joins-clauses _ _ h (rw k at w) (λ n. rw (y, k) at v)
+  pub immediate-wait : (t : ℕ) {e : List ℕ} {p u : ℕ} (x : Thread) → u ≡ sourceThread m c → x ≡ threadAt m u →
+      WroteClauses d at (besideFrom t c u ∷ comingFrom t c u (x .period .0) ∷ []) e p → WroteClauses d at (besideClause m t c ∷ comingClause m t c ∷ []) e p
+  immediate-wait t x k y w = rw (y, k) at w
 
 -- ---- input port i
 module _ (m : Timing) (i : ℕ) where
-  pub feeds-is : (c : ℕ) {here : Bool} {x : Connection} → here ≡ isKind m immediate c → x ≡ connectionAt m c → (here && eqb (x .target) i) ≡ feedsAtOnce m i c
-  feeds-is c h e = rw (h, e)
-
   pub into-found : {c : ℕ} {b : Bool} → c < m .connections → b ≡ feedsAtOnce m i c → b ≡ true → ((k : ℕ) → k < c → feedsAtOnce m i k ≡ false) → c ≡ immediateInto m i
   unfolding immediateInto
   into-found h e b z = sym (first-found _ (feedsAtOnce m i) _ h (sym e ∙ b) z)

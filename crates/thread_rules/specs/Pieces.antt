@@ -4,6 +4,7 @@ use mathlib.Core.List.{List, [], _∷_}
 use Prim.Native.Nat.{ℕ}
 use lib.Dec.{eqb}
 use Rattle.numbers.specs.Lists.{joinBelow, only}
+use Rattle.model_format.specs.declared.Connection.{Connection}
 use Rattle.model_format.specs.declared.Timing.{Timing}
 use Rattle.model_format.specs.Model.{threadAt, inputOwner, connectionAt, immediate, delayed, isKind, sourceThread, targetThread}
 use Rattle.model.specs.State.{none}
@@ -28,11 +29,13 @@ comingFrom t c u period =
     equals (flagVar c) (constant 0) ∷ equals (activeVar u) (constant 0) ∷ isAtLeast (stateVar u) (constant waitingExecution) ∷ differs (dispatchVar t) (variable nowVar) ∷
     noMultipleOf nowVar (constant period) ∷ []
 
+-- what connection c, which is x, sends
+abbrev pub sentFrom : ℕ → Connection → Update
+sentFrom c x = updateWhen (flagVar c) 1 (bufferVar (x .target)) (copied (variable (outputVar (x .source))))
+
 -- ---- connection c of a model
 abbrev pub sentOver : Timing → ℕ → ℕ → ℕ → List Update
-sentOver m kind t c =
-    only (isKind m kind c && eqb (sourceThread m c) t)
-    (updateWhen (flagVar c) 1 (bufferVar (connectionAt m c .target)) (copied (variable (outputVar (connectionAt m c .source)))))
+sentOver m kind t c = only (isKind m kind c && eqb (sourceThread m c) t) (sentFrom c (connectionAt m c))
 
 abbrev pub delayedWait : Timing → ℕ → ℕ → List (List Atom)
 delayedWait m t c = cond (isKind m delayed c && eqb (targetThread m c) t) (delayedClause m c ∷ []) []

@@ -1,9 +1,6 @@
 // The input ports of a thread, each of which takes its buffer.
 
 use model_format::Timing;
-use model_format::connection_at;
-use model_format::input_owner;
-use model_format::is_kind;
 use rule_writer::NO_VARIABLE;
 use rule_writer::buffer_var;
 use rule_writer::flag_var;
@@ -14,26 +11,20 @@ ghost use mathlib.Core.List.{[], _∷_};
 ghost use Rattle.table_format.specs.Variables.{inputVar};
 ghost use Rattle.model_format.specs.WellFormed.{GoodTiming};
 ghost use Rattle.translate.specs.Parts.{updateWhen};
-ghost use Rattle.translate.specs.Rules.{takeBuffer, immediateInto};
+ghost use Rattle.translate.specs.Rules.{takeBuffer, immediateInto, dispatchPort, startPort};
 ghost use Rattle.rule_writer.specs.Lists.{WroteUpdates};
 ghost use Rattle.thread_rules.specs.Pieces as pieces;
 
-fn feeds_at_once(m: Timing, i: u8, c: usize) -> bool
-    ensures { λ r. ⌜ r ≡ pieces.feedsAtOnce m i c ⌝ }
-{
-    let here = is_kind(m, 0, c);
-    let x = connection_at(m, c);
-    here & (x.target == (i as u16))
-}
-
 // The immediate connection into input port i, or the number of connections.
 fn immediate_into(m: Timing, i: u8) -> usize
+    requires { ⌜ GoodTiming m ⌝ }
     ensures { λ r. ⌜ r ≡ immediateInto m i ⌝ }
 {
     let n = m.connections;
     let mut c: usize = 0;
     while c < n {
-        if feeds_at_once(m, i, c) {
+        let x = m.connection[c];
+        if (x.kind == 0) & (x.target == (i as u16)) {
             return c;
         }
         c += 1;
@@ -49,15 +40,11 @@ fn put_taken(d: &mut [u8], at: usize, condition: u16, wanted: u8, i: u8) -> usiz
     put_copy(d, at, condition, wanted, input, buffer)
 }
 
-// Input port i, if it is one of thread t: a live immediate connection into it has the port wait for START.
-fn put_dispatch_port(d: &mut [u8], at: usize, m: Timing, t: u8, i: u8) -> usize
+// Input port i: a live immediate connection into it has the port wait for START.
+fn put_dispatch_port(d: &mut [u8], at: usize, m: Timing, i: u8) -> usize
     requires { ⌜ GoodTiming m ⌝ }
-    ensures { λ r. ⌜ WroteUpdates (now (d .entry)) at (pieces.portAtDispatch m t i) (now (d .exit)) r ⌝ }
+    ensures { λ r. ⌜ WroteUpdates (now (d .entry)) at (dispatchPort m i) (now (d .exit)) r ⌝ }
 {
-    let owner = input_owner(m, i as usize);
-    if owner != t {
-        return at;
-    }
     let c = immediate_into(m, i);
     if c < m.connections {
         let flag = flag_var(c as u8);
@@ -67,14 +54,10 @@ fn put_dispatch_port(d: &mut [u8], at: usize, m: Timing, t: u8, i: u8) -> usize
     }
 }
 
-fn put_start_port(d: &mut [u8], at: usize, m: Timing, t: u8, i: u8) -> usize
+fn put_start_port(d: &mut [u8], at: usize, m: Timing, i: u8) -> usize
     requires { ⌜ GoodTiming m ⌝ }
-    ensures { λ r. ⌜ WroteUpdates (now (d .entry)) at (pieces.portAtStart m t i) (now (d .exit)) r ⌝ }
+    ensures { λ r. ⌜ WroteUpdates (now (d .entry)) at (startPort m i) (now (d .exit)) r ⌝ }
 {
-    let owner = input_owner(m, i as usize);
-    if owner != t {
-        return at;
-    }
     let c = immediate_into(m, i);
     if c < m.connections {
         let flag = flag_var(c as u8);
@@ -92,8 +75,12 @@ pub fn put_dispatch_ports(d: &mut [u8], at: usize, m: Timing, t: u8) -> usize
     let mut p = at;
     let mut i: usize = 0;
     while i < n {
-        p = put_dispatch_port(d, p, m, t, i as u8);
+        let k = i as u8;
+        let owner = m.input[i];
         i += 1;
+        if owner == t {
+            p = put_dispatch_port(d, p, m, k);
+        }
     }
     p
 }
@@ -106,8 +93,12 @@ pub fn put_start_ports(d: &mut [u8], at: usize, m: Timing, t: u8) -> usize
     let mut p = at;
     let mut i: usize = 0;
     while i < n {
-        p = put_start_port(d, p, m, t, i as u8);
+        let k = i as u8;
+        let owner = m.input[i];
         i += 1;
+        if owner == t {
+            p = put_start_port(d, p, m, k);
+        }
     }
     p
 }

@@ -1,10 +1,6 @@
 // What a thread waits for: the clauses of each connection into it.
 
 use model_format::Timing;
-use model_format::is_kind;
-use model_format::source_thread;
-use model_format::target_thread;
-use model_format::thread_at;
 use rule_writer::NOW;
 use rule_writer::active_var;
 use rule_writer::dispatch_var;
@@ -63,37 +59,15 @@ fn put_coming(d: &mut [u8], at: usize, t: u8, c: u8, u: u8, period: u32) -> usiz
     put_compared(d, e, 7, NOW, period)
 }
 
-// Connection c, if it is a delayed one into thread t.
-fn put_delayed_wait(d: &mut [u8], at: usize, m: Timing, t: u8, c: u8) -> usize
-    ensures { λ r. ⌜ WroteClauses (now (d .entry)) at (pieces.delayedWait m t c) (now (d .exit)) r ⌝ }
+// Both for an immediate connection c from thread u, which has the period given.
+fn put_immediate(d: &mut [u8], at: usize, t: u8, c: u8, u: u8, period: u32) -> usize
+    ensures { λ r. ⌜ WroteClauses (now (d .entry)) at (pieces.besideFrom t c u ∷ pieces.comingFrom t c u period ∷ []) (now (d .exit)) r ⌝ }
 {
-    let k = c as usize;
-    let here = is_kind(m, 1, k);
-    let to = target_thread(m, k);
-    if here & (to == t) {
-        let u = source_thread(m, k);
-        put_delayed(d, at, c, u)
-    } else {
-        at
-    }
+    let p = put_beside(d, at, t, c, u);
+    put_coming(d, p, t, c, u, period)
 }
 
-fn put_immediate_wait(d: &mut [u8], at: usize, m: Timing, t: u8, c: u8) -> usize
-    ensures { λ r. ⌜ WroteClauses (now (d .entry)) at (pieces.immediateWait m t c) (now (d .exit)) r ⌝ }
-{
-    let k = c as usize;
-    let here = is_kind(m, 0, k);
-    let to = target_thread(m, k);
-    if here & (to == t) {
-        let u = source_thread(m, k);
-        let x = thread_at(m, u as usize);
-        let p = put_beside(d, at, t, c, u);
-        put_coming(d, p, t, c, u, x.period.0)
-    } else {
-        at
-    }
-}
-
+// The delayed connections into thread t.
 pub fn put_delayed_waits(d: &mut [u8], at: usize, m: Timing, t: u8) -> usize
     requires { ⌜ GoodTiming m ⌝ }
     ensures { λ r. ⌜ WroteClauses (now (d .entry)) at (pieces.delayedWaits m t) (now (d .exit)) r ⌝ }
@@ -102,8 +76,16 @@ pub fn put_delayed_waits(d: &mut [u8], at: usize, m: Timing, t: u8) -> usize
     let mut p = at;
     let mut c: usize = 0;
     while c < n {
-        p = put_delayed_wait(d, p, m, t, c as u8);
+        let k = c as u8;
+        let x = m.connection[c];
+        let i = x.target as usize;
+        let to = m.input[i];
         c += 1;
+        if (x.kind == 1) & (to == t) {
+            let o = x.source as usize;
+            let u = m.output[o];
+            p = put_delayed(d, p, k, u);
+        }
     }
     p
 }
@@ -116,8 +98,18 @@ pub fn put_immediate_waits(d: &mut [u8], at: usize, m: Timing, t: u8) -> usize
     let mut p = at;
     let mut c: usize = 0;
     while c < n {
-        p = put_immediate_wait(d, p, m, t, c as u8);
+        let k = c as u8;
+        let x = m.connection[c];
+        let i = x.target as usize;
+        let to = m.input[i];
         c += 1;
+        if (x.kind == 0) & (to == t) {
+            let o = x.source as usize;
+            let u = m.output[o];
+            let v = u as usize;
+            let y = m.thread[v];
+            p = put_immediate(d, p, t, k, u, y.period.0);
+        }
     }
     p
 }

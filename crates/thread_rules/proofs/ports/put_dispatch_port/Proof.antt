@@ -1,19 +1,13 @@
-use Rattle.thread_rules.specs.Items.{other-port, own-port, dispatch-fed, dispatch-free}
+use Rattle.thread_rules.specs.Items.{dispatch-fed, dispatch-free}
 use borrow.Author.Needs.{needs}
 use Rattle.thread_rules.proofs.ports.put_dispatch_port.Statement.{statement}
 use Rattle.thread_rules.proofs.ports.put_dispatch_port.Tie as tie
 
-input-owner-requires : tie.Need-input-owner-requires
-input-owner-requires c κs = search needs
-
-returns : tie.Need-returns
-returns c = other-port (c .before .before .before .args .m) (c .before .before .before .args .i) _ _ (c .before .input-owner .ensures) (c .if1 .taken) (c .before .before .before .fits .at .fits)
-
 immediate-into-requires : tie.Need-immediate-into-requires
-immediate-into-requires c κs = search needs
+immediate-into-requires c κs = c .before .pre
 
 cast-flag-var : tie.Need-cast-flag-var
-cast-flag-var c = search needs
+cast-flag-var c = let h = c .before .before .before .before .pre .connections in let n = c .if1 .taken in search needs
 
 flag-var-requires : tie.Need-flag-var-requires
 flag-var-requires c κs = search needs
@@ -27,31 +21,25 @@ put-taken-requires-2 c κs = search needs
 same-length : tie.Need-same-length
 same-length c = search needs
 
-returns-2 : tie.Need-returns-2
-returns-2 c =
-    own-port (c .before .before .before .before .before .before .before .before .before .before .before .args .m) (c .before .before .before .before .before .before .before .before .before .before .before .args .i) _ _ (c .before .before .before .before .before .before .before .before .before .input-owner .ensures) (c .before .before .before .before .before .before .before .before .if1 .left)
-    (dispatch-fed (c .before .before .before .before .before .before .before .before .before .before .before .args .m) (c .before .before .before .before .before .before .before .before .before .before .before .args .i) (c .before .before .before .before .before .before .before .immediate-into .ensures) (c .before .before .before .before .before .if2 .taken) (c .before .before .before .before .flag-var .ensures) (c .before .before .put-taken .ensures))
+returns : tie.Need-returns
+returns c = dispatch-fed (c .before .before .before .before .before .before .before .before .before .args .m) (c .before .before .before .before .before .before .before .before .before .args .i) (c .before .before .before .before .before .before .before .immediate-into .ensures) (c .before .before .before .before .before .if1 .taken) (c .before .before .before .before .flag-var .ensures) (c .before .before .put-taken .ensures)
 
 same-length-2 : tie.Need-same-length-2
 same-length-2 c = search needs
 
-returns-3 : tie.Need-returns-3
-returns-3 c =
-    own-port (c .before .before .before .before .before .before .before .before .before .before .args .m) (c .before .before .before .before .before .before .before .before .before .before .args .i) _ _ (c .before .before .before .before .before .before .before .before .input-owner .ensures) (c .before .before .before .before .before .before .before .if1 .left)
-    (dispatch-free (c .before .before .before .before .before .before .before .before .before .before .args .m) (c .before .before .before .before .before .before .before .before .before .before .args .i) (c .before .before .before .before .before .before .immediate-into .ensures) (c .before .before .before .before .if2 .left) (c .before .before .put-taken2 .ensures))
+returns-2 : tie.Need-returns-2
+returns-2 c = dispatch-free (c .before .before .before .before .before .before .before .before .args .m) (c .before .before .before .before .before .before .before .before .args .i) (c .before .before .before .before .before .before .immediate-into .ensures) (c .before .before .before .before .if1 .left) (c .before .before .put-taken2 .ensures)
 
 pub put-dispatch-port-spec : {M : Type 1} → statement M
 put-dispatch-port-spec =
     tie.close
     (tie.spec
-    input-owner-requires
-    returns
     immediate-into-requires
     cast-flag-var
     flag-var-requires
     put-taken-requires
     put-taken-requires-2
     same-length
-    returns-2
+    returns
     same-length-2
-    returns-3)
+    returns-2)

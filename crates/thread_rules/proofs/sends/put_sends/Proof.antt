@@ -3,37 +3,60 @@ use native.Mathlib.Omega.{arith}
 use Rattle.numbers.specs.Lists.{joinBelow}
 use Rattle.rule_writer.specs.Lists.{WroteUpdates, joins-updates, loop-begins, loop-next, loop-ends}
 use Rattle.thread_rules.specs.Pieces.{sentOver}
+use Rattle.thread_rules.specs.Laws.{where-joined, where-not-joined}
+use Rattle.thread_rules.specs.Items.{kind-is, source-small, target-small, source-is, sent-over}
 use Rattle.writer.specs.Written.{keeps-length}
 use borrow.Author.Needs.{needs}
 use Rattle.thread_rules.proofs.sends.put_sends.Statement.{statement}
 use Rattle.thread_rules.proofs.sends.put_sends.Tie as tie
 
 abbrev Inv-loop : tie.InvT-loop
-Inv-loop d₀ at m kind t n p₀ c₀ d p c = (c ≤ n) × (WroteUpdates d₀ at (joinBelow c (sentOver m kind t)) d p)
+Inv-loop d₀ at kind t m n p₀ c₀ d p c = (c ≤ n) × WroteUpdates d₀ at (joinBelow c (sentOver m kind t)) d p
 
 abbrev μ-loop : tie.MeasureT-loop
-μ-loop d₀ at m kind t n p₀ c₀ d p c = n - c
+μ-loop d₀ at kind t m n p₀ c₀ d p c = n - c
 
 loop-holds : tie.Need-loop-holds Inv-loop μ-loop
 loop-holds c = (omega arith, loop-begins joins-updates _ (c .before .fits .at .fits))
 
-put-sent-requires : tie.Need-put-sent-requires Inv-loop μ-loop
-put-sent-requires c κs = search needs
+cast-k : tie.Need-cast-k Inv-loop μ-loop
+cast-k c = let h = c .before .before .before .pre .connections in let n = c .loop-test .taken in search needs
+
+mul-x : tie.Need-mul-x Inv-loop μ-loop
+mul-x c = search needs
+
+element-copy-out-x : tie.Need-element-copy-out-x Inv-loop μ-loop
+element-copy-out-x c = let h = c .before .before .before .pre .connections in let n = c .loop-test .taken in search needs
+
+cast-o : tie.Need-cast-o Inv-loop μ-loop
+cast-o c = search needs
+
+element-copy-out-u : tie.Need-element-copy-out-u Inv-loop μ-loop
+element-copy-out-u c = let h = source-small (c .before .before .before .before .before .pre) (c .before .before .loop-test .taken) in search needs
 
 add-c : tie.Need-add-c Inv-loop μ-loop
 add-c c = search needs
+
+put-sent-requires : tie.Need-put-sent-requires Inv-loop μ-loop
+put-sent-requires c κs = (source-small (c .before .before .before .before .before .before .before .before .before .pre) (c .before .before .before .before .before .before .loop-test .taken), target-small (c .before .before .before .before .before .before .before .before .before .pre) (c .before .before .before .before .before .before .loop-test .taken))
 
 loop-less : tie.Need-loop-less Inv-loop μ-loop
 loop-less c = search needs
 
 loop-again : tie.Need-loop-again Inv-loop μ-loop
-loop-again c = (omega arith, loop-next joins-updates _ (sentOver (c .before .before .before .before .before .before .before .args .m) (c .before .before .before .before .before .before .before .args .kind) (c .before .before .before .before .before .before .before .args .t)) (c .before .before .before .before .before .before .before .good .0 .0) (c .before .before .before .before .before .loop .inv .1) (c .before .before .put-sent .ensures))
+loop-again c = (omega arith, loop-next joins-updates _ (sentOver (c .before .before .before .before .before .before .before .before .before .before .before .before .args .t3) (c .before .before .before .before .before .before .before .before .before .before .before .before .args .kind) (c .before .before .before .before .before .before .before .before .before .before .before .before .args .t)) (c .before .before .before .before .before .before .before .before .before .before .before .before .good .0 .0) (c .before .before .before .before .before .before .before .before .before .before .loop .inv .1) (where-joined joins-updates (kind-is (c .before .before .before .before .before .before .before .before .before .before .before .before .pre) (c .before .before .before .before .before .before .before .before .before .loop-test .taken) (c .before .before .before .before .before .before .before .before .before .before .before .before .args .kind)) (source-is (c .before .before .before .before .before .before .before .before .before .before .before .before .pre) (c .before .before .before .before .before .before .before .before .before .loop-test .taken)) _ _ (c .before .before .before .before .if1 .taken) (sent-over (c .before .before .before .before .before .before .before .before .before .before .before .before .pre) (c .before .before .before .before .before .before .before .before .before .loop-test .taken) (c .before .before .put-sent .ensures))))
+
+loop-less-2 : tie.Need-loop-less-2 Inv-loop μ-loop
+loop-less-2 c = search needs
+
+loop-again-2 : tie.Need-loop-again-2 Inv-loop μ-loop
+loop-again-2 c = (omega arith, loop-next joins-updates _ (sentOver (c .before .before .before .before .before .before .before .before .args .t3) (c .before .before .before .before .before .before .before .before .args .kind) (c .before .before .before .before .before .before .before .before .args .t)) (c .before .before .before .before .before .before .before .before .good .0 .0) (c .before .before .before .before .before .before .loop .inv .1) (where-not-joined joins-updates (kind-is (c .before .before .before .before .before .before .before .before .pre) (c .before .before .before .before .before .loop-test .taken) (c .before .before .before .before .before .before .before .before .args .kind)) (source-is (c .before .before .before .before .before .before .before .before .pre) (c .before .before .before .before .before .loop-test .taken)) _ _ (c .if1 .left) (search needs)))
 
 same-length : tie.Need-same-length Inv-loop μ-loop
 same-length c = keeps-length (c .before .loop .inv .1)
 
 returns : tie.Need-returns Inv-loop μ-loop
-returns c = loop-ends joins-updates (sentOver (c .before .before .before .args .m) (c .before .before .before .args .kind) (c .before .before .before .args .t)) _ _ (c .before .loop .inv .0) (c .loop-test .left) (c .before .loop .inv .1)
+returns c = loop-ends joins-updates (sentOver (c .before .before .before .args .t3) (c .before .before .before .args .kind) (c .before .before .before .args .t)) _ _ (c .before .loop .inv .0) (c .loop-test .left) (c .before .loop .inv .1)
 
 pub put-sends-spec : {M : Type 1} → statement M
 put-sends-spec =
@@ -42,9 +65,16 @@ put-sends-spec =
     Inv-loop
     μ-loop
     loop-holds
-    put-sent-requires
+    cast-k
+    mul-x
+    element-copy-out-x
+    cast-o
+    element-copy-out-u
     add-c
+    put-sent-requires
     loop-less
     loop-again
+    loop-less-2
+    loop-again-2
     same-length
     returns)

@@ -3,40 +3,66 @@ use native.Mathlib.Omega.{arith}
 use Rattle.numbers.specs.Lists.{joinBelow}
 use Rattle.rule_writer.specs.Lists.{WroteClauses, joins-clauses, loop-begins, loop-next, loop-ends}
 use Rattle.thread_rules.specs.Pieces.{delayedWait}
+use Rattle.thread_rules.specs.Laws.{where-joined, where-not-joined}
+use Rattle.thread_rules.specs.Items.{kind-is, source-small, target-small, source-is, target-is, delayed-wait}
 use Rattle.writer.specs.Written.{keeps-length}
 use borrow.Author.Needs.{needs}
 use Rattle.thread_rules.proofs.waits.put_delayed_waits.Statement.{statement}
 use Rattle.thread_rules.proofs.waits.put_delayed_waits.Tie as tie
 
 abbrev Inv-loop : tie.InvT-loop
-Inv-loop d₀ at m t n p₀ c₀ d p c = (c ≤ n) × (WroteClauses d₀ at (joinBelow c (delayedWait m t)) d p)
+Inv-loop d₀ at t m n p₀ c₀ d p c = (c ≤ n) × WroteClauses d₀ at (joinBelow c (delayedWait m t)) d p
 
 abbrev μ-loop : tie.MeasureT-loop
-μ-loop d₀ at m t n p₀ c₀ d p c = n - c
+μ-loop d₀ at t m n p₀ c₀ d p c = n - c
 
 loop-holds : tie.Need-loop-holds Inv-loop μ-loop
 loop-holds c = (omega arith, loop-begins joins-clauses _ (c .before .fits .at .fits))
 
-cast-put-delayed-wait : tie.Need-cast-put-delayed-wait Inv-loop μ-loop
-cast-put-delayed-wait c = search needs
+cast-k : tie.Need-cast-k Inv-loop μ-loop
+cast-k c = let h = c .before .before .before .pre .connections in let n = c .loop-test .taken in search needs
 
-put-delayed-wait-requires : tie.Need-put-delayed-wait-requires Inv-loop μ-loop
-put-delayed-wait-requires c κs = search needs
+mul-x : tie.Need-mul-x Inv-loop μ-loop
+mul-x c = search needs
+
+element-copy-out-x : tie.Need-element-copy-out-x Inv-loop μ-loop
+element-copy-out-x c = let h = c .before .before .before .pre .connections in let n = c .loop-test .taken in search needs
+
+cast-i : tie.Need-cast-i Inv-loop μ-loop
+cast-i c = search needs
+
+element-copy-out-to : tie.Need-element-copy-out-to Inv-loop μ-loop
+element-copy-out-to c = let h = target-small (c .before .before .before .before .before .pre) (c .before .before .loop-test .taken) in search needs
 
 add-c : tie.Need-add-c Inv-loop μ-loop
 add-c c = search needs
+
+cast-o : tie.Need-cast-o Inv-loop μ-loop
+cast-o c = search needs
+
+element-copy-out-u : tie.Need-element-copy-out-u Inv-loop μ-loop
+element-copy-out-u c = let h = source-small (c .before .before .before .before .before .before .before .before .before .pre) (c .before .before .before .before .before .before .loop-test .taken) in search needs
+
+put-delayed-requires : tie.Need-put-delayed-requires Inv-loop μ-loop
+put-delayed-requires c κs = search needs
 
 loop-less : tie.Need-loop-less Inv-loop μ-loop
 loop-less c = search needs
 
 loop-again : tie.Need-loop-again Inv-loop μ-loop
-loop-again c = (omega arith, loop-next joins-clauses _ (delayedWait (c .before .before .before .before .before .before .before .args .m) (c .before .before .before .before .before .before .before .args .t)) (c .before .before .before .before .before .before .before .good .0 .0) (c .before .before .before .before .before .loop .inv .1) (c .before .before .put-delayed-wait .ensures))
+loop-again c = (omega arith, loop-next joins-clauses _ (delayedWait (c .before .before .before .before .before .before .before .before .before .before .before .before .before .before .args .t3) (c .before .before .before .before .before .before .before .before .before .before .before .before .before .before .args .t)) (c .before .before .before .before .before .before .before .before .before .before .before .before .before .before .good .0 .0) (c .before .before .before .before .before .before .before .before .before .before .before .before .loop .inv .1) (where-joined joins-clauses (kind-is (c .before .before .before .before .before .before .before .before .before .before .before .before .before .before .pre) (c .before .before .before .before .before .before .before .before .before .before .before .loop-test .taken) 1) (target-is (c .before .before .before .before .before .before .before .before .before .before .before .before .before .before .pre) (c .before .before .before .before .before .before .before .before .before .before .before .loop-test .taken)) _ _ (c .before .before .before .before .before .before .if1 .taken) (delayed-wait (c .before .before .before .before .before .before .before .before .before .before .before .before .before .before .args .t3) _ (source-is (c .before .before .before .before .before .before .before .before .before .before .before .before .before .before .pre) (c .before .before .before .before .before .before .before .before .before .before .before .loop-test .taken)) (c .before .before .put-delayed .ensures))))
+
+loop-less-2 : tie.Need-loop-less-2 Inv-loop μ-loop
+loop-less-2 c = search needs
+
+loop-again-2 : tie.Need-loop-again-2 Inv-loop μ-loop
+loop-again-2 c = (omega arith, loop-next joins-clauses _ (delayedWait (c .before .before .before .before .before .before .before .before .args .t3) (c .before .before .before .before .before .before .before .before .args .t)) (c .before .before .before .before .before .before .before .before .good .0 .0) (c .before .before .before .before .before .before .loop .inv .1) (where-not-joined joins-clauses (kind-is (c .before .before .before .before .before .before .before .before .pre) (c .before .before .before .before .before .loop-test .taken) 1) (target-is (c .before .before .before .before .before .before .before .before .pre) (c .before .before .before .before .before .loop-test .taken)) _ _ (c .if1 .left) (search needs)))
 
 same-length : tie.Need-same-length Inv-loop μ-loop
 same-length c = keeps-length (c .before .loop .inv .1)
 
 returns : tie.Need-returns Inv-loop μ-loop
-returns c = loop-ends joins-clauses (delayedWait (c .before .before .before .args .m) (c .before .before .before .args .t)) _ _ (c .before .loop .inv .0) (c .loop-test .left) (c .before .loop .inv .1)
+returns c = loop-ends joins-clauses (delayedWait (c .before .before .before .args .t3) (c .before .before .before .args .t)) _ _ (c .before .loop .inv .0) (c .loop-test .left) (c .before .loop .inv .1)
 
 pub put-delayed-waits-spec : {M : Type 1} → statement M
 put-delayed-waits-spec =
@@ -45,10 +71,18 @@ put-delayed-waits-spec =
     Inv-loop
     μ-loop
     loop-holds
-    cast-put-delayed-wait
-    put-delayed-wait-requires
+    cast-k
+    mul-x
+    element-copy-out-x
+    cast-i
+    element-copy-out-to
     add-c
+    cast-o
+    element-copy-out-u
+    put-delayed-requires
     loop-less
     loop-again
+    loop-less-2
+    loop-again-2
     same-length
     returns)
