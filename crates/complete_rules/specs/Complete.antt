@@ -1,5 +1,5 @@
 -- Laws of writing the rules of COMPLETE.
-use mathlib.Core.Path.{_≡_, refl}
+use mathlib.Core.Path.{_≡_, refl, _∙_}
 use mathlib.Core.Bool.{cond}
 use mathlib.Core.List.{List, [], _∷_, _++_}
 use Prim.Native.Nat.{ℕ, _<_, _≤_}
@@ -25,7 +25,7 @@ use Rattle.writer.specs.Written.{Wrote}
 use Rattle.rule_writer.specs.Lists.{WroteClauses, WroteUpdates, WroteRules, Joins, Counted, joins-clauses, joins-updates, joins-rules, wrote-none, wrote-both, wrote-then, wrote-rule, loop-ends}
 use Rattle.complete_rules.specs.declared.gathered.Guard.{Guard}
 use Rattle.complete_rules.specs.declared.gathered.Assigned.{Assigned}
-use Rattle.complete_rules.specs.Gathered.{guardOf, assignedOf, transitionIn, transition-is}
+use Rattle.complete_rules.specs.Gathered.{transitionIn, guardIn, assignedIn, transition-is, guard-is, assigned-is}
 use Rattle.complete_rules.specs.Named.{NamedBehavior, within}
 use Rattle.complete_rules.specs.Guards.{plainOf, plain-same}
 use Rattle.complete_rules.specs.Assigned.{updatesOf, sentBy, updates-same, sends-same}
@@ -43,6 +43,10 @@ transitionUpdates m t k =
 
 abbrev pub defaultClauses : Behavior → ℕ → List (List Atom)
 defaultClauses b t = stateIs t execution ∷ endIsNow t ∷ perTransition b t (b .transitions) (otherwiseClause b t)
+
+-- the clauses of a transition from a behaviour state, with its guard
+abbrev pub openClauses : ℕ → ℕ → Guard → List (List Atom)
+openClauses t from g = stateIs t execution ∷ endIsNow t ∷ plain (equals (behaviorVar t) (constant from)) ∷ plainOf g
 
 -- the updates of a transition to a behaviour state, with its assignments
 abbrev pub updatesWith : Timing → Assigned → ℕ → ℕ → List Update
@@ -77,16 +81,13 @@ module _ {d e g : List ℕ} {at p q : ℕ} (t s n : ℕ) (i : s ≡ stateVar t) 
       (λ l. wrote-both joins-updates (setTo cpuVar none ∷ []) (setTo (endVar t) 0 ∷ []) l v (rw j at u))
 
 -- ---- the rule of transition k
-module _ {d e f g a : List ℕ} {at p q r s : ℕ} (t v : ℕ) (j : v ≡ behaviorVar t) (h : Counted (length d)) where
-  pub clauses-written : (b : Behavior) (k : ℕ) (n : NamedBehavior b) → k < b .transitions → (c : Guard) → c ≡ guardOf b k →
-      WroteClauses d at (stateIs t execution ∷ endIsNow t ∷ []) e p →
-      WroteClauses e p (plain (equals v (constant (transitionIn b k .from))) ∷ []) f q → WroteClauses f q (plainOf c) g r →
-      WroteClauses g r (perTransition b t k (earlierClause b k)) a s → WroteClauses d at (transitionClauses b t k) a s
-  clauses-written b k n o c y w v z u =
-      wrote-then joins-clauses (stateIs t execution ∷ endIsNow t ∷ []) _ h w
-      (λ l. wrote-then joins-clauses (plain (equals (behaviorVar t) (constant (transitionAt b k .from))) ∷ []) _ l (rw (j, transition-is b k (within b n k o)) at v)
-      (λ l. wrote-both joins-clauses (guardClauses b k) (perTransition b t k (earlierClause b k)) l (rw (← plain-same b k (n .guard k o .few)) (rw y at z)) u))
+pub open-written : {d e f g : List ℕ} {at p q r : ℕ} (t from v : ℕ) (x : Guard) → v ≡ behaviorVar t → Counted (length d) → WroteClauses d at (stateIs t execution ∷ endIsNow t ∷ []) e p →
+    WroteClauses e p (plain (equals v (constant from)) ∷ []) f q → WroteClauses f q (plainOf x) g r → WroteClauses d at (openClauses t from x) g r
+open-written t from v x j h w y z =
+    wrote-then joins-clauses (stateIs t execution ∷ endIsNow t ∷ []) _ h w
+    (λ l. wrote-both joins-clauses (plain (equals (behaviorVar t) (constant from)) ∷ []) (plainOf x) l (rw j at y) z)
 
+module _ {d e f g a : List ℕ} {at p q r s : ℕ} (t v : ℕ) (j : v ≡ behaviorVar t) (h : Counted (length d)) where
   pub updates-written : (y : Timing) (w : Assigned) (to : ℕ) → WroteUpdates d at (setTo (stateVar t) completed ∷ jobEnds t) e p →
       WroteUpdates e p (setTo v to ∷ []) f q → WroteUpdates f q (updatesOf w) g r →
       WroteUpdates g r (sendUpdates y immediate t (sentBy w)) a s → WroteUpdates d at (updatesWith y w t to) a s
@@ -109,14 +110,19 @@ module _ {d e f : List ℕ} {at p q : ℕ} (t : ℕ) (h : Counted (length d)) wh
 
 -- ---- rules, with their heads
 module _ {d e f g : List ℕ} {at p q r : ℕ} (m : Model) (t : ℕ) (h : Counted (length d)) (w : Wrote d at (recordTo (Head (record { kind = 5; id = t; low = 0; high = 0 })) []) e p) where
-  pub transition-rule : (k : ℕ) → NamedBehavior (m .behavior) → k < m .behavior .transitions → (c : Assigned) → c ≡ assignedOf (m .behavior) k →
-      WroteClauses e p (transitionClauses (m .behavior) t k) f q → WroteUpdates f q (updatesWith (m .timing) c t (transitionIn (m .behavior) k .to)) g r →
-      WroteRules d at (stamped 5 t (transitionRule m t k ∷ [])) g r
+  pub transition-rule : {a : List ℕ} {s : ℕ} (k : ℕ) → NamedBehavior (m .behavior) → k < m .behavior .transitions → (x : Guard) → x ≡ guardIn (m .behavior) k →
+      (c : Assigned) → c ≡ assignedIn (m .behavior) k → WroteClauses e p (openClauses t (transitionIn (m .behavior) k .from) x) f q →
+      WroteClauses f q (perTransition (m .behavior) t k (earlierClause (m .behavior) k)) a s →
+      WroteUpdates a s (updatesWith (m .timing) c t (transitionIn (m .behavior) k .to)) g r → WroteRules d at (stamped 5 t (transitionRule m t k ∷ [])) g r
   unfolding stamped transitionRule
-  transition-rule k n o c y z u =
+  transition-rule k n o x y c z v u i =
+      let b = m .behavior in
+      let small = within b n k o in
       let few = n .assigned k o .few in
-      wrote-rule _ (transitionClauses (m .behavior) t k) (transitionUpdates m t k) h w (λ l. z)
-      (λ l. rw (← updates-same (m .behavior) k few, ← sends-same (m .behavior) k few (m .timing) t) (rw (y, transition-is (m .behavior) k (within (m .behavior) n k o)) at u))
+      wrote-rule _ (transitionClauses b t k) (transitionUpdates m t k) h w
+      (λ l. wrote-both joins-clauses (stateIs t execution ∷ endIsNow t ∷ plain (equals (behaviorVar t) (constant (transitionAt b k .from))) ∷ guardClauses b k) _ l
+      (rw (← plain-same b k (n .guard k o .few)) (rw (y ∙ guard-is b k small, transition-is b k small) at v)) u)
+      (λ l. rw (← updates-same b k few, ← sends-same b k few (m .timing) t) (rw (z ∙ assigned-is b k small, transition-is b k small) at i))
 
   pub default-rule : WroteClauses e p (defaultClauses (m .behavior) t) f q → WroteUpdates f q (defaultUpdates (m .timing) t) g r → WroteRules d at (stamped 5 t (defaultRule m t ∷ [])) g r
   unfolding stamped defaultRule

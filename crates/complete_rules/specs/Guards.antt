@@ -76,11 +76,11 @@ module _ (b : Behavior) (n : NamedBehavior b) (t from e : ℕ) (l : e < b .trans
   leaves-is : r ≡ leavesFrom (transitionAt b e) t from
   leaves-is = rw (← transition-is b e (within b n e l)) k
 
-  pub earlier-written : {d h : List ℕ} {at q : ℕ} → r ≡ true → WroteClauses d at (negatedOf (guardIn b e) ∷ []) h q → WroteClauses d at (earlierAt b t from e) h q
-  earlier-written {d} {h} {at} {q} s w = go (eqb (transitionAt b e .thread) t) (eqb (transitionAt b e .from) from) (sym leaves-is ∙ s)
+  pub earlier-written : {d h : List ℕ} {at q : ℕ} (g : Guard) → g ≡ guardIn b e → r ≡ true → WroteClauses d at (negatedOf g ∷ []) h q → WroteClauses d at (earlierAt b t from e) h q
+  earlier-written {d} {h} {at} {q} g i s w = go (eqb (transitionAt b e .thread) t) (eqb (transitionAt b e .from) from) (sym leaves-is ∙ s)
     where
-      same : negatedOf (guardIn b e) ≡ negatedGuard b e
-      same = ap negatedOf (guard-is b e (within b n e l)) ∙ negated-same b e (n .guard e l .few)
+      same : negatedOf g ≡ negatedGuard b e
+      same = ap negatedOf (i ∙ guard-is b e (within b n e l)) ∙ negated-same b e (n .guard e l .few)
 
       go : (y z : Bool) → (y && z) ≡ true → WroteClauses d at (cond y (only z (negatedGuard b e)) []) h q
       go true true s = rw (← same) w
@@ -106,10 +106,10 @@ shut-written t from v h y l w a c =
     (λ l. wrote-both joins-atoms (differs (behaviorVar t) (constant from) ∷ []) (negatedOf h) l (rw y at a) c)
 
 module _ (b : Behavior) (n : NamedBehavior b) (t k : ℕ) (l : k < b .transitions) where
-  pub otherwise-written : {d e : List ℕ} {at p : ℕ} (g : Guard) → g ≡ guardOf b k → transitionIn b k .thread ≡ t →
+  pub otherwise-written : {d e : List ℕ} {at p : ℕ} (g : Guard) → g ≡ guardIn b k → transitionIn b k .thread ≡ t →
       WroteClauses d at (shutBy t (transitionIn b k .from) g ∷ []) e p → WroteClauses d at (otherwiseAt b t k) e p
   otherwise-written g y s w =
-      rw (← transition-is b k (within b n k l), eq-eqb _ _ s, ← negated-same b k (n .guard k l .few)) (rw y at w)
+      rw (← transition-is b k (within b n k l), eq-eqb _ _ s, ← negated-same b k (n .guard k l .few)) (rw (y ∙ guard-is b k (within b n k l)) at w)
 
   pub otherwise-none : {d : List ℕ} {at : ℕ} → (transitionIn b k .thread ≡ t → ⊥) → Counted at → WroteClauses d at (otherwiseAt b t k) d at
   otherwise-none s h = rw (← transition-is b k (within b n k l), ne-eqb _ _ s) (wrote-none joins-clauses h)

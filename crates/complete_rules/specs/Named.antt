@@ -17,7 +17,7 @@ use Rattle.model_format.specs.Reading.{namesItem}
 use Rattle.model_format.specs.WellFormed.{GoodOperand, GoodAtom, GoodAssignment, GoodTiming, WellFormed}
 use Rattle.complete_rules.specs.declared.gathered.Guard.{Guard}
 use Rattle.complete_rules.specs.declared.gathered.Assigned.{Assigned}
-use Rattle.complete_rules.specs.Gathered.{guardOf, assignedOf, guardIn, atomIn, assignmentIn, of-four, guard-is}
+use Rattle.complete_rules.specs.Gathered.{guardOf, assignedOf, guardIn, assignedIn, atomIn, assignmentIn, of-four, guard-is, assigned-is}
 
 -- a constant names nothing
 pub record NamedOperand (o : Operand) : Type 0 where
@@ -52,6 +52,9 @@ module _ (b : Behavior) (n : NamedBehavior b) (k : ℕ) (h : k < b .transitions)
 
   pub guard-named : NamedGuard (guardIn b k)
   guard-named = rw (guard-is b k within) (n .guard k h)
+
+  pub assigned-named : NamedAssigned (assignedIn b k)
+  assigned-named = rw (assigned-is b k within) (n .assigned k h)
 
 -- ---- of a well-formed model
 either-below : (n a b c : ℕ) → a < c → b < c → (eqb n a || eqb n b) ≡ true → n < c

@@ -3,11 +3,9 @@
 
 use model_format::Assignment;
 use model_format::Atom;
-use model_format::Behavior;
 use rule_writer::unused;
 ghost use mathlib.Core.Path.{_≡_};
-ghost use Prim.Native.Nat.{_<_};
-ghost use Rattle.complete_rules.specs.Gathered.{guardOf, assignedOf};
+ghost use mathlib.Core.List.{[], _∷_};
 
 // The first `atoms` of these.
 pub struct Guard {
@@ -21,36 +19,28 @@ pub struct Assigned {
     pub assignment: [Assignment; 4],
 }
 
-pub fn guard_of(b: Behavior, k: usize) -> Guard
-    requires { ⌜ k < 64 ⌝ }
-    ensures { λ r. ⌜ r ≡ guardOf b k ⌝ }
+pub fn guard_from(n: u8, first: Atom, second: Atom, third: Atom, last: Atom) -> Guard
+    ensures { λ r. ⌜ r ≡ record { atoms = n; atom = first ∷ second ∷ third ∷ last ∷ [] } ⌝ }
 {
-    let x = b.transition[k];
-    let i = k * 4;
-    let first = b.atom[i];
-    let second = b.atom[i + 1];
-    let third = b.atom[i + 2];
-    let last = b.atom[i + 3];
     let atom = [first, second, third, last];
     Guard {
-        atoms: x.atoms,
+        atoms: n,
         atom: atom,
     }
 }
 
-pub fn assigned_of(b: Behavior, k: usize) -> Assigned
-    requires { ⌜ k < 64 ⌝ }
-    ensures { λ r. ⌜ r ≡ assignedOf b k ⌝ }
+pub fn assigned_from(
+    n: u8,
+    first: Assignment,
+    second: Assignment,
+    third: Assignment,
+    last: Assignment,
+) -> Assigned
+    ensures { λ r. ⌜ r ≡ record { assignments = n; assignment = first ∷ second ∷ third ∷ last ∷ [] } ⌝ }
 {
-    let x = b.transition[k];
-    let i = k * 4;
-    let first = b.assignment[i];
-    let second = b.assignment[i + 1];
-    let third = b.assignment[i + 2];
-    let last = b.assignment[i + 3];
     let assignment = [first, second, third, last];
     Assigned {
-        assignments: x.assignments,
+        assignments: n,
         assignment: assignment,
     }
 }

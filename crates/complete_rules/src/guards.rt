@@ -1,7 +1,7 @@
 // The guards of a thread's transitions, as clauses.
 
 use crate::gathered::Guard;
-use crate::gathered::guard_of;
+use crate::gathered::guard_from;
 use crate::parts::negated_op;
 use crate::parts::operand_of;
 use crate::parts::put_compare;
@@ -113,11 +113,7 @@ pub fn put_earlier(d: &mut [u8], at: usize, b: Behavior, t: u8, k: usize) -> usi
             let second = b.atom[i + 1];
             let third = b.atom[i + 2];
             let last = b.atom[i + 3];
-            let atom = [first, second, third, last];
-            let g = Guard {
-                atoms: x.atoms,
-                atom: atom,
-            };
+            let g = guard_from(x.atoms, first, second, third, last);
             p = put_failing(d, p, g);
         }
     }
@@ -142,11 +138,15 @@ pub fn put_otherwise(d: &mut [u8], at: usize, b: Behavior, t: u8) -> usize
     let mut p = at;
     let mut k: usize = 0;
     while k < n {
-        let i = k;
-        let x = b.transition[i];
+        let x = b.transition[k];
+        let i = k * 4;
         k += 1;
         if x.thread == t {
-            let g = guard_of(b, i);
+            let first = b.atom[i];
+            let second = b.atom[i + 1];
+            let third = b.atom[i + 2];
+            let last = b.atom[i + 3];
+            let g = guard_from(x.atoms, first, second, third, last);
             p = put_shut(d, p, t, x.from, g);
         }
     }

@@ -13,11 +13,12 @@ ghost use Rattle.table_format.specs.Variables.{stateVar};
 ghost use Rattle.translate.specs.Parts.{setTo, stamped};
 ghost use Rattle.translate.specs.Rules.{stateIs, endIsNow, jobEnds, transitionRule, defaultRule, completeRules};
 ghost use Rattle.rule_writer.specs.Lists.{WroteClauses, WroteUpdates, WroteRules};
-ghost use Rattle.complete_rules.specs.Named.{NamedAssigned, NamedBehavior};
-ghost use Rattle.complete_rules.specs.Complete.{transitionClauses, updatesWith, defaultClauses, defaultUpdates};
+ghost use Rattle.complete_rules.specs.Named.{NamedGuard, NamedAssigned, NamedBehavior};
+ghost use Rattle.complete_rules.specs.Complete.{openClauses, updatesWith, defaultClauses, defaultUpdates};
 use gathered::Assigned;
-use gathered::assigned_of;
-use gathered::guard_of;
+use gathered::Guard;
+use gathered::assigned_from;
+use gathered::guard_from;
 use gathered::none_assigned;
 use guards::put_earlier;
 use guards::put_guard;
@@ -53,16 +54,14 @@ fn put_ends(d: &mut [u8], at: usize, t: u8) -> usize
     put_set(d, q, end_var(t), 0)
 }
 
-fn put_transition_clauses(d: &mut [u8], at: usize, b: Behavior, t: u8, k: usize) -> usize
-    requires { ⌜ NamedBehavior b × (k < b .transitions) ⌝ }
-    ensures { λ r. ⌜ WroteClauses (now (d .entry)) at (transitionClauses b t k) (now (d .exit)) r ⌝ }
+// The thread executes, its job ends now, it is where a transition leaves, and the guard holds.
+fn put_open(d: &mut [u8], at: usize, t: u8, from: u8, g: Guard) -> usize
+    requires { ⌜ NamedGuard g ⌝ }
+    ensures { λ r. ⌜ WroteClauses (now (d .entry)) at (openClauses t from g) (now (d .exit)) r ⌝ }
 {
-    let x = b.transition[k];
-    let g = guard_of(b, k);
     let p = put_running(d, at, t);
-    let q = put_condition(d, p, 0, behavior_var(t), x.from as u32);
-    let r = put_guard(d, q, g);
-    put_earlier(d, r, b, t, k)
+    let q = put_condition(d, p, 0, behavior_var(t), from as u32);
+    put_guard(d, q, g)
 }
 
 fn put_transition_updates(d: &mut [u8], at: usize, y: Timing, w: Assigned, t: u8, to: u8) -> usize
@@ -82,10 +81,21 @@ fn put_transition_rule(d: &mut [u8], at: usize, m: Model, t: u8, k: usize) -> us
     let y = m.timing;
     let b = m.behavior;
     let x = b.transition[k];
-    let w = assigned_of(b, k);
+    let i = k * 4;
+    let first_atom = b.atom[i];
+    let second_atom = b.atom[i + 1];
+    let third_atom = b.atom[i + 2];
+    let last_atom = b.atom[i + 3];
+    let g = guard_from(x.atoms, first_atom, second_atom, third_atom, last_atom);
+    let first = b.assignment[i];
+    let second = b.assignment[i + 1];
+    let third = b.assignment[i + 2];
+    let last = b.assignment[i + 3];
+    let w = assigned_from(x.assignments, first, second, third, last);
     let p = put_rule(d, at, 5, t, 0, 0);
-    let q = put_transition_clauses(d, p, b, t, k);
-    put_transition_updates(d, q, y, w, t, x.to)
+    let q = put_open(d, p, t, x.from, g);
+    let r = put_earlier(d, q, b, t, k);
+    put_transition_updates(d, r, y, w, t, x.to)
 }
 
 fn put_default_clauses(d: &mut [u8], at: usize, b: Behavior, t: u8) -> usize

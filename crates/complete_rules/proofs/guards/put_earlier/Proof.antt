@@ -72,14 +72,17 @@ mul-last c = search needs
 element-copy-out-last : tie.Need-element-copy-out-last Inv-loop μ-loop
 element-copy-out-last c = let h = c .before .before .before .before .before .before .before .before .before .before .pre .0 .few in let l = c .before .before .before .before .before .before .before .before .before .before .pre .1 in let n = c .before .before .before .before .before .before .loop-test .taken in search needs
 
+guard-from-requires : tie.Need-guard-from-requires Inv-loop μ-loop
+guard-from-requires c κs = search needs
+
 put-failing-requires : tie.Need-put-failing-requires Inv-loop μ-loop
-put-failing-requires c κs = guard-named (c .before .before .before .before .before .before .before .before .before .before .before .before .args .t3) (c .before .before .before .before .before .before .before .before .before .before .before .before .pre .0) _ (let l = c .before .before .before .before .before .before .before .before .before .before .before .before .pre .1 in let n = c .before .before .before .before .before .before .before .before .loop-test .taken in omega arith)
+put-failing-requires c κs = rw (c .before .guard-from .ensures) (guard-named (c .before .before .before .before .before .before .before .before .before .before .before .before .before .args .t3) (c .before .before .before .before .before .before .before .before .before .before .before .before .before .pre .0) _ (let l = c .before .before .before .before .before .before .before .before .before .before .before .before .before .pre .1 in let n = c .before .before .before .before .before .before .before .before .before .loop-test .taken in omega arith))
 
 loop-less : tie.Need-loop-less Inv-loop μ-loop
 loop-less c = search needs
 
 loop-again : tie.Need-loop-again Inv-loop μ-loop
-loop-again c = (omega arith, loop-next joins-clauses _ (earlierAt (c .before .before .before .before .before .before .before .before .before .before .before .before .before .before .before .args .t3) _ _) (c .before .before .before .before .before .before .before .before .before .before .before .before .before .before .before .good .0 .0) (c .before .before .before .before .before .before .before .before .before .before .before .before .loop .inv .1) (earlier-written (c .before .before .before .before .before .before .before .before .before .before .before .before .before .before .before .args .t3) (c .before .before .before .before .before .before .before .before .before .before .before .before .before .before .before .pre .0) _ _ _ (let l = c .before .before .before .before .before .before .before .before .before .before .before .before .before .before .before .pre .1 in let n = c .before .before .before .before .before .before .before .before .before .before .before .loop-test .taken in omega arith) _ (c .before .before .before .before .before .before .before .before .before .leaves .ensures) (c .before .before .before .before .before .before .before .before .if1 .taken) (c .before .before .put-failing .ensures)))
+loop-again c = (omega arith, loop-next joins-clauses _ (earlierAt (c .before .before .before .before .before .before .before .before .before .before .before .before .before .before .before .before .args .t3) _ _) (c .before .before .before .before .before .before .before .before .before .before .before .before .before .before .before .before .good .0 .0) (c .before .before .before .before .before .before .before .before .before .before .before .before .before .loop .inv .1) (earlier-written (c .before .before .before .before .before .before .before .before .before .before .before .before .before .before .before .before .args .t3) (c .before .before .before .before .before .before .before .before .before .before .before .before .before .before .before .before .pre .0) _ _ _ (let l = c .before .before .before .before .before .before .before .before .before .before .before .before .before .before .before .before .pre .1 in let n = c .before .before .before .before .before .before .before .before .before .before .before .before .loop-test .taken in omega arith) _ (c .before .before .before .before .before .before .before .before .before .before .leaves .ensures) _ (c .before .before .before .before .guard-from .ensures) (c .before .before .before .before .before .before .before .before .before .if1 .taken) (c .before .before .put-failing .ensures)))
 
 loop-less-2 : tie.Need-loop-less-2 Inv-loop μ-loop
 loop-less-2 c = search needs
@@ -118,6 +121,7 @@ put-earlier-spec =
     add-last
     mul-last
     element-copy-out-last
+    guard-from-requires
     put-failing-requires
     loop-less
     loop-again

@@ -3,7 +3,7 @@ use Prim.Native.Nat.{_≤_, _-_}
 use native.Mathlib.Omega.{arith}
 use Rattle.numbers.specs.Lists.{joinBelow}
 use Rattle.rule_writer.specs.Lists.{WroteClauses, joins-clauses, loop-begins, loop-next, loop-ends}
-use Rattle.complete_rules.specs.Named.{within}
+use Rattle.complete_rules.specs.Named.{guard-named}
 use Rattle.complete_rules.specs.Guards.{otherwiseAt, otherwise-written, otherwise-none}
 use borrow.Author.Needs.{needs}
 use Rattle.complete_rules.proofs.guards.put_otherwise.Statement.{statement}
@@ -24,20 +24,56 @@ mul-x c = search needs
 element-copy-out-x : tie.Need-element-copy-out-x Inv-loop μ-loop
 element-copy-out-x c = let h = c .before .before .before .pre .few in let n = c .loop-test .taken in search needs
 
+mul-i : tie.Need-mul-i Inv-loop μ-loop
+mul-i c = search needs
+
 add-k : tie.Need-add-k Inv-loop μ-loop
 add-k c = search needs
 
-guard-of-requires : tie.Need-guard-of-requires Inv-loop μ-loop
-guard-of-requires c κs = within (c .before .before .before .before .before .before .args .t3) (c .before .before .before .before .before .before .pre) _ (c .before .before .before .loop-test .taken)
+mul-first : tie.Need-mul-first Inv-loop μ-loop
+mul-first c = search needs
+
+element-copy-out-first : tie.Need-element-copy-out-first Inv-loop μ-loop
+element-copy-out-first c = let h = c .before .before .before .before .before .before .pre .few in let n = c .before .before .before .loop-test .taken in search needs
+
+add-second : tie.Need-add-second Inv-loop μ-loop
+add-second c = search needs
+
+mul-second : tie.Need-mul-second Inv-loop μ-loop
+mul-second c = search needs
+
+element-copy-out-second : tie.Need-element-copy-out-second Inv-loop μ-loop
+element-copy-out-second c = let h = c .before .before .before .before .before .before .before .pre .few in let n = c .before .before .before .before .loop-test .taken in search needs
+
+add-third : tie.Need-add-third Inv-loop μ-loop
+add-third c = search needs
+
+mul-third : tie.Need-mul-third Inv-loop μ-loop
+mul-third c = search needs
+
+element-copy-out-third : tie.Need-element-copy-out-third Inv-loop μ-loop
+element-copy-out-third c = let h = c .before .before .before .before .before .before .before .before .pre .few in let n = c .before .before .before .before .before .loop-test .taken in search needs
+
+add-last : tie.Need-add-last Inv-loop μ-loop
+add-last c = search needs
+
+mul-last : tie.Need-mul-last Inv-loop μ-loop
+mul-last c = search needs
+
+element-copy-out-last : tie.Need-element-copy-out-last Inv-loop μ-loop
+element-copy-out-last c = let h = c .before .before .before .before .before .before .before .before .before .pre .few in let n = c .before .before .before .before .before .before .loop-test .taken in search needs
+
+guard-from-requires : tie.Need-guard-from-requires Inv-loop μ-loop
+guard-from-requires c κs = search needs
 
 put-shut-requires : tie.Need-put-shut-requires Inv-loop μ-loop
-put-shut-requires c κs = rw (c .before .guard-of .ensures) (c .before .before .before .before .before .before .before .before .pre .guard _ (c .before .before .before .before .before .loop-test .taken))
+put-shut-requires c κs = rw (c .before .guard-from .ensures) (guard-named (c .before .before .before .before .before .before .before .before .before .before .before .before .args .t3) (c .before .before .before .before .before .before .before .before .before .before .before .before .pre) _ (c .before .before .before .before .before .before .before .before .before .loop-test .taken))
 
 loop-less : tie.Need-loop-less Inv-loop μ-loop
 loop-less c = search needs
 
 loop-again : tie.Need-loop-again Inv-loop μ-loop
-loop-again c = (omega arith, loop-next joins-clauses _ (otherwiseAt (c .before .before .before .before .before .before .before .before .before .before .before .args .t3) _) (c .before .before .before .before .before .before .before .before .before .before .before .good .0 .0) (c .before .before .before .before .before .before .before .before .before .loop .inv .1) (otherwise-written (c .before .before .before .before .before .before .before .before .before .before .before .args .t3) (c .before .before .before .before .before .before .before .before .before .before .before .pre) _ _ (c .before .before .before .before .before .before .before .before .loop-test .taken) _ (c .before .before .before .before .guard-of .ensures) (c .before .before .before .before .before .if1 .taken) (c .before .before .put-shut .ensures)))
+loop-again c = (omega arith, loop-next joins-clauses _ (otherwiseAt (c .before .before .before .before .before .before .before .before .before .before .before .before .before .before .before .args .t3) _) (c .before .before .before .before .before .before .before .before .before .before .before .before .before .before .before .good .0 .0) (c .before .before .before .before .before .before .before .before .before .before .before .before .before .loop .inv .1) (otherwise-written (c .before .before .before .before .before .before .before .before .before .before .before .before .before .before .before .args .t3) (c .before .before .before .before .before .before .before .before .before .before .before .before .before .before .before .pre) _ _ (c .before .before .before .before .before .before .before .before .before .before .before .before .loop-test .taken) _ (c .before .before .before .before .guard-from .ensures) (c .before .before .before .before .before .before .before .before .before .if1 .taken) (c .before .before .put-shut .ensures)))
 
 loop-less-2 : tie.Need-loop-less-2 Inv-loop μ-loop
 loop-less-2 c = search needs
@@ -60,8 +96,20 @@ put-otherwise-spec =
     loop-holds
     mul-x
     element-copy-out-x
+    mul-i
     add-k
-    guard-of-requires
+    mul-first
+    element-copy-out-first
+    add-second
+    mul-second
+    element-copy-out-second
+    add-third
+    mul-third
+    element-copy-out-third
+    add-last
+    mul-last
+    element-copy-out-last
+    guard-from-requires
     put-shut-requires
     loop-less
     loop-again
