@@ -1,14 +1,14 @@
 -- What a variable stands for, in the pieces in which it is looked up, and by its 32 bits: a clock figure past the values that 32 bits
 -- stand for is shown by the same bits.
-use mathlib.Core.Path.{_≡_, refl}
-use mathlib.Core.Bool.{Bool, true, false, cond}
-use mathlib.Core.List.{List}
-use Prim.Native.Nat.{ℕ, zero, suc, _+_, _-_, _<_, _≤_}
+use mathlib.Core.Path.{_≡_, refl, sym, _∙_}
+use mathlib.Core.Bool.{Bool, true, false, cond, _||_, true≢false}
+use mathlib.Core.List.{List, [], _∷_}
+use Prim.Native.Nat.{ℕ, zero, suc, _+_, _-_, _*_, _/_, _<_, _≤_}
 use native.Mathlib.Omega.{arith}
 use native.Mathlib.Decide.{decLt}
 use lib.Dec.{eqb, ltb}
 use lib.ListN.{getD}
-use borrow.Author.Tests.{lt-ltb, le-ltb, le-leb, lt-leb, ne-eqb}
+use borrow.Author.Tests.{lt-ltb, le-ltb, ltb-false, le-leb, lt-leb, ne-eqb}
 use mir.Syntax.{w32}
 use mir.Val.{Fits}
 use mir.ValLaws.{ofZ-toZ}
@@ -111,3 +111,76 @@ module _ {v : Value} (m : Timing) (s : State) (j : ℕ) where
 
   pub others-shown : 6 ≤ j → SameBits v (threadShown m s j) → SameBits v (standsFor m s j)
   others-shown h x = rw (others-stand m s j h) x
+
+-- ---- which variables stand for something: those of the clock, and those of blocks, which begin at multiples of 16
+pub record Block : Type 0 where
+  pub place : ℕ
+  pub count : ℕ
+
+abbrev at : ℕ → ℕ → Block
+at place count = record { place = place; count = count }
+
+abbrev pub blocksOf : Timing → List Block
+blocksOf m =
+    at 1 (m .threads) ∷ at 2 (m .threads) ∷ at 3 (m .threads) ∷ at 6 (m .threads) ∷ at 7 (m .threads) ∷ at 8 (m .connections) ∷ at 10 (m .inputs) ∷ at 12 (m .inputs) ∷
+    at 14 (m .outputs) ∷ at 16 (m .locals) ∷ []
+
+unfoldable pub inAny : List Block → ℕ → Bool
+inAny [] j = false
+inAny (b ∷ l) j = inBlock (16 * b .place) (b .count) j || inAny l j
+
+unfoldable pub isShown : Timing → ℕ → Bool
+isShown m j = ltb j 6 || inAny (blocksOf m) j
+
+-- a to k are the tests that the code has made
+pub shown-is : (m : Timing) (j : ℕ) {a b c d e f g h i k : Bool} → a ≡ inBlock 16 (m .threads) j → b ≡ inBlock 32 (m .threads) j → c ≡ inBlock 48 (m .threads) j →
+    d ≡ inBlock 96 (m .threads) j → e ≡ inBlock 112 (m .threads) j → f ≡ inBlock 128 (m .connections) j → g ≡ inBlock 160 (m .inputs) j → h ≡ inBlock 192 (m .inputs) j →
+    i ≡ inBlock 224 (m .outputs) j → k ≡ inBlock 256 (m .locals) j → (ltb j 6 || (a || (b || (c || (d || (e || (f || (g || (h || (i || k)))))))))) ≡ isShown m j
+unfolding isShown inAny
+shown-is m j {k = k} p q r s t u v w x y = rw (← p, ← q, ← r, ← s, ← t, ← u, ← v, ← w, ← x, ← y, nothing k)
+  where
+    nothing : (b : Bool) → (b || false) ≡ b
+    nothing true = refl
+    nothing false = refl
+
+-- ---- no block has variable j
+None : List Block → ℕ → Type 0
+None [] j = Unit {0}
+None (b ∷ l) j = (inBlock (16 * b .place) (b .count) j ≡ false) × None l j
+
+none-is : (l : List Block) (j : ℕ) → inAny l j ≡ false → None l j
+unfolding inAny None
+none-is [] j e = tt
+none-is (b ∷ l) j e = go (inBlock (16 * b .place) (b .count) j) (none-is l j) e
+  where
+    go : (x : Bool) → (inAny l j ≡ false → None l j) → (x || inAny l j) ≡ false → (x ≡ false) × None l j
+    go true f e = absurd (true≢false e)
+    go false f e = (refl, f e)
+
+absent : (m : Timing) (s : State) (j : ℕ) → 6 ≤ j → None (blocksOf m) j → standsFor m s j ≡ natural 0
+unfolding None threadShown countShown portShown
+absent m s j h n = others-stand m s j h ∙ rw (n .0, n .1 .0, n .1 .1 .0, n .1 .1 .1 .0, n .1 .1 .1 .1 .0, n .1 .1 .1 .1 .1 .0, n .1 .1 .1 .1 .1 .1 .0, n .1 .1 .1 .1 .1 .1 .1 .0, n .1 .1 .1 .1 .1 .1 .1 .1 .0, n .1 .1 .1 .1 .1 .1 .1 .1 .1 .0)
+
+-- ---- nor the variables behind it before the next multiple of 16
+module _ (j i : ℕ) (h : j ≤ i) (k : i < j / 16 * 16 + 16) where
+  block-clear : (q n : ℕ) → inBlock (16 * q) n j ≡ false → inBlock (16 * q) n i ≡ false
+  block-clear q n e = go (decLt j (16 * q))
+    where
+      go : Dec (j < 16 * q) → inBlock (16 * q) n i ≡ false
+      go (yes l) = block-below (16 * q) n i (omega arith)
+      go (no l) =
+          let f = ltb-false (j - 16 * q) n (sym (block-from (16 * q) n j (omega arith)) ∙ e) in
+          block-from (16 * q) n i (omega arith) ∙ le-ltb (i - 16 * q) n (omega arith)
+
+  none-clear : (l : List Block) → None l j → None l i
+  unfolding None
+  none-clear [] n = tt
+  none-clear (b ∷ l) n = (block-clear (b .place) (b .count) (n .0), none-clear l (n .1))
+
+  pub absent-on : (m : Timing) (s : State) → isShown m j ≡ false → standsFor m s i ≡ natural 0
+  unfolding isShown
+  absent-on m s e = go (ltb j 6) refl e
+    where
+      go : (x : Bool) → ltb j 6 ≡ x → (x || inAny (blocksOf m) j) ≡ false → standsFor m s i ≡ natural 0
+      go true l e = absurd (true≢false e)
+      go false l e = let f = ltb-false j 6 l in absent m s i (omega arith) (none-clear (blocksOf m) (none-is (blocksOf m) j e))

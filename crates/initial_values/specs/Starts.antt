@@ -1,10 +1,13 @@
 -- The start records of a table, one variable after the other.
-use mathlib.Core.Path.{_≡_, refl}
+use mathlib.Core.Path.{_≡_, refl, sym, _∙_}
 use mathlib.Core.Bool.{Bool, true, false, not}
-use mathlib.Core.List.{List, []}
-use Prim.Native.Nat.{ℕ}
+use mathlib.Core.List.{List, [], append-nil}
+use Prim.Native.Nat.{ℕ, zero, suc, _+_, _*_, _/_, _<_, _≤_}
+use native.Mathlib.Omega.{arith}
+use native.Mathlib.Decide.{decLt}
 use Rattle.numbers.specs.declared.Value.{Value}
 use Rattle.numbers.specs.Lists.{joinBelow, only}
+use Rattle.numbers.specs.ListLaws.{join-suc}
 use Rattle.numbers.specs.Values.{natural, sameValue}
 use Rattle.model_format.specs.declared.Model.{Model}
 use Rattle.model_format.specs.declared.Timing.{Timing}
@@ -19,7 +22,7 @@ use Rattle.translate.specs.Shown.{standsFor}
 use Rattle.translate.specs.Translate.{initialOf}
 use Rattle.writer.specs.Written.{Wrote, records-one}
 use Rattle.rule_writer.specs.Lists.{WroteInitial, Counted, joins-initial, wrote-none}
-use Rattle.initial_values.specs.Blocks.{SameBits}
+use Rattle.initial_values.specs.Blocks.{SameBits, isShown, absent-on}
 
 -- variable j where its value is not 0
 abbrev pub start : ℕ → Value → List InitialValue
@@ -28,6 +31,23 @@ start j v = only (not (sameValue v (natural 0))) (record { variable = j; value =
 -- the variables below n in a state
 abbrev pub startsIn : Timing → State → ℕ → List InitialValue
 startsIn m s n = joinBelow n (λ j. start j (standsFor m s j))
+
+-- ---- variables that stand for nothing are passed over
+start-nothing : (j : ℕ) (v : Value) → v ≡ natural 0 → start j v ≡ []
+start-nothing j v e = rw e
+
+join-skip : {A : Type 0} (f : ℕ → List A) (n k : ℕ) → n ≤ k → ((i : ℕ) → n ≤ i → i < k → f i ≡ []) → joinBelow k f ≡ joinBelow n f
+join-skip f n zero h z = let q : n ≡ 0 = omega arith in rw q
+join-skip f n (suc k) h z = go (λ l. join-skip f n k l (λ i a b. z i a (omega arith))) (decLt k n)
+  where
+    go : (n ≤ k → joinBelow k f ≡ joinBelow n f) → Dec (k < n) → joinBelow (suc k) f ≡ joinBelow n f
+    go r (yes l) = let q : n ≡ suc k = omega arith in rw q
+    go r (no l) = join-suc k f ∙ rw (z k (omega arith) (omega arith), append-nil (joinBelow k f)) (r (omega arith))
+
+pub starts-skip : {d e : List ℕ} {at p : ℕ} (m : Timing) (s : State) (j : ℕ) (b : Bool) → b ≡ isShown m j → b ≡ false → WroteInitial d at (startsIn m s j) e p →
+    WroteInitial d at (startsIn m s (j / 16 * 16 + 16)) e p
+starts-skip m s j b g f w =
+    rw (join-skip (λ i. start i (standsFor m s i)) j (j / 16 * 16 + 16) (omega arith) (λ i h k. start-nothing i (standsFor m s i) (absent-on j i h k m s (sym g ∙ f)))) w
 
 -- ---- z says whether the value is 0
 module _ {d : List ℕ} {at : ℕ} (j : ℕ) (v : Value) (z : Bool) (h : z ≡ sameValue v (natural 0)) where

@@ -111,3 +111,16 @@ pub fn shown(m: Timing, s: State, j: u16) -> Value
     }
     of_thread(m, s, j)
 }
+
+// Variable j stands for something.
+pub fn is_shown(m: Timing, j: u16) -> bool
+    ensures { λ r. ⌜ r ≡ blocks.isShown m j ⌝ }
+{
+    let t = m.threads;
+    let i = m.inputs;
+    let ports = in_block(160, i, j)
+        | (in_block(192, i, j) | (in_block(224, m.outputs, j) | in_block(256, m.locals, j)));
+    let counts = in_block(96, t, j)
+        | (in_block(112, t, j) | (in_block(128, m.connections, j) | ports));
+    (j < 6) | (in_block(16, t, j) | (in_block(32, t, j) | (in_block(48, t, j) | counts)))
+}

@@ -7,6 +7,7 @@ ghost use Rattle.table_format.specs.Variables.{variables};
 ghost use Rattle.translate.specs.Translate.{initialOf};
 ghost use Rattle.rule_writer.specs.Lists.{WroteInitial};
 ghost use Rattle.initial_values.specs.Starts.{start, startsIn};
+use blocks::is_shown;
 pub use blocks::shown;
 use model::State;
 use model_format::Model;
@@ -29,15 +30,20 @@ fn put_start(d: &mut [u8], at: usize, j: u16, v: Value) -> usize
     writer::put_initial(d, at, x)
 }
 
+// Blocks begin at multiples of 16: behind a variable that stands for nothing, the others before the next multiple do so too.
 fn put_starts(d: &mut [u8], at: usize, m: Timing, s: State) -> usize
     ensures { λ r. ⌜ WroteInitial (now (d .entry)) at (startsIn m s variables) (now (d .exit)) r ⌝ }
 {
     let mut p = at;
     let mut j: u16 = 0;
     while j < 288 {
-        let v = shown(m, s, j);
-        p = put_start(d, p, j, v);
-        j += 1;
+        if is_shown(m, j) {
+            let v = shown(m, s, j);
+            p = put_start(d, p, j, v);
+            j += 1;
+        } else {
+            j = j / 16 * 16 + 16;
+        }
     }
     p
 }

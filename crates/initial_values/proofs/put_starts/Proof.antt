@@ -1,4 +1,4 @@
-use Rattle.initial_values.specs.Starts.{startsIn, start-same}
+use Rattle.initial_values.specs.Starts.{startsIn, start-same, starts-skip}
 use Rattle.rule_writer.specs.Lists.{WroteInitial, joins-initial, loop-begins, loop-next, loop-ends}
 use Rattle.writer.specs.Written.{keeps-length}
 use native.Mathlib.Omega.{arith}
@@ -16,6 +16,9 @@ abbrev μ-loop : tie.MeasureT-loop
 loop-holds : tie.Need-loop-holds Inv-loop μ-loop
 loop-holds c = (omega arith, loop-begins joins-initial _ (search needs))
 
+is-shown-requires : tie.Need-is-shown-requires Inv-loop μ-loop
+is-shown-requires c κs = search needs
+
 shown-requires : tie.Need-shown-requires Inv-loop μ-loop
 shown-requires c κs = search needs
 
@@ -29,7 +32,19 @@ loop-less : tie.Need-loop-less Inv-loop μ-loop
 loop-less c = search needs
 
 loop-again : tie.Need-loop-again Inv-loop μ-loop
-loop-again c = (omega arith, loop-next joins-initial _ _ (c .before .before .before .before .before .before .before .before .good .0 .0) (c .before .before .before .before .before .before .loop .inv .1) (start-same _ _ _ (c .before .before .before .before .shown .ensures) (c .before .before .put-start .ensures)))
+loop-again c = (omega arith, loop-next joins-initial _ _ (c .before .before .before .before .before .before .before .before .before .before .good .0 .0) (c .before .before .before .before .before .before .before .before .loop .inv .1) (start-same _ _ _ (c .before .before .before .before .shown .ensures) (c .before .before .put-start .ensures)))
+
+mul-j : tie.Need-mul-j Inv-loop μ-loop
+mul-j c = search needs
+
+add-j-2 : tie.Need-add-j-2 Inv-loop μ-loop
+add-j-2 c = search needs
+
+loop-less-2 : tie.Need-loop-less-2 Inv-loop μ-loop
+loop-less-2 c = search needs
+
+loop-again-2 : tie.Need-loop-again-2 Inv-loop μ-loop
+loop-again-2 c = (omega arith, starts-skip (c .before .before .before .before .before .args .m) (c .before .before .before .before .before .args .s) _ _ (c .before .is-shown .ensures) (c .if1 .left) (c .before .before .before .loop .inv .1))
 
 same-length : tie.Need-same-length Inv-loop μ-loop
 same-length c = keeps-length (c .before .loop .inv .1)
@@ -44,10 +59,15 @@ put-starts-spec =
     Inv-loop
     μ-loop
     loop-holds
+    is-shown-requires
     shown-requires
     put-start-requires
     add-j
     loop-less
     loop-again
+    mul-j
+    add-j-2
+    loop-less-2
+    loop-again-2
     same-length
     returns)
