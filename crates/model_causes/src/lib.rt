@@ -1,33 +1,75 @@
-// What is wrong with a record, in the place where it stands.
+// What is wrong with a record, in the place where it stands. The record is judged by few numbers and items, so that no model is copied for
+// each.
 
 use model_format::Assignment;
 use model_format::Atom;
-use model_format::Behavior;
 use model_format::Connection;
 use model_format::Faults;
 use model_format::Head;
 use model_format::ModeTransition;
-use model_format::Model;
-use model_format::Reading;
 use model_format::Record;
 use model_format::Thread;
 use model_format::Timing;
 use model_format::Transition;
-use model_format::assignment_at;
 use model_format::connection_at;
-use model_format::hyperperiod;
-use model_format::input_owner;
+use model_format::critical_in;
 use model_format::kind_of;
-use model_format::local_at;
-use model_format::output_owner;
-use model_format::transition_at;
+use model_format::thread_at;
 use model_format::wide;
+use numbers::lcm_up_to;
 use records::Cause;
 use records::Operand;
 ghost use mathlib.Core.Path.{_≡_};
 ghost use mathlib.Core.Bool.{true, cond};
+ghost use Prim.Native.Nat.{_≤_};
+ghost use Rattle.model_format.specs.Model as model;
 ghost use Rattle.model_format.specs.Reading as reading;
 ghost use Rattle.model_causes.specs.Laws as laws;
+
+// Where a reader stands: the kind of the last record, 0 before the first, the head's numbers, and how many items there are of each kind.
+pub struct Stand {
+    pub last: u8,
+    pub modes: u8,
+    pub initial: u8,
+    pub threads: usize,
+    pub inputs: usize,
+    pub outputs: usize,
+    pub locals: usize,
+    pub connections: usize,
+    pub switches: usize,
+}
+
+// What the items tell of a record that follows them: that the input port of a connection is connected, the hyperperiods of a mode
+// transition.
+pub struct Found {
+    pub connected: bool,
+    pub h1: u64,
+    pub h2: u64,
+}
+
+// The assignments that a transition has room for.
+pub struct Four {
+    pub first: Assignment,
+    pub second: Assignment,
+    pub third: Assignment,
+    pub fourth: Assignment,
+}
+
+// The timing with the numbers of n and the items of t.
+pub fn timing_of(n: Stand, t: Timing) -> Timing
+    ensures { λ r. ⌜ r ≡ laws.timingOf n t ⌝ }
+{
+    let mut m = t;
+    m.modes = n.modes;
+    m.initial = n.initial;
+    m.threads = n.threads;
+    m.inputs = n.inputs;
+    m.outputs = n.outputs;
+    m.locals = n.locals;
+    m.connections = n.connections;
+    m.switches = n.switches;
+    m
+}
 
 // The kind that one of kinds 01 to 08 may not fall below.
 fn least_kind(last: u8) -> u8
@@ -66,16 +108,16 @@ pub fn times_fit(x: Thread) -> bool
 }
 
 // A mask has 8 bits, so it fits where there are 8 modes or more.
-pub fn mask_fits(m: Timing, mask: u8) -> bool
-    ensures { λ r. ⌜ r ≡ reading.maskFits m mask ⌝ }
+fn mask_fits(m: Stand, mask: u8) -> bool
+    ensures { λ r. ⌜ r ≡ reading.maskFits (laws.bare m) mask ⌝ }
 {
     let n = m.modes;
     if n < 8 { (mask >> n) == 0 } else { true }
 }
 
 // The item that a tag and a number name is there.
-pub fn names_item(m: Timing, tag: u8, n: usize) -> bool
-    ensures { λ r. ⌜ r ≡ reading.namesItem m tag n ⌝ }
+fn names_item(m: Stand, tag: u8, n: usize) -> bool
+    ensures { λ r. ⌜ r ≡ reading.namesItem (laws.bare m) tag n ⌝ }
 {
     match tag {
         1 => n < m.inputs,
@@ -85,17 +127,36 @@ pub fn names_item(m: Timing, tag: u8, n: usize) -> bool
     }
 }
 
-pub fn is_owned_by(m: Timing, t: u8, tag: u8, n: usize) -> bool
-    ensures { λ r. ⌜ r ≡ reading.isOwnedBy m t tag n ⌝ }
+// ---- owners: those of the input ports, of the locals and of the output ports, each from its place on
+pub fn owners_of(m: Timing) -> [u8; 96]
+    ensures { λ r. ⌜ laws.Owners m r ⌝ }
+{
+    let mut o: [u8; 96] = [0; 96];
+    let mut n: usize = 0;
+    while n < 32 {
+        let x = m.local[n];
+        o[n] = m.input[n];
+        o[32 + n] = x.owner;
+        o[64 + n] = m.output[n];
+        n += 1;
+    }
+    o
+}
+
+fn owner_at(o: &[u8; 96], first: usize, n: usize) -> u8
+    requires { ⌜ first ≤ 64 ⌝ }
+    ensures { λ r. ⌜ r ≡ laws.ownerAt (now (o .entry)) first n ⌝ }
+{
+    if n < 32 { o[first + n] } else { 0 }
+}
+
+fn is_owned_by(o: &[u8; 96], t: u8, tag: u8, n: usize) -> bool
+    ensures { λ r. ⌜ r ≡ laws.ownedBy (now (o .entry)) t tag n ⌝ }
 {
     match tag {
-        1 => input_owner(m, n) == t,
-        2 => {
-            let x = local_at(m, n);
-            let o = x.owner;
-            o == t
-        }
-        3 => output_owner(m, n) == t,
+        1 => owner_at(o, 0, n) == t,
+        2 => owner_at(o, 32, n) == t,
+        3 => owner_at(o, 64, n) == t,
         _ => true,
     }
 }
@@ -116,8 +177,8 @@ fn operand_tag(o: Operand) -> bool
     t < 3
 }
 
-fn operand_names(m: Timing, o: Operand) -> bool
-    ensures { λ r. ⌜ r ≡ reading.operandNames m o ⌝ }
+fn operand_names(m: Stand, o: Operand) -> bool
+    ensures { λ r. ⌜ r ≡ reading.operandNames (laws.bare m) o ⌝ }
 {
     let t = o.tag;
     if t < 3 {
@@ -128,12 +189,12 @@ fn operand_names(m: Timing, o: Operand) -> bool
     }
 }
 
-fn operand_owned(m: Timing, t: u8, o: Operand) -> bool
-    ensures { λ r. ⌜ r ≡ reading.operandOwned m t o ⌝ }
+fn operand_owned(o: &[u8; 96], t: u8, x: Operand) -> bool
+    ensures { λ r. ⌜ r ≡ laws.ownedBy (now (o .entry)) t (x .tag) (laws.numberIn x) ⌝ }
 {
-    let n = number_in(o);
-    let tag = o.tag;
-    is_owned_by(m, t, tag, n)
+    let n = number_in(x);
+    let tag = x.tag;
+    is_owned_by(o, t, tag, n)
 }
 
 fn left_tag(a: Atom) -> bool
@@ -151,8 +212,8 @@ fn target_tag(a: Assignment) -> bool
 }
 
 // Where the tag is one that the place allows, the item is there.
-fn allowed_names(allowed: bool, m: Timing, tag: u8, n: u16) -> bool
-    ensures { λ r. ⌜ r ≡ cond allowed (reading.namesItem m tag n) true ⌝ }
+fn allowed_names(allowed: bool, m: Stand, tag: u8, n: u16) -> bool
+    ensures { λ r. ⌜ r ≡ cond allowed (reading.namesItem (laws.bare m) tag n) true ⌝ }
 {
     if allowed {
         names_item(m, tag, wide(n))
@@ -161,13 +222,18 @@ fn allowed_names(allowed: bool, m: Timing, tag: u8, n: u16) -> bool
     }
 }
 
-pub fn is_connected(m: Timing, i: u16) -> bool
+// ---- what items tell
+fn is_connected(m: Timing, i: u16) -> bool
     ensures { λ r. ⌜ r ≡ reading.isConnected m i ⌝ }
 {
     let n = m.connections;
     let mut c: usize = 0;
     while c < n {
-        let x = connection_at(m, c);
+        let x = if c < 32 {
+            m.connection[c]
+        } else {
+            connection_at(m, c)
+        };
         let target = x.target;
         if target == i {
             return true;
@@ -177,12 +243,74 @@ pub fn is_connected(m: Timing, i: u16) -> bool
     false
 }
 
-// The transition that a 09 or 0A belongs to.
-pub fn last_transition(b: Behavior) -> usize
-    ensures { λ r. ⌜ r ≡ reading.lastTransition b ⌝ }
+// A hyperperiod with the period of a thread that is critical in both modes.
+fn with_period(x: Thread, old: u8, new: u8, h: u64) -> u64
+    ensures { λ r. ⌜ r ≡ laws.withPeriodOf x old new h ⌝ }
 {
-    let n = b.transitions;
-    if 0 < n { n - 1 } else { 0 }
+    let before = critical_in(x, old);
+    let after = critical_in(x, new);
+    if before & after {
+        let p = x.period;
+        lcm_up_to(1000000000, h, p.0)
+    } else {
+        h
+    }
+}
+
+fn hyperperiod(m: Timing, old: u8, new: u8) -> u64
+    ensures { λ r. ⌜ r ≡ model.hyperperiod m old new ⌝ }
+{
+    let n = m.threads;
+    let mut h: u64 = 1;
+    let mut t: usize = 0;
+    while t < n {
+        let x = if t < 16 {
+            m.thread[t]
+        } else {
+            thread_at(m, t)
+        };
+        h = with_period(x, old, new, h);
+        t += 1;
+    }
+    h
+}
+
+// Of a record that is judged without items.
+pub fn nothing() -> Found
+    ensures { λ r. ⌜ r ≡ laws.nothing ⌝ }
+{
+    Found {
+        connected: false,
+        h1: 1,
+        h2: 1,
+    }
+}
+
+pub fn found_in(m: Timing, r: Record) -> Found
+    ensures { λ f. ⌜ f ≡ laws.foundIn m r ⌝ }
+{
+    match r {
+        Record::HeadRecord(_) => nothing(),
+        Record::ThreadRecord(_) => nothing(),
+        Record::InputRecord(_) => nothing(),
+        Record::OutputRecord(_) => nothing(),
+        Record::LocalRecord(_) => nothing(),
+        Record::ConnectionRecord(x) => Found {
+            connected: is_connected(m, x.target),
+            h1: 1,
+            h2: 1,
+        },
+        Record::ModeRecord(x) => Found {
+            connected: false,
+            h1: hyperperiod(m, x.from, x.from),
+            h2: hyperperiod(m, x.from, x.to),
+        },
+        Record::TransitionRecord(_) => nothing(),
+        Record::AtomRecord(_) => nothing(),
+        Record::AssignmentRecord(_) => nothing(),
+        Record::Cut => nothing(),
+        Record::Unknown => nothing(),
+    }
 }
 
 fn same_target(x: Assignment, a: Assignment) -> bool
@@ -195,21 +323,15 @@ fn same_target(x: Assignment, a: Assignment) -> bool
     (p == q) & (i == j)
 }
 
-pub fn is_assigned(b: Behavior, a: Assignment) -> bool
-    ensures { λ r. ⌜ r ≡ reading.isAssigned b a ⌝ }
+// One of the first n has the target of a.
+fn is_assigned(n: u8, q: Four, a: Assignment) -> bool
+    ensures { λ r. ⌜ r ≡ laws.assignedIn n q a ⌝ }
 {
-    let k = last_transition(b);
-    let t = transition_at(b, k);
-    let n = small(t.assignments);
-    let mut j: usize = 0;
-    while j < n {
-        let x = assignment_at(b, k, j);
-        if same_target(x, a) {
-            return true;
-        }
-        j += 1;
-    }
-    false
+    let first = same_target(q.first, a);
+    let second = same_target(q.second, a);
+    let third = same_target(q.third, a);
+    let fourth = same_target(q.fourth, a);
+    ((((0 < n) & first) | ((1 < n) & second)) | ((2 < n) & third)) | ((3 < n) & fourth)
 }
 
 pub fn small(n: u8) -> usize
@@ -267,8 +389,8 @@ fn head_cause(order: bool, x: Head) -> Cause
     })
 }
 
-fn thread_cause(order: bool, m: Timing, x: Thread) -> Cause
-    ensures { λ r. ⌜ r ≡ reading.judged (reading.threadFaults order m x) ⌝ }
+fn thread_cause(order: bool, m: Stand, x: Thread) -> Cause
+    ensures { λ r. ⌜ r ≡ reading.judged (reading.threadFaults order (laws.bare m) x) ⌝ }
 {
     let n = m.threads;
     let fits = times_fit(x);
@@ -288,8 +410,8 @@ fn thread_cause(order: bool, m: Timing, x: Thread) -> Cause
 }
 
 // Of an input port, an output port or a local.
-fn port_cause(order: bool, count: usize, limit: usize, m: Timing, owner: u8) -> Cause
-    ensures { λ r. ⌜ r ≡ reading.judged (reading.portFaults order count limit m owner) ⌝ }
+fn port_cause(order: bool, count: usize, limit: usize, m: Stand, owner: u8) -> Cause
+    ensures { λ r. ⌜ r ≡ reading.judged (reading.portFaults order count limit (laws.bare m) owner) ⌝ }
 {
     let n = m.threads;
     let t = small(owner);
@@ -305,8 +427,8 @@ fn port_cause(order: bool, count: usize, limit: usize, m: Timing, owner: u8) -> 
     })
 }
 
-fn connection_cause(order: bool, m: Timing, x: Connection) -> Cause
-    ensures { λ r. ⌜ r ≡ reading.judged (reading.connectionFaults order m x) ⌝ }
+fn connection_cause(order: bool, m: Stand, f: Found, x: Connection) -> Cause
+    ensures { λ r. ⌜ r ≡ reading.judged (laws.connectionFaultsBy order m f x) ⌝ }
 {
     let n = m.connections;
     let outputs = m.outputs;
@@ -315,7 +437,7 @@ fn connection_cause(order: bool, m: Timing, x: Connection) -> Cause
     let source = wide(x.source);
     let target = wide(x.target);
     let mask = mask_fits(m, x.modes);
-    let connected = is_connected(m, x.target);
+    let connected = f.connected;
     judged(Faults {
         order: order,
         excess: 32 <= n,
@@ -328,15 +450,15 @@ fn connection_cause(order: bool, m: Timing, x: Connection) -> Cause
     })
 }
 
-fn switch_cause(order: bool, m: Timing, x: ModeTransition) -> Cause
-    ensures { λ r. ⌜ r ≡ reading.judged (reading.switchFaults order m x) ⌝ }
+fn switch_cause(order: bool, m: Stand, f: Found, x: ModeTransition) -> Cause
+    ensures { λ r. ⌜ r ≡ reading.judged (laws.switchFaultsBy order m f x) ⌝ }
 {
     let n = m.switches;
     let modes = m.modes;
     let from = x.from;
     let to = x.to;
-    let h1 = hyperperiod(m, from, from);
-    let h2 = hyperperiod(m, from, to);
+    let h1 = f.h1;
+    let h2 = f.h2;
     judged(Faults {
         order: order,
         excess: 16 <= n,
@@ -349,13 +471,10 @@ fn switch_cause(order: bool, m: Timing, x: ModeTransition) -> Cause
     })
 }
 
-fn transition_cause(order: bool, m: Model, x: Transition) -> Cause
-    ensures { λ r. ⌜ r ≡ reading.judged (reading.transitionFaults order m x) ⌝ }
+fn transition_cause(order: bool, m: Stand, n: usize, x: Transition) -> Cause
+    ensures { λ r. ⌜ r ≡ reading.judged (laws.transitionFaultsBy order m n x) ⌝ }
 {
-    let b = behavior_of(m);
-    let t = timing_of(m);
-    let n = b.transitions;
-    let threads = t.threads;
+    let threads = m.threads;
     let thread = small(x.thread);
     let from = x.from;
     let to = x.to;
@@ -371,18 +490,20 @@ fn transition_cause(order: bool, m: Model, x: Transition) -> Cause
     })
 }
 
-// t is the thread of the last transition, and `count` how many atoms that has.
-fn atom_cause(order: bool, m: Timing, t: u8, count: u8, a: Atom) -> Cause
-    ensures { λ r. ⌜ r ≡ reading.judged (reading.atomFaults order m t count a) ⌝ }
+// x is the transition that it belongs to, and o has the owners.
+fn atom_cause(order: bool, m: Stand, o: &[u8; 96], x: Transition, a: Atom) -> Cause
+    ensures { λ r. ⌜ r ≡ reading.judged (laws.atomFaultsBy order m (now (o .entry)) x a) ⌝ }
 {
+    let t = x.thread;
+    let count = x.atoms;
     let op = a.op;
     let right = a.right;
     let left = left_tag(a);
     let tag = operand_tag(right);
     let left_names = allowed_names(left, m, a.tag, a.number);
     let right_names = operand_names(m, right);
-    let left_owned = is_owned_by(m, t, a.tag, wide(a.number));
-    let right_owned = operand_owned(m, t, right);
+    let left_owned = is_owned_by(o, t, a.tag, wide(a.number));
+    let right_owned = operand_owned(o, t, right);
     judged(Faults {
         order: order,
         excess: 4 <= count,
@@ -395,21 +516,22 @@ fn atom_cause(order: bool, m: Timing, t: u8, count: u8, a: Atom) -> Cause
     })
 }
 
-fn assignment_cause(order: bool, m: Model, t: u8, count: u8, a: Assignment) -> Cause
-    ensures { λ r. ⌜ r ≡ reading.judged (reading.assignmentFaults order m t count a) ⌝ }
+// q has the assignments that x has so far.
+fn assignment_cause(order: bool, m: Stand, o: &[u8; 96], x: Transition, q: Four, a: Assignment) -> Cause
+    ensures { λ r. ⌜ r ≡ reading.judged (laws.assignmentFaultsBy order m (now (o .entry)) x q a) ⌝ }
 {
-    let timing = timing_of(m);
-    let b = behavior_of(m);
+    let t = x.thread;
+    let count = x.assignments;
     let op = a.op;
     let first = a.first;
     let second = a.second;
     let target = target_tag(a);
     let tags = operand_tag(first) & operand_tag(second);
-    let target_names = allowed_names(target, timing, a.tag, a.number);
-    let names = operand_names(timing, first) & operand_names(timing, second);
-    let target_owned = is_owned_by(timing, t, a.tag, wide(a.number));
-    let owned = operand_owned(timing, t, first) & operand_owned(timing, t, second);
-    let twice = is_assigned(b, a);
+    let target_names = allowed_names(target, m, a.tag, a.number);
+    let names = operand_names(m, first) & operand_names(m, second);
+    let target_owned = is_owned_by(o, t, a.tag, wide(a.number));
+    let owned = operand_owned(o, t, first) & operand_owned(o, t, second);
+    let twice = is_assigned(count, q, a);
     judged(Faults {
         order: order,
         excess: 4 <= count,
@@ -422,51 +544,43 @@ fn assignment_cause(order: bool, m: Model, t: u8, count: u8, a: Assignment) -> C
     })
 }
 
-fn timing_of(m: Model) -> Timing
-    ensures { λ r. ⌜ r ≡ m .timing ⌝ }
+// Why a record of kinds 01 to 07, or one that is not whole, is refused where a reader stands.
+pub fn timing_cause(n: Stand, f: Found, r: Record) -> Cause
+    ensures { λ c. ⌜ c ≡ laws.timingCause n f r ⌝ }
 {
-    m.timing
-}
-
-fn behavior_of(m: Model) -> Behavior
-    ensures { λ r. ⌜ r ≡ m .behavior ⌝ }
-{
-    m.behavior
-}
-
-// The transition that atoms and assignments belong to.
-fn open_transition(m: Model) -> Transition
-    ensures { λ r. ⌜ r ≡ laws.openIn m ⌝ }
-{
-    let b = behavior_of(m);
-    let k = last_transition(b);
-    transition_at(b, k)
-}
-
-// Why a record is refused where a reader stands.
-pub fn cause_of(a: Reading, r: Record) -> Cause
-    ensures { λ c. ⌜ c ≡ reading.causeOf a r ⌝ }
-{
-    let order = !in_order(a.last, kind_of(r));
-    let m = a.model;
-    let t = timing_of(m);
+    let order = !in_order(n.last, kind_of(r));
     match r {
         Record::HeadRecord(x) => head_cause(order, x),
-        Record::ThreadRecord(x) => thread_cause(order, t, x),
-        Record::InputRecord(o) => port_cause(order, t.inputs, 32, t, o),
-        Record::OutputRecord(o) => port_cause(order, t.outputs, 32, t, o),
-        Record::LocalRecord(x) => port_cause(order, t.locals, 32, t, x.owner),
-        Record::ConnectionRecord(x) => connection_cause(order, t, x),
-        Record::ModeRecord(x) => switch_cause(order, t, x),
-        Record::TransitionRecord(x) => transition_cause(order, m, x),
-        Record::AtomRecord(x) => {
-            let o = open_transition(m);
-            atom_cause(order, t, o.thread, o.atoms, x)
-        }
-        Record::AssignmentRecord(x) => {
-            let o = open_transition(m);
-            assignment_cause(order, m, o.thread, o.assignments, x)
-        }
+        Record::ThreadRecord(x) => thread_cause(order, n, x),
+        Record::InputRecord(o) => port_cause(order, n.inputs, 32, n, o),
+        Record::OutputRecord(o) => port_cause(order, n.outputs, 32, n, o),
+        Record::LocalRecord(x) => port_cause(order, n.locals, 32, n, x.owner),
+        Record::ConnectionRecord(x) => connection_cause(order, n, f, x),
+        Record::ModeRecord(x) => switch_cause(order, n, f, x),
+        Record::TransitionRecord(_) => Cause::WrongKind,
+        Record::AtomRecord(_) => Cause::WrongKind,
+        Record::AssignmentRecord(_) => Cause::WrongKind,
+        Record::Cut => Cause::CutRecord,
+        Record::Unknown => Cause::WrongKind,
+    }
+}
+
+// Why one after the timing is: m is how many transitions there are, x the last of them, q its assignments, and o has the owners.
+pub fn behavior_cause(n: Stand, m: usize, x: Transition, q: Four, o: &[u8; 96], r: Record) -> Cause
+    ensures { λ c. ⌜ c ≡ laws.behaviorCause n m x q (now (o .entry)) r ⌝ }
+{
+    let order = !in_order(n.last, kind_of(r));
+    match r {
+        Record::HeadRecord(_) => Cause::WrongKind,
+        Record::ThreadRecord(_) => Cause::WrongKind,
+        Record::InputRecord(_) => Cause::WrongKind,
+        Record::OutputRecord(_) => Cause::WrongKind,
+        Record::LocalRecord(_) => Cause::WrongKind,
+        Record::ConnectionRecord(_) => Cause::WrongKind,
+        Record::ModeRecord(_) => Cause::WrongKind,
+        Record::TransitionRecord(y) => transition_cause(order, n, m, y),
+        Record::AtomRecord(a) => atom_cause(order, n, o, x, a),
+        Record::AssignmentRecord(a) => assignment_cause(order, n, o, x, q, a),
         Record::Cut => Cause::CutRecord,
         Record::Unknown => Cause::WrongKind,
     }

@@ -1,28 +1,28 @@
-// Reading a model: its records one by one, up to the first that is refused.
+// Reading a model: its records one by one, up to the first that is refused. Two loops, before the behaviours and over them, each of which
+// stores into the struct that it holds: a model handed on by value for each record would be copied.
 
-use model_causes::cause_of;
-use model_causes::last_transition;
+use model_causes::Found;
+use model_causes::Four;
+use model_causes::Stand;
+use model_causes::behavior_cause;
+use model_causes::found_in;
+use model_causes::nothing;
+use model_causes::owners_of;
 use model_causes::small;
+use model_causes::timing_cause;
+use model_causes::timing_of;
 use model_format::Assignment;
-use model_format::Atom;
 use model_format::Behavior;
-use model_format::Connection;
 use model_format::Head;
-use model_format::Local;
 use model_format::ModeTransition;
 use model_format::Model;
 use model_format::ModelRead;
-use model_format::Reading;
 use model_format::Record;
-use model_format::Thread;
 use model_format::Timing;
 use model_format::Transition;
 use model_format::empty_model;
-use model_format::hyperperiod;
 use model_format::kind_of;
-use model_format::place;
 use model_format::record_of;
-use model_format::transition_at;
 use numbers::Duration;
 use records::Cause;
 use records::Holder;
@@ -31,75 +31,129 @@ use records::Refusal;
 ghost use mathlib.Core.Path.{_≡_};
 ghost use mathlib.Core.List.{[]};
 ghost use Prim.Native.Nat.{_<_, _≤_};
+ghost use lib.ListN.{length};
 ghost use Rattle.numbers.specs.Values.{duration};
 ghost use Rattle.records.specs.Refusals.{inModel};
 ghost use Rattle.model_format.specs.Model as model;
 ghost use Rattle.model_format.specs.Reading as reading;
 ghost use Rattle.model_reader.specs.Laws as laws;
 
-// ---- a record that is accepted, added to the model: each count is below its limit, as the record's cause has told
-fn add_head(m: Timing, x: Head) -> Timing
-    ensures { λ r. ⌜ r ≡ reading.addHead m x ⌝ }
-{
-    let mut q = m;
-    q.modes = x.modes;
-    q.initial = x.initial;
-    q
+// Reading that has come to the behaviours or to the end: where it stands, the items so far, and the place. Or the part that is refused.
+struct Start {
+    cause: Cause,
+    at: usize,
+    end: usize,
+    stand: Stand,
+    timing: Timing,
 }
 
-fn add_thread(m: Timing, x: Thread) -> Timing
-    requires { ⌜ m .threads < model.maxThreads ⌝ }
-    ensures { λ r. ⌜ r ≡ reading.addThread m x ⌝ }
+fn begun(at: usize, n: Stand, t: Timing) -> Start
+    ensures { λ r. ⌜ r ≡ laws.begun at n t ⌝ }
 {
-    let n = m.threads;
-    let mut q = m;
-    q.thread[n] = x;
-    q.threads = n + 1;
-    q
+    let none = Cause::None;
+    Start {
+        cause: none,
+        at: at,
+        end: at,
+        stand: n,
+        timing: t,
+    }
 }
 
-fn add_input(m: Timing, owner: u8) -> Timing
-    requires { ⌜ m .inputs < model.maxInputs ⌝ }
-    ensures { λ r. ⌜ r ≡ reading.addInput m owner ⌝ }
+fn stopped(c: Cause, at: usize, end: usize, n: Stand, t: Timing) -> Start
+    ensures { λ r. ⌜ r ≡ laws.stopped c at end n t ⌝ }
 {
-    let n = m.inputs;
-    let mut q = m;
-    q.input[n] = owner;
-    q.inputs = n + 1;
-    q
+    Start {
+        cause: c,
+        at: at,
+        end: end,
+        stand: n,
+        timing: t,
+    }
 }
 
-fn add_output(m: Timing, owner: u8) -> Timing
-    requires { ⌜ m .outputs < model.maxOutputs ⌝ }
-    ensures { λ r. ⌜ r ≡ reading.addOutput m owner ⌝ }
+fn no_items() -> Stand
+    ensures { λ r. ⌜ r ≡ laws.noItems ⌝ }
 {
-    let n = m.outputs;
-    let mut q = m;
-    q.output[n] = owner;
-    q.outputs = n + 1;
-    q
+    Stand {
+        last: 0,
+        modes: 0,
+        initial: 0,
+        threads: 0,
+        inputs: 0,
+        outputs: 0,
+        locals: 0,
+        connections: 0,
+        switches: 0,
+    }
 }
 
-fn add_local(m: Timing, x: Local) -> Timing
-    requires { ⌜ m .locals < model.maxLocals ⌝ }
-    ensures { λ r. ⌜ r ≡ reading.addLocal m x ⌝ }
+fn no_behavior() -> Behavior
+    ensures { λ r. ⌜ r ≡ model.emptyModel .behavior ⌝ }
 {
-    let n = m.locals;
-    let mut q = m;
-    q.local[n] = x;
-    q.locals = n + 1;
-    q
+    let m = empty_model();
+    m.behavior
 }
 
-fn add_connection(m: Timing, x: Connection) -> Timing
-    requires { ⌜ m .connections < model.maxConnections ⌝ }
-    ensures { λ r. ⌜ r ≡ reading.addConnection m x ⌝ }
+// ---- the part at a place
+fn end_at(s: &[u8], at: usize) -> usize
+    requires { ⌜ at < length (now s) ⌝ }
+    ensures { λ r. ⌜ r ≡ laws.endAt (now (s .entry)) at ⌝ }
 {
-    let n = m.connections;
-    let mut q = m;
-    q.connection[n] = x;
-    q.connections = n + 1;
-    q
+    let w = Notation::Model;
+    let n = records::part_at(w, s, at);
+    at + n
+}
+
+fn record_at(s: &[u8], at: usize) -> Record
+    requires { ⌜ at < length (now s) ⌝ }
+    ensures { λ r. ⌜ r ≡ laws.recordAt (now (s .entry)) at ⌝ }
+{
+    let end = end_at(s, at);
+    record_of(&s[at..end])
+}
+
+// ---- a record of kind k that is accepted: its count is below its limit, as the record's cause has told
+// The place of its item among those of the kind.
+fn place_of(n: Stand, k: u8) -> usize
+    ensures { λ r. ⌜ r ≡ laws.placeOf n k ⌝ }
+{
+    match k {
+        2 => n.threads,
+        3 => n.inputs,
+        4 => n.outputs,
+        5 => n.locals,
+        6 => n.connections,
+        7 => n.switches,
+        _ => 0,
+    }
+}
+
+fn counted(n: Stand, k: u8) -> Stand
+    requires { ⌜ laws.placeOf n k < laws.roomOf k ⌝ }
+    ensures { λ r. ⌜ r ≡ laws.counted n k ⌝ }
+{
+    let mut m = n;
+    m.last = k;
+    match k {
+        2 => m.threads = n.threads + 1,
+        3 => m.inputs = n.inputs + 1,
+        4 => m.outputs = n.outputs + 1,
+        5 => m.locals = n.locals + 1,
+        6 => m.connections = n.connections + 1,
+        7 => m.switches = n.switches + 1,
+        _ => {}
+    }
+    m
+}
+
+fn headed(n: Stand, x: Head) -> Stand
+    ensures { λ r. ⌜ r ≡ laws.headed n x ⌝ }
+{
+    let mut m = n;
+    m.modes = x.modes;
+    m.initial = x.initial;
+    m
 }
 
 // A hyperperiod that is not past the last clock, which 32 bits hold.
@@ -110,77 +164,66 @@ fn period_of(h: u64) -> Duration
     Duration(h as u32)
 }
 
-fn with_hyperperiods(m: Timing, x: ModeTransition) -> ModeTransition
-    requires { ⌜ laws.ShortPeriods m x ⌝ }
-    ensures { λ r. ⌜ r ≡ reading.withHyperperiods m x ⌝ }
+fn with_periods(x: ModeTransition, f: Found) -> ModeTransition
+    requires { ⌜ (f .h1 ≤ 1000000000) × (f .h2 ≤ 1000000000) ⌝ }
+    ensures { λ r. ⌜ r ≡ laws.withPeriods x f ⌝ }
 {
-    let from = x.from;
-    let to = x.to;
-    let h1 = period_of(hyperperiod(m, from, from));
-    let h2 = period_of(hyperperiod(m, from, to));
+    let h1 = period_of(f.h1);
+    let h2 = period_of(f.h2);
     ModeTransition {
-        from: from,
-        to: to,
+        from: x.from,
+        to: x.to,
         h1: h1,
         h2: h2,
     }
 }
 
-fn add_switch(m: Timing, x: ModeTransition) -> Timing
-    requires { ⌜ (m .switches < model.maxSwitches) × laws.ShortPeriods m x ⌝ }
-    ensures { λ r. ⌜ r ≡ reading.addSwitch m x ⌝ }
+// The records before the behaviours.
+fn read_timing(s: &[u8]) -> Start
+    ensures { λ r. ⌜ laws.Begun (now (s .entry)) r ⌝ }
 {
-    let y = with_hyperperiods(m, x);
-    let n = m.switches;
-    let mut q = m;
-    q.switch[n] = y;
-    q.switches = n + 1;
-    q
-}
-
-fn add_transition(b: Behavior, x: Transition) -> Behavior
-    requires { ⌜ b .transitions < model.maxTransitions ⌝ }
-    ensures { λ r. ⌜ r ≡ reading.addTransition b x ⌝ }
-{
-    let n = b.transitions;
-    let mut q = b;
-    q.transition[n] = x;
-    q.transitions = n + 1;
-    q
-}
-
-// Stores past the room store nothing.
-fn put_transition(b: Behavior, k: usize, x: Transition) -> Behavior
-    ensures { λ r. ⌜ r ≡ laws.putTransition b k x ⌝ }
-{
-    if 64 <= k {
-        return b;
+    let empty = empty_model();
+    let mut t = empty.timing;
+    let mut n = no_items();
+    let mut at: usize = 0;
+    while at < s.len() {
+        let r = record_at(s, at);
+        let k = kind_of(r);
+        if 8 <= k {
+            return begun(at, n, t);
+        }
+        let f = if (k == 6) | (k == 7) {
+            found_in(timing_of(n, t), r)
+        } else {
+            nothing()
+        };
+        let c = timing_cause(n, f, r);
+        if !records::is_none(c) {
+            return stopped(c, at, end_at(s, at), n, t);
+        }
+        let i = place_of(n, k);
+        n = counted(n, k);
+        match r {
+            Record::HeadRecord(x) => n = headed(n, x),
+            Record::ThreadRecord(x) => t.thread[i] = x,
+            Record::InputRecord(o) => t.input[i] = o,
+            Record::OutputRecord(o) => t.output[i] = o,
+            Record::LocalRecord(x) => t.local[i] = x,
+            Record::ConnectionRecord(x) => t.connection[i] = x,
+            Record::ModeRecord(x) => t.switch[i] = with_periods(x, f),
+            _ => {}
+        }
+        at = end_at(s, at);
     }
-    let mut q = b;
-    q.transition[k] = x;
-    q
+    begun(at, n, t)
 }
 
-fn put_atom(b: Behavior, i: usize, a: Atom) -> Behavior
-    ensures { λ r. ⌜ r ≡ laws.putAtom b i a ⌝ }
+// ---- the behaviours
+// The transition that atoms and assignments belong to, of n.
+fn last_of(n: usize) -> usize
+    ensures { λ r. ⌜ r ≡ laws.lastOf n ⌝ }
 {
-    if 256 <= i {
-        return b;
-    }
-    let mut q = b;
-    q.atom[i] = a;
-    q
-}
-
-fn put_assignment(b: Behavior, i: usize, a: Assignment) -> Behavior
-    ensures { λ r. ⌜ r ≡ laws.putAssignment b i a ⌝ }
-{
-    if 256 <= i {
-        return b;
-    }
-    let mut q = b;
-    q.assignment[i] = a;
-    q
+    if 0 < n { n - 1 } else { 0 }
 }
 
 fn with_counts(x: Transition, atoms: u8, assignments: u8) -> Transition
@@ -195,90 +238,15 @@ fn with_counts(x: Transition, atoms: u8, assignments: u8) -> Transition
     }
 }
 
-fn add_atom(b: Behavior, a: Atom) -> Behavior
-    requires { ⌜ laws.lastOf b .atoms < model.maxEach ⌝ }
-    ensures { λ r. ⌜ r ≡ reading.addAtom b a ⌝ }
+fn four(a: Assignment, b: Assignment, c: Assignment, d: Assignment) -> Four
+    ensures { λ r. ⌜ r ≡ laws.four a b c d ⌝ }
 {
-    let k = last_transition(b);
-    let x = transition_at(b, k);
-    let n = x.atoms;
-    let i = place(k, small(n));
-    let y = with_counts(x, n + 1, x.assignments);
-    put_atom(put_transition(b, k, y), i, a)
-}
-
-fn add_assignment(b: Behavior, a: Assignment) -> Behavior
-    requires { ⌜ laws.lastOf b .assignments < model.maxEach ⌝ }
-    ensures { λ r. ⌜ r ≡ reading.addAssignment b a ⌝ }
-{
-    let k = last_transition(b);
-    let x = transition_at(b, k);
-    let n = x.assignments;
-    let i = place(k, small(n));
-    let y = with_counts(x, x.atoms, n + 1);
-    put_assignment(put_transition(b, k, y), i, a)
-}
-
-// A record that is accepted adds to the timing or to the behaviours.
-fn add_to_timing(t: Timing, r: Record) -> Timing
-    requires { ⌜ laws.TimingRoom t r ⌝ }
-    ensures { λ q. ⌜ q ≡ laws.addToTiming t r ⌝ }
-{
-    match r {
-        Record::HeadRecord(x) => add_head(t, x),
-        Record::ThreadRecord(x) => add_thread(t, x),
-        Record::InputRecord(o) => add_input(t, o),
-        Record::OutputRecord(o) => add_output(t, o),
-        Record::LocalRecord(x) => add_local(t, x),
-        Record::ConnectionRecord(x) => add_connection(t, x),
-        Record::ModeRecord(x) => add_switch(t, x),
-        Record::TransitionRecord(_) => t,
-        Record::AtomRecord(_) => t,
-        Record::AssignmentRecord(_) => t,
-        Record::Cut => t,
-        Record::Unknown => t,
+    Four {
+        first: a,
+        second: b,
+        third: c,
+        fourth: d,
     }
-}
-
-fn add_to_behavior(b: Behavior, r: Record) -> Behavior
-    requires { ⌜ laws.BehaviorRoom b r ⌝ }
-    ensures { λ q. ⌜ q ≡ laws.addToBehavior b r ⌝ }
-{
-    match r {
-        Record::HeadRecord(_) => b,
-        Record::ThreadRecord(_) => b,
-        Record::InputRecord(_) => b,
-        Record::OutputRecord(_) => b,
-        Record::LocalRecord(_) => b,
-        Record::ConnectionRecord(_) => b,
-        Record::ModeRecord(_) => b,
-        Record::TransitionRecord(x) => add_transition(b, x),
-        Record::AtomRecord(x) => add_atom(b, x),
-        Record::AssignmentRecord(x) => add_assignment(b, x),
-        Record::Cut => b,
-        Record::Unknown => b,
-    }
-}
-
-fn add_record(m: Model, r: Record) -> Model
-    requires { ⌜ laws.Room m r ⌝ }
-    ensures { λ q. ⌜ q ≡ reading.addRecord m r ⌝ }
-{
-    let t = add_to_timing(m.timing, r);
-    let b = add_to_behavior(m.behavior, r);
-    Model {
-        timing: t,
-        behavior: b,
-    }
-}
-
-fn next_reading(a: Reading, r: Record) -> Reading
-    requires { ⌜ laws.Room (a .model) r ⌝ }
-    ensures { λ q. ⌜ q ≡ reading.nextReading a r ⌝ }
-{
-    let k = kind_of(r);
-    let m = add_record(a.model, r);
-    Reading { last: k, model: m }
 }
 
 // A refused record: the part, and the empty model.
@@ -317,38 +285,70 @@ fn accepted(m: Model) -> ModelRead
 }
 
 // Where the records end: a model has a head.
-fn finished(a: Reading, at: usize) -> ModelRead
-    ensures { λ r. ⌜ r ≡ reading.readFrom a at [] ⌝ }
+fn finished(n: Stand, at: usize, t: Timing, b: Behavior) -> ModelRead
+    ensures { λ r. ⌜ r ≡ reading.readFrom (laws.standing n t b) at [] ⌝ }
 {
-    let last = a.last;
+    let last = n.last;
     if last == 0 {
         let c = Cause::WrongKind;
         return refused(c, at, at);
     }
-    accepted(a.model)
+    let m = timing_of(n, t);
+    accepted(Model {
+        timing: m,
+        behavior: b,
+    })
+}
+
+// The records from the behaviours on, where a reader stands at n with the items of t.
+fn read_behaviors(s: &[u8], from: usize, start: Stand, t: Timing) -> ModelRead
+    requires { ⌜ laws.Late (now s) from start ⌝ }
+    ensures { λ r. ⌜ r ≡ laws.readOn (now (s .entry)) from start t ⌝ }
+{
+    let o = owners_of(t);
+    let mut b = no_behavior();
+    let mut n = start;
+    let mut at = from;
+    while at < s.len() {
+        let r = record_at(s, at);
+        let m = b.transitions;
+        let k = last_of(m);
+        let x = b.transition[k];
+        let i = k * 4;
+        let q = four(b.assignment[i], b.assignment[i + 1], b.assignment[i + 2], b.assignment[i + 3]);
+        let c = behavior_cause(n, m, x, q, &o, r);
+        if !records::is_none(c) {
+            return refused(c, at, end_at(s, at));
+        }
+        n = counted(n, kind_of(r));
+        match r {
+            Record::TransitionRecord(y) => {
+                b.transition[m] = y;
+                b.transitions = m + 1;
+            }
+            Record::AtomRecord(a) => {
+                b.transition[k] = with_counts(x, x.atoms + 1, x.assignments);
+                b.atom[i + small(x.atoms)] = a;
+            }
+            Record::AssignmentRecord(a) => {
+                b.transition[k] = with_counts(x, x.atoms, x.assignments + 1);
+                b.assignment[i + small(x.assignments)] = a;
+            }
+            _ => {}
+        }
+        at = end_at(s, at);
+    }
+    finished(n, at, t, b)
 }
 
 // The model that bytes stand for, or the first record that is refused.
 pub fn read_model(s: &[u8]) -> ModelRead
     ensures { λ r. ⌜ r ≡ reading.readModel (now (s .entry)) ⌝ }
 {
-    let empty = empty_model();
-    let mut a = Reading {
-        last: 0,
-        model: empty,
-    };
-    let mut at: usize = 0;
-    while at < s.len() {
-        let w = Notation::Model;
-        let n = records::part_at(w, s, at);
-        let end = at + n;
-        let r = record_of(&s[at..end]);
-        let c = cause_of(a, r);
-        if !records::is_none(c) {
-            return refused(c, at, end);
-        }
-        a = next_reading(a, r);
-        at = end;
+    let h = read_timing(s);
+    let c = h.cause;
+    if !records::is_none(c) {
+        return refused(c, h.at, h.end);
     }
-    finished(a, at)
+    read_behaviors(s, h.at, h.stand, h.timing)
 }

@@ -2,12 +2,6 @@ use borrow.Author.Needs.{needs}
 use Rattle.model_causes.proofs.assignment_cause.Statement.{statement}
 use Rattle.model_causes.proofs.assignment_cause.Tie as tie
 
-timing-of-requires : tie.Need-timing-of-requires
-timing-of-requires c κs = search needs
-
-behavior-of-requires : tie.Need-behavior-of-requires
-behavior-of-requires c κs = search needs
-
 target-tag-requires : tie.Need-target-tag-requires
 target-tag-requires c κs = search needs
 
@@ -45,7 +39,7 @@ judged-requires : tie.Need-judged-requires
 judged-requires c κs = search needs
 
 returns : tie.Need-returns
-returns c =
+returns c = 
     rw (
       c .judged .ensures,
       c .before .is-assigned .ensures,
@@ -59,16 +53,12 @@ returns c =
       c .before .before .before .before .before .before .before .before .before .operand-tag2 .ensures,
       c .before .before .before .before .before .before .before .before .before .before .operand-tag .ensures,
       c .before .before .before .before .before .before .before .before .before .before .before .target-tag .ensures,
-      c .before .before .before .before .before .before .before .before .before .before .before .before .before .before .behavior-of .ensures,
-      c .before .before .before .before .before .before .before .before .before .before .before .before .before .before .before .timing-of .ensures,
     )
 
 pub assignment-cause-spec : {M : Type 1} → statement M
 assignment-cause-spec =
     tie.close
     (tie.spec
-    timing-of-requires
-    behavior-of-requires
     target-tag-requires
     operand-tag-requires
     operand-tag-requires-2

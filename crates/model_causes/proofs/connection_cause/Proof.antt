@@ -11,29 +11,18 @@ wide-requires-2 c κs = search needs
 mask-fits-requires : tie.Need-mask-fits-requires
 mask-fits-requires c κs = search needs
 
-is-connected-requires : tie.Need-is-connected-requires
-is-connected-requires c κs = search needs
-
 judged-requires : tie.Need-judged-requires
 judged-requires c κs = search needs
 
 returns : tie.Need-returns
-returns c =
+returns c = 
     rw (
       c .judged .ensures,
-      c .before .is-connected .ensures,
-      c .before .before .mask-fits .ensures,
-      c .before .before .before .wide2 .ensures,
-      c .before .before .before .before .wide .ensures,
+      c .before .mask-fits .ensures,
+      c .before .before .wide2 .ensures,
+      c .before .before .before .wide .ensures,
     )
 
 pub connection-cause-spec : {M : Type 1} → statement M
 connection-cause-spec =
-    tie.close
-    (tie.spec
-    wide-requires
-    wide-requires-2
-    mask-fits-requires
-    is-connected-requires
-    judged-requires
-    returns)
+    tie.close (tie.spec wide-requires wide-requires-2 mask-fits-requires judged-requires returns)
