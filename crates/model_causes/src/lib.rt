@@ -264,11 +264,7 @@ fn hyperperiod(m: Timing, old: u8, new: u8) -> u64
     let mut h: u64 = 1;
     let mut t: usize = 0;
     while t < n {
-        let x = if t < 16 {
-            m.thread[t]
-        } else {
-            thread_at(m, t)
-        };
+        let x = if t < 16 { m.thread[t] } else { thread_at(m, t) };
         h = with_period(x, old, new, h);
         t += 1;
     }
@@ -517,7 +513,14 @@ fn atom_cause(order: bool, m: Stand, o: &[u8; 96], x: Transition, a: Atom) -> Ca
 }
 
 // q has the assignments that x has so far.
-fn assignment_cause(order: bool, m: Stand, o: &[u8; 96], x: Transition, q: Four, a: Assignment) -> Cause
+fn assignment_cause(
+    order: bool,
+    m: Stand,
+    o: &[u8; 96],
+    x: Transition,
+    q: Four,
+    a: Assignment,
+) -> Cause
     ensures { λ r. ⌜ r ≡ reading.judged (laws.assignmentFaultsBy order m (now (o .entry)) x q a) ⌝ }
 {
     let t = x.thread;

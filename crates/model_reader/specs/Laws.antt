@@ -39,6 +39,7 @@ use Rattle.model_causes.specs.declared.Found.{Found}
 use Rattle.model_causes.specs.declared.Four.{Four}
 use Rattle.model_causes.specs.Laws.{timingOf, nothing, foundIn, timingCause, behaviorCause, Owners, openIn, fourIn, timing-judged, behavior-judged}
 use Rattle.model_reader.specs.declared.Start.{Start}
+use Rattle.model_reader.specs.declared.Half.{Half}
 
 -- ---- names for what functions give
 abbrev pub refusedAt : Cause → ℕ → ℕ → ModelRead
@@ -58,6 +59,12 @@ stopped c p q n t = record { cause = c; at = p; end = q; stand = n; timing = t }
 
 abbrev pub four : Assignment → Assignment → Assignment → Assignment → Four
 four a b c d = record { first = a; second = b; third = c; fourth = d }
+
+abbrev pub two : Assignment → Assignment → Half
+two a b = record { first = a; second = b }
+
+abbrev pub transitionsAfter : ℕ → ℕ → ℕ
+transitionsAfter n k = cond (eqb k 8) (n + 1) n
 
 abbrev pub lastOf : ℕ → ℕ
 lastOf n = n - 1
@@ -348,26 +355,26 @@ module _ (n : Stand) (m : ℕ) (x : Transition) (q : Four) (o : List ℕ) (r : R
   unfolding behaviorCause
   assignment-room a e = leb-false _ _ (faultless _ (rw e at passed) .excess)
 
--- r is accepted: n becomes m, and b becomes d
-module _ (n m : Stand) (t : Timing) (b d : Behavior) (r : Record) (k l : ℕ) (x : Transition) (e : k ≡ kindOf r) (c : m ≡ counted n k) (h : b .transitions ≤ maxTransitions)
-    (g : l ≡ lastOf (b .transitions)) (f : x ≡ getD (b .transition) l noTransition) where
+-- r is accepted: n becomes m, and b becomes d, with u transitions
+module _ (n m : Stand) (t : Timing) (b d : Behavior) (r : Record) (k l u : ℕ) (x : Transition) (e : k ≡ kindOf r) (c : m ≡ counted n k) (o : u ≡ transitionsAfter (b .transitions) (m .last))
+    (h : b .transitions ≤ maxTransitions) (g : l ≡ lastOf (b .transitions)) (f : x ≡ getD (b .transition) l noTransition) where
   abbrev Added : Type 0
   Added = (d .transitions ≤ maxTransitions) × (standing m t d ≡ nextReading (standing n t b) r)
 
   pub transition-added : (y : Transition) → r ≡ TransitionRecord y → b .transitions < maxTransitions →
-      d ≡ record { transitions = b .transitions + 1; transition = set (b .transition) (b .transitions) y; atom = b .atom; assignment = b .assignment } → Added
+      d ≡ record { transitions = u; transition = set (b .transition) (b .transitions) y; atom = b .atom; assignment = b .assignment } → Added
   unfolding counted addRecord addTransition kindOf
-  transition-added y p u v = (rw v (omega arith), rw (c, v, e, p, lt-ltb (b .transitions) maxTransitions u))
+  transition-added y p q v = (rw (v, o, c, e, p) (omega arith), rw (v, o, c, e, p, lt-ltb (b .transitions) maxTransitions q))
 
   pub atom-added : (a : Atom) (y : Transition) (j : ℕ) → r ≡ AtomRecord a → x .atoms < maxEach → y ≡ withCounts x (x .atoms + 1) (x .assignments) → j ≡ x .atoms →
-      d ≡ record { transitions = b .transitions; transition = set (b .transition) l y; atom = set (b .atom) (l * 4 + j) a; assignment = b .assignment } → Added
+      d ≡ record { transitions = u; transition = set (b .transition) l y; atom = set (b .atom) (l * 4 + j) a; assignment = b .assignment } → Added
   unfolding counted addRecord addAtom kindOf
-  atom-added a y j p u q i v = (rw v h, rw (c, v, e, p, q, i, ← open-is b l g h x f, g, lt-ltb (b .transitions - 1) maxTransitions (omega arith), lt-ltb ((b .transitions - 1) * maxEach + x .atoms) maxTimes (omega arith)))
+  atom-added a y j p z q i v = (rw (v, o, c, e, p) h, rw (v, o, c, e, p, q, i, ← open-is b l g h x f, g, lt-ltb (b .transitions - 1) maxTransitions (omega arith), lt-ltb ((b .transitions - 1) * maxEach + x .atoms) maxTimes (omega arith)))
 
   pub assignment-added : (a : Assignment) (y : Transition) (j : ℕ) → r ≡ AssignmentRecord a → x .assignments < maxEach → y ≡ withCounts x (x .atoms) (x .assignments + 1) → j ≡ x .assignments →
-      d ≡ record { transitions = b .transitions; transition = set (b .transition) l y; atom = b .atom; assignment = set (b .assignment) (l * 4 + j) a } → Added
+      d ≡ record { transitions = u; transition = set (b .transition) l y; atom = b .atom; assignment = set (b .assignment) (l * 4 + j) a } → Added
   unfolding counted addRecord addAssignment kindOf
-  assignment-added a y j p u q i v = (rw v h, rw (c, v, e, p, q, i, ← open-is b l g h x f, g, lt-ltb (b .transitions - 1) maxTransitions (omega arith), lt-ltb ((b .transitions - 1) * maxEach + x .assignments) maxTimes (omega arith)))
+  assignment-added a y j p z q i v = (rw (v, o, c, e, p) h, rw (v, o, c, e, p, q, i, ← open-is b l g h x f, g, lt-ltb (b .transitions - 1) maxTransitions (omega arith), lt-ltb ((b .transitions - 1) * maxEach + x .assignments) maxTimes (omega arith)))
 
 pub late-next : (s : List ℕ) (p : ℕ) (n m : Stand) (k : ℕ) (r : Record) → m ≡ counted n k → k ≡ kindOf r → 8 ≤ kindOf r → Late s p m
 unfolding counted

@@ -47,6 +47,12 @@ struct Start {
     timing: Timing,
 }
 
+// Half of the assignments of a transition.
+struct Half {
+    first: Assignment,
+    second: Assignment,
+}
+
 fn begun(at: usize, n: Stand, t: Timing) -> Start
     ensures { λ r. ⌜ r ≡ laws.begun at n t ⌝ }
 {
@@ -226,6 +232,14 @@ fn last_of(n: usize) -> usize
     if 0 < n { n - 1 } else { 0 }
 }
 
+// How many there are after a record of kind k.
+fn transitions_after(n: usize, k: u8) -> usize
+    requires { ⌜ n ≤ model.maxTransitions ⌝ }
+    ensures { λ r. ⌜ r ≡ laws.transitionsAfter n k ⌝ }
+{
+    if k == 8 { n + 1 } else { n }
+}
+
 fn with_counts(x: Transition, atoms: u8, assignments: u8) -> Transition
     ensures { λ r. ⌜ r ≡ reading.withCounts x atoms assignments ⌝ }
 {
@@ -238,9 +252,22 @@ fn with_counts(x: Transition, atoms: u8, assignments: u8) -> Transition
     }
 }
 
-fn four(a: Assignment, b: Assignment, c: Assignment, d: Assignment) -> Four
-    ensures { λ r. ⌜ r ≡ laws.four a b c d ⌝ }
+fn two(a: Assignment, b: Assignment) -> Half
+    ensures { λ r. ⌜ r ≡ laws.two a b ⌝ }
 {
+    Half {
+        first: a,
+        second: b,
+    }
+}
+
+fn four(p: Half, q: Half) -> Four
+    ensures { λ r. ⌜ r ≡ laws.four (p .first) (p .second) (q .first) (q .second) ⌝ }
+{
+    let a = p.first;
+    let b = p.second;
+    let c = q.first;
+    let d = q.second;
     Four {
         first: a,
         second: b,
@@ -315,17 +342,16 @@ fn read_behaviors(s: &[u8], from: usize, start: Stand, t: Timing) -> ModelRead
         let k = last_of(m);
         let x = b.transition[k];
         let i = k * 4;
-        let q = four(b.assignment[i], b.assignment[i + 1], b.assignment[i + 2], b.assignment[i + 3]);
-        let c = behavior_cause(n, m, x, q, &o, r);
+        let p = two(b.assignment[i], b.assignment[i + 1]);
+        let q = two(b.assignment[i + 2], b.assignment[i + 3]);
+        let c = behavior_cause(n, m, x, four(p, q), &o, r);
         if !records::is_none(c) {
             return refused(c, at, end_at(s, at));
         }
         n = counted(n, kind_of(r));
+        b.transitions = transitions_after(m, n.last);
         match r {
-            Record::TransitionRecord(y) => {
-                b.transition[m] = y;
-                b.transitions = m + 1;
-            }
+            Record::TransitionRecord(y) => b.transition[m] = y,
             Record::AtomRecord(a) => {
                 b.transition[k] = with_counts(x, x.atoms + 1, x.assignments);
                 b.atom[i + small(x.atoms)] = a;

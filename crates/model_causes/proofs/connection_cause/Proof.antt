@@ -15,7 +15,7 @@ judged-requires : tie.Need-judged-requires
 judged-requires c κs = search needs
 
 returns : tie.Need-returns
-returns c = 
+returns c =
     rw (
       c .judged .ensures,
       c .before .mask-fits .ensures,

@@ -27,7 +27,7 @@ returns-3 c = rw (c .before .match .keys3, c .owner-at3 .ensures)
 
 returns-4 : tie.Need-returns-4
 unfolding laws.ownedBy
-returns-4 c = 
+returns-4 c =
     let r = c .match .rest in
     simp (ne-eqb _ _ (r .0 .0 .1), ne-eqb _ _ (r .0 .1), ne-eqb _ _ (r .1))
 

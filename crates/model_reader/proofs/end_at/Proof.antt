@@ -8,7 +8,7 @@ part-at-requires : tie.Need-part-at-requires
 part-at-requires c κs = search needs
 
 add-result : tie.Need-add-result
-add-result c = 
+add-result c =
     let n = next-place _ _ _ _ (c .before .before .pre) (c .part-at .ensures) in
     record { fits = omega arith }
 

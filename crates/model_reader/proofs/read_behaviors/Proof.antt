@@ -33,6 +33,8 @@ use Rattle.model_reader.proofs.last_of.Reads as last-of-reads
 use Rattle.model_reader.proofs.no_behavior.Reads as no-behavior-reads
 use Rattle.model_reader.proofs.record_at.Reads as record-at-reads
 use Rattle.model_reader.proofs.refused.Reads as refused-reads
+use Rattle.model_reader.proofs.transitions_after.Reads as transitions-after-reads
+use Rattle.model_reader.proofs.two.Reads as two-reads
 use Rattle.model_reader.proofs.with_counts.Reads as with-counts-reads
 use Rattle.records.proofs.is_none.Reads as is-none-reads
 
@@ -43,13 +45,14 @@ abbrev μ-loop : tie.MeasureT-loop
 μ-loop s from t o b₀ n₀ at₀ b n at = length s - at
 
 abbrev claims : lts.Claims
-claims = (owners-of-reads.Asked, owners-of-reads.Learnt, no-behavior-reads.Asked, no-behavior-reads.Learnt, record-at-reads.Asked, record-at-reads.Learnt, last-of-reads.Asked, last-of-reads.Learnt, four-reads.Asked, four-reads.Learnt, behavior-cause-reads.Asked, behavior-cause-reads.Learnt, is-none-reads.Asked, is-none-reads.Learnt, end-at-reads.Asked, end-at-reads.Learnt, refused-reads.Asked, refused-reads.Learnt, kind-of-reads.Asked, kind-of-reads.Learnt, counted-reads.Asked, counted-reads.Learnt, with-counts-reads.Asked, with-counts-reads.Learnt, small-reads.Asked, small-reads.Learnt, finished-reads.Asked, finished-reads.Learnt)
+claims = (owners-of-reads.Asked, owners-of-reads.Learnt, no-behavior-reads.Asked, no-behavior-reads.Learnt, record-at-reads.Asked, record-at-reads.Learnt, last-of-reads.Asked, last-of-reads.Learnt, two-reads.Asked, two-reads.Learnt, four-reads.Asked, four-reads.Learnt, behavior-cause-reads.Asked, behavior-cause-reads.Learnt, is-none-reads.Asked, is-none-reads.Learnt, end-at-reads.Asked, end-at-reads.Learnt, refused-reads.Asked, refused-reads.Learnt, kind-of-reads.Asked, kind-of-reads.Learnt, counted-reads.Asked, counted-reads.Learnt, transitions-after-reads.Asked, transitions-after-reads.Learnt, with-counts-reads.Asked, with-counts-reads.Learnt, small-reads.Asked, small-reads.Learnt, finished-reads.Asked, finished-reads.Learnt)
 
 -- ---- c is the cause, and the record passes
-cause : (c : lts.After-behavior-cause claims reads.Pre reads.Post Inv-loop μ-loop) → c .behavior-cause .result ≡ causeOf (standing (c .before .before .before .before .before .before .before .before .before .before .before .loop .n) (c .before .before .before .before .before .before .before .before .before .before .before .before .before .before .before .args .t) (c .before .before .before .before .before .before .before .before .before .before .before .loop .b)) (c .before .before .before .before .before .before .before .before .before .record-at .result)
+cause : (c : lts.After-behavior-cause claims reads.Pre reads.Post Inv-loop μ-loop) → c .behavior-cause .result ≡ causeOf (standing (c .before .before .before .before .before .before .before .before .before .before .before .before .before .loop .n) (c .before .before .before .before .before .before .before .before .before .before .before .before .before .before .before .before .before .args .t) (c .before .before .before .before .before .before .before .before .before .before .before .before .before .loop .b)) (c .before .before .before .before .before .before .before .before .before .before .before .record-at .result)
 cause c =
-    behavior-cause-is _ _ (c .before .before .before .before .before .before .before .before .last-of .ensures) (c .before .before .before .before .before .before .before .before .before .before .before .loop .inv .0) _ (c .before .before .before .before .before .before .before .before .before .before .before .before .before .before .before .args .t) _ _ _ _ _ (c .before .before .before .before .before .before .before .before .before .before .before .before .before .owners-of .ensures) refl (c .before .before .four .ensures)
-    (λ l. rw (c .before .before .before .before .before .before .before .before .before .record-at .ensures) (c .before .before .before .before .before .before .before .before .before .before .before .loop .inv .1 (c .before .before .before .before .before .before .before .before .before .before .loop-test .taken) l)) (c .behavior-cause .ensures)
+    behavior-cause-is _ _ (c .before .before .before .before .before .before .before .before .before .before .last-of .ensures) (c .before .before .before .before .before .before .before .before .before .before .before .before .before .loop .inv .0) _ (c .before .before .before .before .before .before .before .before .before .before .before .before .before .before .before .before .before .args .t) _ _ _ _ _ (c .before .before .before .before .before .before .before .before .before .before .before .before .before .before .before .owners-of .ensures) refl
+    (c .before .before .four .ensures ∙ rw (c .before .before .before .before .before .before .two .ensures, c .before .before .before .two2 .ensures))
+    (λ l. rw (c .before .before .before .before .before .before .before .before .before .before .before .record-at .ensures) (c .before .before .before .before .before .before .before .before .before .before .before .before .before .loop .inv .1 (c .before .before .before .before .before .before .before .before .before .before .before .before .loop-test .taken) l)) (c .behavior-cause .ensures)
 
 passes : (c : lts.Else1 claims reads.Pre reads.Post Inv-loop μ-loop) → isNone (c .before .before .behavior-cause .result) ≡ true
 passes c = sym (c .before .is-none .ensures) ∙ not-false _ (c .if1 .left)
@@ -77,17 +80,18 @@ other-kind Unknown h l = absurd (omega arith)
 
 -- each arm adds its record
 added : (c : lts.At-match-came claims reads.Pre reads.Post Inv-loop μ-loop) →
-    (c .match .b .transitions ≤ maxTransitions) × (standing (c .before .counted .result) (c .before .before .before .before .before .before .before .before .before .before .before .before .before .before .before .before .before .before .before .before .args .t) (c .match .b) ≡ nextReading (standing (c .before .before .before .before .before .before .before .before .before .before .before .before .before .before .before .before .loop .n) (c .before .before .before .before .before .before .before .before .before .before .before .before .before .before .before .before .before .before .before .before .args .t) (c .before .before .before .before .before .before .before .before .before .before .before .before .before .before .before .before .loop .b)) (c .before .before .before .before .before .before .before .before .before .before .before .before .before .before .record-at .result))
+    (c .match .b .transitions ≤ maxTransitions) × (standing (c .before .before .counted .result) (c .before .before .before .before .before .before .before .before .before .before .before .before .before .before .before .before .before .before .before .before .before .before .before .args .t) (c .match .b) ≡ nextReading (standing (c .before .before .before .before .before .before .before .before .before .before .before .before .before .before .before .before .before .before .before .loop .n) (c .before .before .before .before .before .before .before .before .before .before .before .before .before .before .before .before .before .before .before .before .before .before .before .args .t) (c .before .before .before .before .before .before .before .before .before .before .before .before .before .before .before .before .before .before .before .loop .b)) (c .before .before .before .before .before .before .before .before .before .before .before .before .before .before .before .before .before .record-at .result))
 added c =
-    let e = c .before .before .kind-of .ensures in
-    let k = c .before .counted .ensures in
-    let h = c .before .before .before .before .before .before .before .before .before .before .before .before .before .before .before .before .loop .inv .0 in
-    let g = c .before .before .before .before .before .before .before .before .before .before .before .before .before .last-of .ensures in
-    let i = c .before .before .before .before .before .behavior-cause .ensures in
-    let p = passes (c .before .before .before) in
-    ⊎-elim (λ w. transition-added _ _ (c .before .before .before .before .before .before .before .before .before .before .before .before .before .before .before .before .before .before .before .before .args .t) _ _ _ _ _ _ e k h g refl _ (w .1 .given .1) (transition-room _ _ _ _ _ _ _ i p _ (w .1 .given .1)) (w .3))
-    (⊎-elim (λ w. atom-added _ _ (c .before .before .before .before .before .before .before .before .before .before .before .before .before .before .before .before .before .before .before .before .args .t) _ _ _ _ _ _ e k h g refl _ _ _ (w .1 .given .1) (atom-room _ _ _ _ _ _ _ i p _ (w .1 .given .1)) (w .4 .ensures) (w .5 .ensures) (w .6))
-    (⊎-elim (λ w. assignment-added _ _ (c .before .before .before .before .before .before .before .before .before .before .before .before .before .before .before .before .before .before .before .before .args .t) _ _ _ _ _ _ e k h g refl _ _ _ (w .1 .given .1) (assignment-room _ _ _ _ _ _ _ i p _ (w .1 .given .1)) (w .4 .ensures) (w .5 .ensures) (w .6))
+    let e = c .before .before .before .kind-of .ensures in
+    let k = c .before .before .counted .ensures in
+    let u = c .before .transitions-after .ensures in
+    let h = c .before .before .before .before .before .before .before .before .before .before .before .before .before .before .before .before .before .before .before .loop .inv .0 in
+    let g = c .before .before .before .before .before .before .before .before .before .before .before .before .before .before .before .before .last-of .ensures in
+    let i = c .before .before .before .before .before .before .behavior-cause .ensures in
+    let p = passes (c .before .before .before .before) in
+    ⊎-elim (λ w. transition-added _ _ (c .before .before .before .before .before .before .before .before .before .before .before .before .before .before .before .before .before .before .before .before .before .before .before .args .t) _ _ _ _ _ _ _ e k u h g refl _ (w .1 .given .1) (transition-room _ _ _ _ _ _ _ i p _ (w .1 .given .1)) (w .3))
+    (⊎-elim (λ w. atom-added _ _ (c .before .before .before .before .before .before .before .before .before .before .before .before .before .before .before .before .before .before .before .before .before .before .before .args .t) _ _ _ _ _ _ _ e k u h g refl _ _ _ (w .1 .given .1) (atom-room _ _ _ _ _ _ _ i p _ (w .1 .given .1)) (w .4 .ensures) (w .5 .ensures) (w .6))
+    (⊎-elim (λ w. assignment-added _ _ (c .before .before .before .before .before .before .before .before .before .before .before .before .before .before .before .before .before .before .before .before .before .before .before .args .t) _ _ _ _ _ _ _ e k u h g refl _ _ _ (w .1 .given .1) (assignment-room _ _ _ _ _ _ _ i p _ (w .1 .given .1)) (w .4 .ensures) (w .5 .ensures) (w .6))
     (λ w. absurd (other-kind _ (tag-other _ (w .0 .keys4)) (behavior-late _ _ _ _ _ _ _ i p))))) (c .match .came)
 
 owners-of-requires : tie.Need-owners-of-requires Inv-loop μ-loop
@@ -106,46 +110,52 @@ last-of-requires : tie.Need-last-of-requires Inv-loop μ-loop
 last-of-requires c κs = search needs
 
 mul-x : tie.Need-mul-x Inv-loop μ-loop
-mul-x c = let h = c .last-of .ensures in let m = c .before .before .before .loop .inv .0 in search needs
+mul-x c = let l = c .last-of .ensures in let m = c .before .before .before .loop .inv .0 in search needs
 
 element-copy-out-x : tie.Need-element-copy-out-x Inv-loop μ-loop
-element-copy-out-x c = let h = c .last-of .ensures in let m = c .before .before .before .loop .inv .0 in search needs
+element-copy-out-x c = let l = c .last-of .ensures in let m = c .before .before .before .loop .inv .0 in search needs
 
 mul-i : tie.Need-mul-i Inv-loop μ-loop
-mul-i c = let h = c .before .last-of .ensures in let m = c .before .before .before .before .loop .inv .0 in search needs
+mul-i c = let l = c .before .last-of .ensures in let m = c .before .before .before .before .loop .inv .0 in search needs
 
-mul-four : tie.Need-mul-four Inv-loop μ-loop
-mul-four c = let h = c .before .last-of .ensures in let m = c .before .before .before .before .loop .inv .0 in search needs
+mul-two : tie.Need-mul-two Inv-loop μ-loop
+mul-two c = let l = c .before .last-of .ensures in let m = c .before .before .before .before .loop .inv .0 in search needs
 
-element-copy-out-four : tie.Need-element-copy-out-four Inv-loop μ-loop
-element-copy-out-four c = let h = c .before .last-of .ensures in let m = c .before .before .before .before .loop .inv .0 in search needs
+element-copy-out-two : tie.Need-element-copy-out-two Inv-loop μ-loop
+element-copy-out-two c = let l = c .before .last-of .ensures in let m = c .before .before .before .before .loop .inv .0 in search needs
 
-add-four : tie.Need-add-four Inv-loop μ-loop
-add-four c = let h = c .before .before .last-of .ensures in let m = c .before .before .before .before .before .loop .inv .0 in search needs
+add-two : tie.Need-add-two Inv-loop μ-loop
+add-two c = let l = c .before .before .last-of .ensures in let m = c .before .before .before .before .before .loop .inv .0 in search needs
 
-mul-four-2 : tie.Need-mul-four-2 Inv-loop μ-loop
-mul-four-2 c = let h = c .before .before .last-of .ensures in let m = c .before .before .before .before .before .loop .inv .0 in search needs
+mul-two-2 : tie.Need-mul-two-2 Inv-loop μ-loop
+mul-two-2 c = let l = c .before .before .last-of .ensures in let m = c .before .before .before .before .before .loop .inv .0 in search needs
 
-element-copy-out-four-2 : tie.Need-element-copy-out-four-2 Inv-loop μ-loop
-element-copy-out-four-2 c = let h = c .before .before .last-of .ensures in let m = c .before .before .before .before .before .loop .inv .0 in search needs
+element-copy-out-two-2 : tie.Need-element-copy-out-two-2 Inv-loop μ-loop
+element-copy-out-two-2 c = let l = c .before .before .last-of .ensures in let m = c .before .before .before .before .before .loop .inv .0 in search needs
 
-add-four-2 : tie.Need-add-four-2 Inv-loop μ-loop
-add-four-2 c = let h = c .before .before .before .last-of .ensures in let m = c .before .before .before .before .before .before .loop .inv .0 in search needs
+two-requires : tie.Need-two-requires Inv-loop μ-loop
+two-requires c κs = search needs
 
-mul-four-3 : tie.Need-mul-four-3 Inv-loop μ-loop
-mul-four-3 c = let h = c .before .before .before .last-of .ensures in let m = c .before .before .before .before .before .before .loop .inv .0 in search needs
+add-two-2 : tie.Need-add-two-2 Inv-loop μ-loop
+add-two-2 c = let l = c .before .before .before .before .last-of .ensures in let m = c .before .before .before .before .before .before .before .loop .inv .0 in search needs
 
-element-copy-out-four-3 : tie.Need-element-copy-out-four-3 Inv-loop μ-loop
-element-copy-out-four-3 c = let h = c .before .before .before .last-of .ensures in let m = c .before .before .before .before .before .before .loop .inv .0 in search needs
+mul-two-3 : tie.Need-mul-two-3 Inv-loop μ-loop
+mul-two-3 c = let l = c .before .before .before .before .last-of .ensures in let m = c .before .before .before .before .before .before .before .loop .inv .0 in search needs
 
-add-four-3 : tie.Need-add-four-3 Inv-loop μ-loop
-add-four-3 c = let h = c .before .before .before .before .last-of .ensures in let m = c .before .before .before .before .before .before .before .loop .inv .0 in search needs
+element-copy-out-two-3 : tie.Need-element-copy-out-two-3 Inv-loop μ-loop
+element-copy-out-two-3 c = let l = c .before .before .before .before .last-of .ensures in let m = c .before .before .before .before .before .before .before .loop .inv .0 in search needs
 
-mul-four-4 : tie.Need-mul-four-4 Inv-loop μ-loop
-mul-four-4 c = let h = c .before .before .before .before .last-of .ensures in let m = c .before .before .before .before .before .before .before .loop .inv .0 in search needs
+add-two-3 : tie.Need-add-two-3 Inv-loop μ-loop
+add-two-3 c = let l = c .before .before .before .before .before .last-of .ensures in let m = c .before .before .before .before .before .before .before .before .loop .inv .0 in search needs
 
-element-copy-out-four-4 : tie.Need-element-copy-out-four-4 Inv-loop μ-loop
-element-copy-out-four-4 c = let h = c .before .before .before .before .last-of .ensures in let m = c .before .before .before .before .before .before .before .loop .inv .0 in search needs
+mul-two-4 : tie.Need-mul-two-4 Inv-loop μ-loop
+mul-two-4 c = let l = c .before .before .before .before .before .last-of .ensures in let m = c .before .before .before .before .before .before .before .before .loop .inv .0 in search needs
+
+element-copy-out-two-4 : tie.Need-element-copy-out-two-4 Inv-loop μ-loop
+element-copy-out-two-4 c = let l = c .before .before .before .before .before .last-of .ensures in let m = c .before .before .before .before .before .before .before .before .loop .inv .0 in search needs
+
+two-requires-2 : tie.Need-two-requires-2 Inv-loop μ-loop
+two-requires-2 c κs = search needs
 
 four-requires : tie.Need-four-requires Inv-loop μ-loop
 four-requires c κs = search needs
@@ -157,15 +167,15 @@ is-none-requires : tie.Need-is-none-requires Inv-loop μ-loop
 is-none-requires c κs = search needs
 
 end-at-requires : tie.Need-end-at-requires Inv-loop μ-loop
-end-at-requires c κs = search needs
+end-at-requires c κs = c .before .before .before .before .before .before .before .before .before .before .before .before .before .before .loop-test .taken
 
 refused-requires : tie.Need-refused-requires Inv-loop μ-loop
 refused-requires c κs = search needs
 
 returns : tie.Need-returns Inv-loop μ-loop
-returns c = 
-    c .refused .ensures ∙ read-refused _ _ _ _ _ _ (c .before .before .before .before .before .before .before .before .before .before .before .before .before .before .loop-test .taken) (c .before .end-at .ensures) (c .before .before .before .before .before .before .before .before .before .before .before .before .before .record-at .ensures) (cause (c .before .before .before .before))
-    (sym (c .before .before .before .is-none .ensures) ∙ not-true _ (c .before .before .if1 .taken)) ∙ c .before .before .before .before .before .before .before .before .before .before .before .before .before .before .before .loop .inv .2
+returns c =
+    c .refused .ensures ∙ read-refused _ _ _ _ _ _ (c .before .before .before .before .before .before .before .before .before .before .before .before .before .before .before .before .loop-test .taken) (c .before .end-at .ensures) (c .before .before .before .before .before .before .before .before .before .before .before .before .before .before .before .record-at .ensures) (cause (c .before .before .before .before))
+    (sym (c .before .before .before .is-none .ensures) ∙ not-true _ (c .before .before .if1 .taken)) ∙ c .before .before .before .before .before .before .before .before .before .before .before .before .before .before .before .before .before .loop .inv .2
 
 kind-of-requires : tie.Need-kind-of-requires Inv-loop μ-loop
 kind-of-requires c κs = search needs
@@ -173,86 +183,85 @@ kind-of-requires c κs = search needs
 counted-requires : tie.Need-counted-requires Inv-loop μ-loop
 counted-requires c κs = behavior-room _ _ _ _ _ _ _ (c .before .before .before .behavior-cause .ensures) (passes (c .before)) _ (c .kind-of .ensures)
 
+transitions-after-requires : tie.Need-transitions-after-requires Inv-loop μ-loop
+transitions-after-requires c κs = c .before .before .before .before .before .before .before .before .before .before .before .before .before .before .before .before .before .loop .inv .0
+
 enum-known-r : tie.Need-enum-known-r Inv-loop μ-loop
 enum-known-r c = search needs
 
 mul-y : tie.Need-mul-y Inv-loop μ-loop
-mul-y c = let h = transition-room _ _ _ _ _ _ _ (c .before .before .before .before .before .before .before .behavior-cause .ensures) (passes (c .before .before .before .before .before)) _ (c .before .r .given .1) in search needs
+mul-y c = let h = transition-room _ _ _ _ _ _ _ (c .before .before .before .before .before .before .before .before .behavior-cause .ensures) (passes (c .before .before .before .before .before .before)) _ (c .before .r .given .1) in record { fits = omega arith }
 
 element-set-from-y : tie.Need-element-set-from-y Inv-loop μ-loop
-element-set-from-y c = let h = transition-room _ _ _ _ _ _ _ (c .before .before .before .before .before .before .before .behavior-cause .ensures) (passes (c .before .before .before .before .before)) _ (c .before .r .given .1) in search needs
-
-add-b : tie.Need-add-b Inv-loop μ-loop
-add-b c = let h = transition-room _ _ _ _ _ _ _ (c .before .before .before .before .before .before .before .behavior-cause .ensures) (passes (c .before .before .before .before .before)) _ (c .before .r .given .1) in search needs
+element-set-from-y c = let h = transition-room _ _ _ _ _ _ _ (c .before .before .before .before .before .before .before .before .behavior-cause .ensures) (passes (c .before .before .before .before .before .before)) _ (c .before .r .given .1) in search needs
 
 enum-known-r-2 : tie.Need-enum-known-r-2 Inv-loop μ-loop
 enum-known-r-2 c = search needs
 
 add-with-counts : tie.Need-add-with-counts Inv-loop μ-loop
-add-with-counts c = let h = atom-room _ _ _ _ _ _ _ (c .before .before .before .before .before .before .before .before .behavior-cause .ensures) (passes (c .before .before .before .before .before .before)) _ (c .before .before .r2 .given .1) in search needs
+add-with-counts c = let h = atom-room _ _ _ _ _ _ _ (c .before .before .before .before .before .before .before .before .before .behavior-cause .ensures) (passes (c .before .before .before .before .before .before .before)) _ (c .before .before .r2 .given .1) in search needs
 
 with-counts-requires : tie.Need-with-counts-requires Inv-loop μ-loop
 with-counts-requires c κs = search needs
 
-mul-t53 : tie.Need-mul-t53 Inv-loop μ-loop
-mul-t53 c = let h = c .before .before .before .before .before .before .before .before .before .before .before .before .before .before .before .before .before .last-of .ensures in let m = c .before .before .before .before .before .before .before .before .before .before .before .before .before .before .before .before .before .before .before .before .loop .inv .0 in search needs
+mul-t50 : tie.Need-mul-t50 Inv-loop μ-loop
+mul-t50 c = let l = c .before .before .before .before .before .before .before .before .before .before .before .before .before .before .before .before .before .before .before .before .last-of .ensures in let m = c .before .before .before .before .before .before .before .before .before .before .before .before .before .before .before .before .before .before .before .before .before .before .before .loop .inv .0 in search needs
 
 element-set-from-b : tie.Need-element-set-from-b Inv-loop μ-loop
-element-set-from-b c = let h = c .before .before .before .before .before .before .before .before .before .before .before .before .before .before .before .before .before .last-of .ensures in let m = c .before .before .before .before .before .before .before .before .before .before .before .before .before .before .before .before .before .before .before .before .loop .inv .0 in search needs
+element-set-from-b c = let l = c .before .before .before .before .before .before .before .before .before .before .before .before .before .before .before .before .before .before .before .before .last-of .ensures in let m = c .before .before .before .before .before .before .before .before .before .before .before .before .before .before .before .before .before .before .before .before .before .before .before .loop .inv .0 in search needs
 
 small-requires : tie.Need-small-requires Inv-loop μ-loop
 small-requires c κs = search needs
 
 add-a : tie.Need-add-a Inv-loop μ-loop
-add-a c = let h = atom-room _ _ _ _ _ _ _ (c .before .before .before .before .before .before .before .before .before .before .behavior-cause .ensures) (passes (c .before .before .before .before .before .before .before .before)) _ (c .before .before .before .before .r2 .given .1) in let l = c .before .before .before .before .before .before .before .before .before .before .before .before .before .before .before .before .before .before .last-of .ensures in let m = c .before .before .before .before .before .before .before .before .before .before .before .before .before .before .before .before .before .before .before .before .before .loop .inv .0 in let j = c .small .ensures in search needs
+add-a c = let h = atom-room _ _ _ _ _ _ _ (c .before .before .before .before .before .before .before .before .before .before .before .behavior-cause .ensures) (passes (c .before .before .before .before .before .before .before .before .before)) _ (c .before .before .before .before .r2 .given .1) in let l = c .before .before .before .before .before .before .before .before .before .before .before .before .before .before .before .before .before .before .before .before .before .last-of .ensures in let m = c .before .before .before .before .before .before .before .before .before .before .before .before .before .before .before .before .before .before .before .before .before .before .before .before .loop .inv .0 in let j = c .small .ensures in search needs
 
 mul-a : tie.Need-mul-a Inv-loop μ-loop
-mul-a c = let h = atom-room _ _ _ _ _ _ _ (c .before .before .before .before .before .before .before .before .before .before .behavior-cause .ensures) (passes (c .before .before .before .before .before .before .before .before)) _ (c .before .before .before .before .r2 .given .1) in let l = c .before .before .before .before .before .before .before .before .before .before .before .before .before .before .before .before .before .before .last-of .ensures in let m = c .before .before .before .before .before .before .before .before .before .before .before .before .before .before .before .before .before .before .before .before .before .loop .inv .0 in let j = c .small .ensures in search needs
+mul-a c = let h = atom-room _ _ _ _ _ _ _ (c .before .before .before .before .before .before .before .before .before .before .before .behavior-cause .ensures) (passes (c .before .before .before .before .before .before .before .before .before)) _ (c .before .before .before .before .r2 .given .1) in let l = c .before .before .before .before .before .before .before .before .before .before .before .before .before .before .before .before .before .before .before .before .before .last-of .ensures in let m = c .before .before .before .before .before .before .before .before .before .before .before .before .before .before .before .before .before .before .before .before .before .before .before .before .loop .inv .0 in let j = c .small .ensures in search needs
 
 element-set-from-a : tie.Need-element-set-from-a Inv-loop μ-loop
-element-set-from-a c = let h = atom-room _ _ _ _ _ _ _ (c .before .before .before .before .before .before .before .before .before .before .behavior-cause .ensures) (passes (c .before .before .before .before .before .before .before .before)) _ (c .before .before .before .before .r2 .given .1) in let l = c .before .before .before .before .before .before .before .before .before .before .before .before .before .before .before .before .before .before .last-of .ensures in let m = c .before .before .before .before .before .before .before .before .before .before .before .before .before .before .before .before .before .before .before .before .before .loop .inv .0 in let j = c .small .ensures in search needs
+element-set-from-a c = let h = atom-room _ _ _ _ _ _ _ (c .before .before .before .before .before .before .before .before .before .before .before .behavior-cause .ensures) (passes (c .before .before .before .before .before .before .before .before .before)) _ (c .before .before .before .before .r2 .given .1) in let l = c .before .before .before .before .before .before .before .before .before .before .before .before .before .before .before .before .before .before .before .before .before .last-of .ensures in let m = c .before .before .before .before .before .before .before .before .before .before .before .before .before .before .before .before .before .before .before .before .before .before .before .before .loop .inv .0 in let j = c .small .ensures in search needs
 
 enum-known-r-3 : tie.Need-enum-known-r-3 Inv-loop μ-loop
 enum-known-r-3 c = search needs
 
 add-with-counts-2 : tie.Need-add-with-counts-2 Inv-loop μ-loop
-add-with-counts-2 c = let h = assignment-room _ _ _ _ _ _ _ (c .before .before .before .before .before .before .before .before .behavior-cause .ensures) (passes (c .before .before .before .before .before .before)) _ (c .before .before .r3 .given .1) in search needs
+add-with-counts-2 c = let h = assignment-room _ _ _ _ _ _ _ (c .before .before .before .before .before .before .before .before .before .behavior-cause .ensures) (passes (c .before .before .before .before .before .before .before)) _ (c .before .before .r3 .given .1) in search needs
 
 with-counts-requires-2 : tie.Need-with-counts-requires-2 Inv-loop μ-loop
 with-counts-requires-2 c κs = search needs
 
-mul-t62 : tie.Need-mul-t62 Inv-loop μ-loop
-mul-t62 c = let h = c .before .before .before .before .before .before .before .before .before .before .before .before .before .before .before .before .before .last-of .ensures in let m = c .before .before .before .before .before .before .before .before .before .before .before .before .before .before .before .before .before .before .before .before .loop .inv .0 in search needs
+mul-t59 : tie.Need-mul-t59 Inv-loop μ-loop
+mul-t59 c = let l = c .before .before .before .before .before .before .before .before .before .before .before .before .before .before .before .before .before .before .before .before .last-of .ensures in let m = c .before .before .before .before .before .before .before .before .before .before .before .before .before .before .before .before .before .before .before .before .before .before .before .loop .inv .0 in search needs
 
 element-set-from-b-2 : tie.Need-element-set-from-b-2 Inv-loop μ-loop
-element-set-from-b-2 c = let h = c .before .before .before .before .before .before .before .before .before .before .before .before .before .before .before .before .before .last-of .ensures in let m = c .before .before .before .before .before .before .before .before .before .before .before .before .before .before .before .before .before .before .before .before .loop .inv .0 in search needs
+element-set-from-b-2 c = let l = c .before .before .before .before .before .before .before .before .before .before .before .before .before .before .before .before .before .before .before .before .last-of .ensures in let m = c .before .before .before .before .before .before .before .before .before .before .before .before .before .before .before .before .before .before .before .before .before .before .before .loop .inv .0 in search needs
 
 small-requires-2 : tie.Need-small-requires-2 Inv-loop μ-loop
 small-requires-2 c κs = search needs
 
 add-a-2 : tie.Need-add-a-2 Inv-loop μ-loop
-add-a-2 c = let h = assignment-room _ _ _ _ _ _ _ (c .before .before .before .before .before .before .before .before .before .before .behavior-cause .ensures) (passes (c .before .before .before .before .before .before .before .before)) _ (c .before .before .before .before .r3 .given .1) in let l = c .before .before .before .before .before .before .before .before .before .before .before .before .before .before .before .before .before .before .last-of .ensures in let m = c .before .before .before .before .before .before .before .before .before .before .before .before .before .before .before .before .before .before .before .before .before .loop .inv .0 in let j = c .small2 .ensures in search needs
+add-a-2 c = let h = assignment-room _ _ _ _ _ _ _ (c .before .before .before .before .before .before .before .before .before .before .before .behavior-cause .ensures) (passes (c .before .before .before .before .before .before .before .before .before)) _ (c .before .before .before .before .r3 .given .1) in let l = c .before .before .before .before .before .before .before .before .before .before .before .before .before .before .before .before .before .before .before .before .before .last-of .ensures in let m = c .before .before .before .before .before .before .before .before .before .before .before .before .before .before .before .before .before .before .before .before .before .before .before .before .loop .inv .0 in let j = c .small2 .ensures in search needs
 
 mul-a-2 : tie.Need-mul-a-2 Inv-loop μ-loop
-mul-a-2 c = let h = assignment-room _ _ _ _ _ _ _ (c .before .before .before .before .before .before .before .before .before .before .behavior-cause .ensures) (passes (c .before .before .before .before .before .before .before .before)) _ (c .before .before .before .before .r3 .given .1) in let l = c .before .before .before .before .before .before .before .before .before .before .before .before .before .before .before .before .before .before .last-of .ensures in let m = c .before .before .before .before .before .before .before .before .before .before .before .before .before .before .before .before .before .before .before .before .before .loop .inv .0 in let j = c .small2 .ensures in search needs
+mul-a-2 c = let h = assignment-room _ _ _ _ _ _ _ (c .before .before .before .before .before .before .before .before .before .before .before .behavior-cause .ensures) (passes (c .before .before .before .before .before .before .before .before .before)) _ (c .before .before .before .before .r3 .given .1) in let l = c .before .before .before .before .before .before .before .before .before .before .before .before .before .before .before .before .before .before .before .before .before .last-of .ensures in let m = c .before .before .before .before .before .before .before .before .before .before .before .before .before .before .before .before .before .before .before .before .before .before .before .before .loop .inv .0 in let j = c .small2 .ensures in search needs
 
 element-set-from-a-2 : tie.Need-element-set-from-a-2 Inv-loop μ-loop
-element-set-from-a-2 c = let h = assignment-room _ _ _ _ _ _ _ (c .before .before .before .before .before .before .before .before .before .before .behavior-cause .ensures) (passes (c .before .before .before .before .before .before .before .before)) _ (c .before .before .before .before .r3 .given .1) in let l = c .before .before .before .before .before .before .before .before .before .before .before .before .before .before .before .before .before .before .last-of .ensures in let m = c .before .before .before .before .before .before .before .before .before .before .before .before .before .before .before .before .before .before .before .before .before .loop .inv .0 in let j = c .small2 .ensures in search needs
+element-set-from-a-2 c = let h = assignment-room _ _ _ _ _ _ _ (c .before .before .before .before .before .before .before .before .before .before .before .behavior-cause .ensures) (passes (c .before .before .before .before .before .before .before .before .before)) _ (c .before .before .before .before .r3 .given .1) in let l = c .before .before .before .before .before .before .before .before .before .before .before .before .before .before .before .before .before .before .before .before .before .last-of .ensures in let m = c .before .before .before .before .before .before .before .before .before .before .before .before .before .before .before .before .before .before .before .before .before .before .before .before .loop .inv .0 in let j = c .small2 .ensures in search needs
 
 end-at-requires-2 : tie.Need-end-at-requires-2 Inv-loop μ-loop
-end-at-requires-2 c κs = c .before .before .before .before .before .before .before .before .before .before .before .before .before .before .before .loop-test .taken
+end-at-requires-2 c κs = c .before .before .before .before .before .before .before .before .before .before .before .before .before .before .before .before .before .before .loop-test .taken
 
 loop-less : tie.Need-loop-less Inv-loop μ-loop
-loop-less c = let w = end-within _ _ _ (c .before .before .before .before .before .before .before .before .before .before .before .before .before .before .before .before .loop-test .taken) (c .end-at2 .ensures) in omega arith
+loop-less c = let w = end-within _ _ _ (c .before .before .before .before .before .before .before .before .before .before .before .before .before .before .before .before .before .before .before .loop-test .taken) (c .end-at2 .ensures) in omega arith
 
 loop-again : tie.Need-loop-again Inv-loop μ-loop
-loop-again c = 
+loop-again c =
     let a = added (c .before) in
-    (
+    let p = passes (c .before .before .before .before .before) in (
       a .0,
-      late-next _ _ _ _ _ _ (c .before .before .counted .ensures) (c .before .before .before .kind-of .ensures) (behavior-late _ _ _ _ _ _ _ (c .before .before .before .before .before .before .behavior-cause .ensures) (passes (c .before .before .before .before))),
-      read-on _ _ _ _ _ _ (c .before .before .before .before .before .before .before .before .before .before .before .before .before .before .before .before .loop-test .taken) (c .end-at2 .ensures) (c .before .before .before .before .before .before .before .before .before .before .before .before .before .before .before .record-at .ensures) (cause (c .before .before .before .before .before .before)) _ (a .1)
-      (passes (c .before .before .before .before)) ∙ c .before .before .before .before .before .before .before .before .before .before .before .before .before .before .before .before .before .loop .inv .2,
+      late-next _ _ _ _ _ _ (c .before .before .before .counted .ensures) (c .before .before .before .before .kind-of .ensures) (behavior-late _ _ _ _ _ _ _ (c .before .before .before .before .before .before .before .behavior-cause .ensures) p),
+      read-on _ _ _ _ _ _ (c .before .before .before .before .before .before .before .before .before .before .before .before .before .before .before .before .before .before .before .loop-test .taken) (c .end-at2 .ensures) (c .before .before .before .before .before .before .before .before .before .before .before .before .before .before .before .before .before .before .record-at .ensures) (cause (c .before .before .before .before .before .before .before)) _ (a .1) p ∙ c .before .before .before .before .before .before .before .before .before .before .before .before .before .before .before .before .before .before .before .before .loop .inv .2,
     )
 
 finished-requires : tie.Need-finished-requires Inv-loop μ-loop
@@ -275,17 +284,19 @@ read-behaviors-spec =
     mul-x
     element-copy-out-x
     mul-i
-    mul-four
-    element-copy-out-four
-    add-four
-    mul-four-2
-    element-copy-out-four-2
-    add-four-2
-    mul-four-3
-    element-copy-out-four-3
-    add-four-3
-    mul-four-4
-    element-copy-out-four-4
+    mul-two
+    element-copy-out-two
+    add-two
+    mul-two-2
+    element-copy-out-two-2
+    two-requires
+    add-two-2
+    mul-two-3
+    element-copy-out-two-3
+    add-two-3
+    mul-two-4
+    element-copy-out-two-4
+    two-requires-2
     four-requires
     behavior-cause-requires
     is-none-requires
@@ -294,14 +305,14 @@ read-behaviors-spec =
     returns
     kind-of-requires
     counted-requires
+    transitions-after-requires
     enum-known-r
     mul-y
     element-set-from-y
-    add-b
     enum-known-r-2
     add-with-counts
     with-counts-requires
-    mul-t53
+    mul-t50
     element-set-from-b
     small-requires
     add-a
@@ -310,7 +321,7 @@ read-behaviors-spec =
     enum-known-r-3
     add-with-counts-2
     with-counts-requires-2
-    mul-t62
+    mul-t59
     element-set-from-b-2
     small-requires-2
     add-a-2

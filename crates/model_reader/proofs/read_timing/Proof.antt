@@ -144,7 +144,7 @@ stopped-requires : tie.Need-stopped-requires Inv-loop μ-loop
 stopped-requires c κs = search needs
 
 returns-2 : tie.Need-returns-2 Inv-loop μ-loop
-returns-2 c = 
+returns-2 c =
     let l = sym (c .before .before .before .is-none .ensures) ∙ not-true _ (c .before .before .if3 .taken) in
     stopped-at _ _ _ _ _ _ _ (c .stopped .ensures) l
     (read-refused _ _ _ _ _ _ (c .before .before .before .before .before .before .before .before .before .loop-test .taken) (c .before .end-at .ensures) (c .before .before .before .before .before .before .before .before .record-at .ensures) (cause (c .before .before .before .before)) l ∙ c .before .before .before .before .before .before .before .before .before .before .loop .inv)
@@ -229,7 +229,7 @@ loop-less : tie.Need-loop-less Inv-loop μ-loop
 loop-less c = let w = end-within _ _ _ (c .before .before .before .before .before .before .before .before .before .before .before .loop-test .taken) (c .end-at2 .ensures) in omega arith
 
 loop-again : tie.Need-loop-again Inv-loop μ-loop
-loop-again c = 
+loop-again c =
     read-on _ _ _ _ _ _ (c .before .before .before .before .before .before .before .before .before .before .before .loop-test .taken) (c .end-at2 .ensures) (c .before .before .before .before .before .before .before .before .before .before .record-at .ensures) (cause (c .before .before .before .before .before .before)) _ (added (c .before))
     (sym (c .before .before .before .before .before .is-none .ensures) ∙ not-false _ (c .before .before .before .before .if3 .left)) ∙ c .before .before .before .before .before .before .before .before .before .before .before .before .loop .inv
 
