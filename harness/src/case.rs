@@ -1,13 +1,12 @@
 //! One case: a model with a script, a table with a script, and single steps on
 //! variables of all sorts. A case is wholly determined by a seed and its number.
 
-use plain::script::TICK;
 use plain::{model, translate};
 
 use crate::answers::{Variables, NOW, VARIABLES};
 use crate::models;
 use crate::random::Random;
-use crate::records::{event_body, split, table_body};
+use crate::records::table_body;
 use crate::scripts::{self, any_event, tick, Budget};
 use crate::tables;
 
@@ -19,8 +18,6 @@ pub struct Case {
     pub made: Option<Vec<u8>>,
     /// For the model and the made table.
     pub script: Vec<u8>,
-    /// The events after which the model's state is looked at, rising.
-    pub shown: Vec<usize>,
     /// Any table, with a script of its own.
     pub table: Vec<u8>,
     pub table_script: Vec<u8>,
@@ -42,7 +39,6 @@ impl Case {
         let random = &mut Random::new(seed, number);
         let model = models::model(random);
         let (made, script) = made_and_script(random, &model);
-        let shown = shown(random, &model, &script);
         let (table, table_script) = tables::table_and_script(random, made.as_deref(), &script);
         let lent_to_made = match &made {
             Some(made) => lent(random, made, 2),
@@ -55,7 +51,6 @@ impl Case {
             model,
             made,
             script,
-            shown,
             table,
             table_script,
             lent_to_made,
@@ -94,37 +89,6 @@ fn budget(random: &mut Random, table: usize, long_periods: bool) -> Budget {
         events: events.min(usual),
         ticks: if far { 70_000 } else { usual },
     }
-}
-
-/// Looking at the model's state after an event means to read the model and to
-/// run all events before it again, so a short script is looked at everywhere and
-/// a costly one in some places.
-fn shown(random: &mut Random, model: &[u8], script: &[u8]) -> Vec<usize> {
-    let mut budget = random.one_of(&[1_000, 1_000, 1_000, 1_000, 10_000]);
-    let mut cost = model.len();
-    let mut costs = Vec::new();
-    for event in split(script, event_body) {
-        cost += match event[..] {
-            [TICK, low, high] => u16::from_le_bytes([low, high]).into(),
-            _ => 1,
-        };
-        costs.push((costs.len(), cost));
-    }
-    let mut shown = Vec::new();
-    // The last event of all is the first to be chosen.
-    while let Some((number, cost)) = costs.pop() {
-        shown.push(number);
-        budget -= budget.min(cost);
-        if budget == 0 {
-            break;
-        }
-        if !costs.is_empty() {
-            let (next, last) = (random.below(costs.len()), costs.len() - 1);
-            costs.swap(next, last);
-        }
-    }
-    shown.sort_unstable();
-    shown
 }
 
 /// Most steps are of events that have a rule, or ticks.

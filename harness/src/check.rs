@@ -46,7 +46,7 @@ impl Checker<'_> {
     /// The model and its script. The result is what the library says.
     fn model(&mut self, case: &Case) -> Said {
         let wanted = wanted::of_model(&case.model, &case.script, case.more_rooms);
-        let found = found::of_model(&case.model, &case.script, &case.shown, &rooms(&wanted));
+        let found = found::of_model(&case.model, &case.script, &rooms(&wanted));
         self.tally.note_model(case, &wanted);
         self.note("model_reading", compare::reading(&wanted.read, &found.read));
         self.note("model_start", compare::start(&wanted.start, &found.start));

@@ -31,8 +31,7 @@ pub fn event_parts(wanted: &[Step], found: &[usize]) -> Check {
 
 /// The answers to the events of a script.
 pub fn answers(wanted: &[Step], found: &[Step]) -> Check {
-    pairs(wanted, found).try_for_each(|pair| {
-        let (wanted, found) = pair?;
+    pairs(wanted, found)?.try_for_each(|(wanted, found)| {
         let what = format_args!("answer to {found}");
         equal(what, &wanted.after.answer, &found.after.answer)
     })
@@ -41,8 +40,7 @@ pub fn answers(wanted: &[Step], found: &[Step]) -> Check {
 /// The states after the events of a script; what stands behind the variables
 /// stays.
 pub fn variables(wanted: &[Step], found: &[Step]) -> Check {
-    pairs(wanted, found).try_for_each(|pair| {
-        let (wanted, found) = pair?;
+    pairs(wanted, found)?.try_for_each(|(wanted, found)| {
         same_variables(format_args!("after {found}"), &wanted.after, &found.after)
     })
 }
@@ -139,14 +137,8 @@ pub fn demand_three(model: &[u8], script: &[u8], of_model: &Said, of_table: &Sai
     let mut times = Times::default();
     let start = (&of_model.start.variables, &of_table.start.variables);
     times.states_agree("at the start", start.0, start.1)?;
-    let mut of_table_steps = of_table.steps.iter();
-    for step in &of_model.steps {
-        // The model shows some events, the table all of them.
-        let other = of_table_steps.by_ref().find(|other| {
-            times.note(model, &script[other.start..other.end], &other.after);
-            other.number == step.number
-        });
-        let other = other.ok_or("the model has more events than its table")?;
+    for (step, other) in pairs(&of_model.steps, &of_table.steps)? {
+        times.note(model, &script[other.start..other.end], &other.after);
         let part = |step: &Step| (step.start, step.end, step.after.answer);
         let what = format_args!("part of and answer to {step} by model and table");
         equal(what, &part(step), &part(other))?;
@@ -222,16 +214,13 @@ fn equal<T: PartialEq + Debug + ?Sized>(what: impl Display, wanted: &T, found: &
     }
 }
 
-/// Each step found, with the one wanted in its place.
+/// Each step wanted, with the one found in its place.
 fn pairs<'a>(
     wanted: &'a [Step],
     found: &'a [Step],
-) -> impl Iterator<Item = Result<(&'a Step, &'a Step), String>> {
-    found.iter().map(|step| {
-        let other = wanted.get(step.number);
-        let other = other.ok_or_else(|| format!("{step} is not wanted"))?;
-        Ok((other, step))
-    })
+) -> Result<impl Iterator<Item = (&'a Step, &'a Step)>, String> {
+    equal("count of events", &wanted.len(), &found.len())?;
+    Ok(wanted.iter().zip(found))
 }
 
 fn same_variables(place: impl Display, wanted: &After, found: &After) -> Check {

@@ -6,16 +6,15 @@ use crate::answers::{
     After, Listing, Run, Said, Step, Told, Translation, Variables, BEHIND, BYTE, FIGURE, VARIABLES,
 };
 
-/// All that the library says of a model and a script. The state is shown after
-/// the events of these numbers, which rise, and listings go into outputs of the
-/// rooms given.
-pub fn of_model(model: &[u8], script: &[u8], shown: &[usize], rooms: &[usize]) -> Said {
+/// All that the library says of a model and a script. Listings go into outputs
+/// of the rooms given.
+pub fn of_model(model: &[u8], script: &[u8], rooms: &[usize]) -> Said {
     let read = told(|told| raw::read_model(model, told));
     Said {
         read,
         start: model_after(model, &[], &[]),
         steps: if read.number == 0 {
-            model_steps(model, script, shown)
+            model_steps(model, script)
         } else {
             Vec::new()
         },
@@ -101,9 +100,9 @@ fn model_after(model: &[u8], script: &[u8], event: &[u8]) -> After {
     })
 }
 
-fn model_steps(model: &[u8], script: &[u8], shown: &[usize]) -> Vec<Step> {
+/// Each look at the state runs the script again up to there.
+fn model_steps(model: &[u8], script: &[u8]) -> Vec<Step> {
     steps(script)
-        .filter(|(number, ..)| shown.binary_search(number).is_ok())
         .map(|(number, start, event)| Step {
             number,
             start,

@@ -50,7 +50,7 @@ impl Tally {
             return;
         }
         let made = case.made.as_ref().map_or(0, Vec::len);
-        self.shown += case.shown.len() as u64;
+        self.shown += wanted.steps.len() as u64;
         raise(&mut self.longest_model, case.model.len());
         raise(&mut self.longest_made_table, made);
         let threads = split(&case.model, model_body);

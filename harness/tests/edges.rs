@@ -143,7 +143,7 @@ type Counts = [usize; 8];
 
 fn agree_on_model(counts: &mut Counts, bytes: &[u8]) {
     let wanted = wanted::of_model(bytes, &[], false);
-    let found = found::of_model(bytes, &[], &[], &[]);
+    let found = found::of_model(bytes, &[], &[]);
     compare::reading(&wanted.read, &found.read).unwrap_or_else(|how| panic!("{how}: {bytes:02x?}"));
     counts[wanted.read.number as usize] += 1;
     if wanted.read.number == 0 {
@@ -171,9 +171,11 @@ fn agree_on_table(counts: &mut Counts, bytes: &[u8]) {
 fn agree_on_script(script: &[u8]) {
     let model = model();
     let wanted = wanted::of_model(&model, script, false);
-    let found = found::of_model(&model, script, &[], &[]);
+    let found = found::of_model(&model, script, &[]);
     let parts = found::part_lengths(script);
     compare::event_parts(&wanted.steps, &parts)
+        .and_then(|()| compare::answers(&wanted.steps, &found.steps))
+        .and_then(|()| compare::variables(&wanted.steps, &found.steps))
         .and_then(|()| compare::run(&wanted.run, &found.run))
         .unwrap_or_else(|how| panic!("{how}: {script:02x?}"));
 }

@@ -43,7 +43,6 @@ fn a_table_does_not_pass_the_last_clock() {
 }
 
 #[test]
-#[ignore = "a thousand million ticks take some minutes"]
 fn a_model_does_not_pass_the_last_clock() {
     let mut script = one_too_many();
     assert_eq!(run_model(HEAD, &script), stopped_at_the_end(&script));

@@ -105,7 +105,7 @@ const SCRIPT: &[u8] = &[
 ];
 
 fn of_model() -> Said {
-    found::of_model(&model(5, 4), SCRIPT, &[0, 1, 2, 3, 4, 5, 6], &[200])
+    found::of_model(&model(5, 4), SCRIPT, &[200])
 }
 
 fn of_table(table: &[u8]) -> Said {
