@@ -18,6 +18,9 @@ use records::Holder;
 use records::Refusal;
 use translate::Translation;
 
+// No table is longer.
+const LONGEST_MADE_TABLE: usize = 394304;
+
 // How many items an event kind has rules for: threads, or mode transitions.
 fn count_of(x: Timing, kind: u8) -> usize
     ensures { λ r. ⌜ r ≡ countOf x kind ⌝ }
@@ -124,8 +127,8 @@ fn refused(c: Cause, start: usize, end: usize) -> Refusal
     }
 }
 
-// The table of an accepted model, at the beginning of the output, where it fits; else the output is as it was. No table is longer than
-// 394304 bytes: an output with that room needs no count first.
+// The table of an accepted model, at the beginning of the output, where it fits; else the output is as it was. With room for any table
+// there is nothing to count first.
 pub fn translate(model: &[u8], out: &mut [u8]) -> Translation
     ensures { λ r. ⌜ Translates (now (model .entry)) (now (out .entry)) r (now (out .exit)) ⌝ }
 {
@@ -139,7 +142,7 @@ pub fn translate(model: &[u8], out: &mut [u8]) -> Translation
         };
     }
     let m = r.model;
-    if 394304 <= out.len() {
+    if LONGEST_MADE_TABLE <= out.len() {
         let k = put_table(out, m);
         let o = Cause::None;
         let g = refused(o, 0, 0);
