@@ -4,6 +4,7 @@ use mathlib.Core.Path.{_≡_, refl, sym, _∙_, ap}
 use mathlib.Core.List.{List, [], _∷_, _++_, append-assoc}
 use Prim.Native.Nat.{ℕ, suc, _+_, _-_, _≤_, min}
 use native.Mathlib.Nat.{add-zero, add-suc, suc-add}
+use native.Mathlib.Numerals.{add-one, add-two, add-three, add-four, add-five, add-six, add-seven, add-eight}
 use native.Mathlib.Omega.{arith}
 use native.Mathlib.Decide.{decLe}
 use lib.ListN.{length, set, length-append}
@@ -20,6 +21,16 @@ farthest = 18446744073709551615
 pub record Wrote (before : List ℕ) (at : ℕ) (bs : List ℕ) (after : List ℕ) (next : ℕ) : Type 0 where
   pub bytes : after ≡ sets before at bs
   pub place : next ≡ min (at + length bs) farthest
+
+-- bytes that the slice has room for
+pub stored : {d e : List ℕ} (bs : List ℕ) (at : ℕ) → at + length bs ≤ length d → length d ≤ farthest → e ≡ sets d at bs → Wrote d at bs e (at + length bs)
+stored bs at h l e = record { bytes = e; place = omega arith }
+
+-- ---- nine bytes, stored one by one
+pub nine-stored : (l : List ℕ) (p a b c d e f g h i : ℕ) →
+    set (set (set (set (set (set (set (set (set l p a) (p + 1) b) (p + 2) c) (p + 3) d) (p + 4) e) (p + 5) f) (p + 6) g) (p + 7) h) (p + 8) i ≡
+    sets l p (a ∷ b ∷ c ∷ d ∷ e ∷ f ∷ g ∷ h ∷ i ∷ [])
+nine-stored l p a b c d e f g h i = rw (add-one p, add-two p, add-three p, add-four p, add-five p, add-six p, add-seven p, add-eight p)
 
 -- ---- one after the other
 pub sets-append : {A : Type 0} (l a b : List A) (i : ℕ) → sets l i (a ++ b) ≡ sets (sets l i a) (i + length a) b

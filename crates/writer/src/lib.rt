@@ -4,7 +4,9 @@ ghost use Prim.Native.Nat.{_≤_};
 ghost use mathlib.Core.Path.{_≡_};
 ghost use Prim.Native.Nat.{_+_, min};
 ghost use mathlib.Core.List.{[], _∷_};
+ghost use mathlib.Core.Bool.{true};
 ghost use lib.ListN.{length};
+ghost use lib.Seq.{sets};
 ghost use Rattle.numbers.specs.Values.{u16To, u32To, bitsOf};
 ghost use Rattle.table_format.specs.Format.{operandTo, recordTo};
 ghost use Rattle.writer.specs.Written.{farthest, Wrote};
@@ -91,9 +93,39 @@ pub fn put_clause(d: &mut [u8], at: usize) -> usize
     put_byte(d, at, 34)
 }
 
+// Most of a table are atoms: each is stored at once where it has room.
+fn store_atom(d: &mut [u8], at: usize, x: Atom)
+    requires { ⌜ at + 9 ≤ length (now d) ⌝ }
+    ensures { λ r. ⌜ now (d .exit) ≡ sets (now (d .entry)) at (recordTo (Record.Atomic x) []) ⌝ }
+{
+    let o = x.right;
+    let w = o.value;
+    let n = x.variable;
+    let v = numbers::bits(w);
+    d[at] = 35;
+    d[at + 1] = x.op;
+    d[at + 2] = (n % 256) as u8;
+    d[at + 3] = (n / 256 % 256) as u8;
+    d[at + 4] = o.tag;
+    d[at + 5] = (v % 256) as u8;
+    d[at + 6] = (v / 256 % 256) as u8;
+    d[at + 7] = (v / 256 / 256 % 256) as u8;
+    d[at + 8] = (v / 256 / 256 / 256 % 256) as u8;
+}
+
+fn has_room(n: usize, at: usize, m: usize) -> bool
+    ensures { λ r. ⌜ (r ≡ true → at + m ≤ n) ⌝ }
+{
+    if at < n { m <= n - at } else { false }
+}
+
 pub fn put_atom(d: &mut [u8], at: usize, x: Atom) -> usize
     ensures { λ r. ⌜ Wrote (now (d .entry)) at (recordTo (Record.Atomic x) []) (now (d .exit)) r ⌝ }
 {
+    if has_room(d.len(), at, 9) {
+        store_atom(d, at, x);
+        return at + 9;
+    }
     let o = x.right;
     let p = put_byte(d, at, 35);
     let q = put_byte(d, p, x.op);
