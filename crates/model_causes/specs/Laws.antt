@@ -34,7 +34,7 @@ use Rattle.model_format.specs.declared.Assignment.{Assignment}
 use Rattle.model_format.specs.Format.{kindOf}
 use Rattle.model_format.specs.Model.{maxThreads, maxInputs, maxOutputs, maxLocals, maxConnections, maxSwitches, maxTransitions, maxEach, noThread, noLocal, noConnection, emptyModel, inputOwner, outputOwner, localAt, connectionAt, threadAt, transitionAt, assignmentAt, criticalIn, hyperperiod}
 use Rattle.model_format.specs.Laws.{withPeriod}
-use Rattle.model_format.specs.Faultless.{order-head, order-item}
+use Rattle.model_format.specs.Faultless.{order-item}
 use Rattle.model_format.specs.Reading.{inOrder, maskFits, isState, namesItem, isOwnedBy, operandTag, operandNames, leftTag, targetTag, isConnected, lastTransition, isAssigned, faults, judged, headFaults, threadFaults, portFaults, assignmentFaults, misplaced, causeOf}
 use Rattle.model_causes.specs.declared.Stand.{Stand}
 use Rattle.model_causes.specs.declared.Found.{Found}

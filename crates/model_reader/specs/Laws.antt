@@ -1,11 +1,11 @@
 -- Laws of the definitions, in the forms that the code's tests have.
-use mathlib.Core.Path.{_≡_, refl, sym, _∙_, ap}
+use mathlib.Core.Path.{_≡_, refl, sym, _∙_}
 use mathlib.Core.Bool.{Bool, true, false, cond, _||_}
 use mathlib.Core.List.{List, []}
 use Prim.Native.Nat.{ℕ, _+_, _-_, _*_, _<_, _≤_}
 use native.Mathlib.Omega.{arith}
 use lib.ListN.{length, take, drop, getD, set}
-use lib.Dec.{eqb, leb}
+use lib.Dec.{eqb}
 use borrow.Author.Tests.{lt-ltb, ne-eqb, ltb-false, leb-false}
 use Rattle.numbers.specs.Values.{duration}
 use Rattle.records.specs.declared.Notation.the-variants as notations
@@ -37,7 +37,7 @@ use Rattle.model_format.specs.Reading.{lastTransition, causeOf, withCounts, nex
 use Rattle.model_causes.specs.declared.Stand.{Stand}
 use Rattle.model_causes.specs.declared.Found.{Found}
 use Rattle.model_causes.specs.declared.Four.{Four}
-use Rattle.model_causes.specs.Laws.{timingOf, nothing, foundIn, timingCause, behaviorCause, Owners, openIn, fourIn, timing-judged, behavior-judged}
+use Rattle.model_causes.specs.Laws.{timingOf, nothing, foundIn, timingCause, behaviorCause, Owners, openIn, timing-judged, behavior-judged}
 use Rattle.model_reader.specs.declared.Start.{Start}
 use Rattle.model_reader.specs.declared.Half.{Half}
 
@@ -105,9 +105,9 @@ pub record Begun (s : List ℕ) (h : Start) : Type 0 where
   pub refused : isNone (h .cause) ≡ false → refusedAt (h .cause) (h .at) (h .end) ≡ readModel s
   pub late : isNone (h .cause) ≡ true → Late s (h .at) (h .stand)
 
-pub read-begin : (s : List ℕ) (n : Stand) (m : Model) → n ≡ noItems → m ≡ emptyModel → readOn s 0 n (m .timing) ≡ readModel s
+pub read-begin : (s : List ℕ) (n : Stand) (t : Timing) → n ≡ noItems → t ≡ emptyModel .timing → readOn s 0 n t ≡ readModel s
 unfolding readModel emptyModel
-read-begin s n m e f = rw (e, f)
+read-begin s n t e f = rw (e, f)
 
 none-is : isNone None ≡ false → ⊥
 unfolding numberOf

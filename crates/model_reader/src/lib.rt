@@ -33,7 +33,6 @@ ghost use mathlib.Core.List.{[]};
 ghost use Prim.Native.Nat.{_<_, _≤_};
 ghost use lib.ListN.{length};
 ghost use Rattle.numbers.specs.Values.{duration};
-ghost use Rattle.records.specs.Refusals.{inModel};
 ghost use Rattle.model_format.specs.Model as model;
 ghost use Rattle.model_format.specs.Reading as reading;
 ghost use Rattle.model_reader.specs.Laws as laws;
@@ -92,13 +91,6 @@ fn no_items() -> Stand
         connections: 0,
         switches: 0,
     }
-}
-
-fn no_behavior() -> Behavior
-    ensures { λ r. ⌜ r ≡ model.emptyModel .behavior ⌝ }
-{
-    let m = empty_model();
-    m.behavior
 }
 
 // ---- the part at a place
@@ -185,11 +177,11 @@ fn with_periods(x: ModeTransition, f: Found) -> ModeTransition
 }
 
 // The records before the behaviours.
-fn read_timing(s: &[u8]) -> Start
+fn read_timing(s: &[u8], empty: Timing) -> Start
+    requires { ⌜ empty ≡ model.emptyModel .timing ⌝ }
     ensures { λ r. ⌜ laws.Begun (now (s .entry)) r ⌝ }
 {
-    let empty = empty_model();
-    let mut t = empty.timing;
+    let mut t = empty;
     let mut n = no_items();
     let mut at: usize = 0;
     while at < s.len() {
@@ -327,13 +319,13 @@ fn finished(n: Stand, at: usize, t: Timing, b: Behavior) -> ModelRead
     })
 }
 
-// The records from the behaviours on, where a reader stands at n with the items of t.
-fn read_behaviors(s: &[u8], from: usize, start: Stand, t: Timing) -> ModelRead
-    requires { ⌜ laws.Late (now s) from start ⌝ }
+// The records from a place on, after the timing: where a reader stands, with the items of t.
+fn read_behaviors(s: &[u8], from: usize, start: Stand, t: Timing, empty: Behavior) -> ModelRead
+    requires { ⌜ (empty ≡ model.emptyModel .behavior) × laws.Late (now s) from start ⌝ }
     ensures { λ r. ⌜ r ≡ laws.readOn (now (s .entry)) from start t ⌝ }
 {
     let o = owners_of(t);
-    let mut b = no_behavior();
+    let mut b = empty;
     let mut n = start;
     let mut at = from;
     while at < s.len() {
@@ -371,10 +363,11 @@ fn read_behaviors(s: &[u8], from: usize, start: Stand, t: Timing) -> ModelRead
 pub fn read_model(s: &[u8]) -> ModelRead
     ensures { λ r. ⌜ r ≡ reading.readModel (now (s .entry)) ⌝ }
 {
-    let h = read_timing(s);
+    let empty = empty_model();
+    let h = read_timing(s, empty.timing);
     let c = h.cause;
     if !records::is_none(c) {
         return refused(c, h.at, h.end);
     }
-    read_behaviors(s, h.at, h.stand, h.timing)
+    read_behaviors(s, h.at, h.stand, h.timing, empty.behavior)
 }

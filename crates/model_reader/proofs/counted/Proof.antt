@@ -2,7 +2,6 @@ use borrow.Author.Tests.{ne-eqb}
 use native.Mathlib.Omega.{arith}
 use Rattle.model_reader.specs.Laws as laws
 use Rattle.model_reader.specs.Laws.{thread-room, input-room, output-room, local-room, connection-room, switch-room}
-use borrow.Author.Needs.{needs}
 use Rattle.model_reader.proofs.counted.Statement.{statement}
 use Rattle.model_reader.proofs.counted.Tie as tie
 

@@ -1,6 +1,5 @@
 use borrow.Author.Tests.{ne-eqb}
 use Rattle.model_reader.specs.Laws as laws
-use borrow.Author.Needs.{needs}
 use Rattle.model_reader.proofs.place_of.Statement.{statement}
 use Rattle.model_reader.proofs.place_of.Tie as tie
 

@@ -30,7 +30,6 @@ use Rattle.model_reader.proofs.end_at.Reads as end-at-reads
 use Rattle.model_reader.proofs.finished.Reads as finished-reads
 use Rattle.model_reader.proofs.four.Reads as four-reads
 use Rattle.model_reader.proofs.last_of.Reads as last-of-reads
-use Rattle.model_reader.proofs.no_behavior.Reads as no-behavior-reads
 use Rattle.model_reader.proofs.record_at.Reads as record-at-reads
 use Rattle.model_reader.proofs.refused.Reads as refused-reads
 use Rattle.model_reader.proofs.transitions_after.Reads as transitions-after-reads
@@ -45,12 +44,12 @@ abbrev μ-loop : tie.MeasureT-loop
 μ-loop s from t o b₀ n₀ at₀ b n at = length s - at
 
 abbrev claims : lts.Claims
-claims = (owners-of-reads.Asked, owners-of-reads.Learnt, no-behavior-reads.Asked, no-behavior-reads.Learnt, record-at-reads.Asked, record-at-reads.Learnt, last-of-reads.Asked, last-of-reads.Learnt, two-reads.Asked, two-reads.Learnt, four-reads.Asked, four-reads.Learnt, behavior-cause-reads.Asked, behavior-cause-reads.Learnt, is-none-reads.Asked, is-none-reads.Learnt, end-at-reads.Asked, end-at-reads.Learnt, refused-reads.Asked, refused-reads.Learnt, kind-of-reads.Asked, kind-of-reads.Learnt, counted-reads.Asked, counted-reads.Learnt, transitions-after-reads.Asked, transitions-after-reads.Learnt, with-counts-reads.Asked, with-counts-reads.Learnt, small-reads.Asked, small-reads.Learnt, finished-reads.Asked, finished-reads.Learnt)
+claims = (owners-of-reads.Asked, owners-of-reads.Learnt, record-at-reads.Asked, record-at-reads.Learnt, last-of-reads.Asked, last-of-reads.Learnt, two-reads.Asked, two-reads.Learnt, four-reads.Asked, four-reads.Learnt, behavior-cause-reads.Asked, behavior-cause-reads.Learnt, is-none-reads.Asked, is-none-reads.Learnt, end-at-reads.Asked, end-at-reads.Learnt, refused-reads.Asked, refused-reads.Learnt, kind-of-reads.Asked, kind-of-reads.Learnt, counted-reads.Asked, counted-reads.Learnt, transitions-after-reads.Asked, transitions-after-reads.Learnt, with-counts-reads.Asked, with-counts-reads.Learnt, small-reads.Asked, small-reads.Learnt, finished-reads.Asked, finished-reads.Learnt)
 
 -- ---- c is the cause, and the record passes
-cause : (c : lts.After-behavior-cause claims reads.Pre reads.Post Inv-loop μ-loop) → c .behavior-cause .result ≡ causeOf (standing (c .before .before .before .before .before .before .before .before .before .before .before .before .before .loop .n) (c .before .before .before .before .before .before .before .before .before .before .before .before .before .before .before .before .before .args .t) (c .before .before .before .before .before .before .before .before .before .before .before .before .before .loop .b)) (c .before .before .before .before .before .before .before .before .before .before .before .record-at .result)
+cause : (c : lts.After-behavior-cause claims reads.Pre reads.Post Inv-loop μ-loop) → c .behavior-cause .result ≡ causeOf (standing (c .before .before .before .before .before .before .before .before .before .before .before .before .before .loop .n) (c .before .before .before .before .before .before .before .before .before .before .before .before .before .before .before .before .args .t) (c .before .before .before .before .before .before .before .before .before .before .before .before .before .loop .b)) (c .before .before .before .before .before .before .before .before .before .before .before .record-at .result)
 cause c =
-    behavior-cause-is _ _ (c .before .before .before .before .before .before .before .before .before .before .last-of .ensures) (c .before .before .before .before .before .before .before .before .before .before .before .before .before .loop .inv .0) _ (c .before .before .before .before .before .before .before .before .before .before .before .before .before .before .before .before .before .args .t) _ _ _ _ _ (c .before .before .before .before .before .before .before .before .before .before .before .before .before .before .before .owners-of .ensures) refl
+    behavior-cause-is _ _ (c .before .before .before .before .before .before .before .before .before .before .last-of .ensures) (c .before .before .before .before .before .before .before .before .before .before .before .before .before .loop .inv .0) _ (c .before .before .before .before .before .before .before .before .before .before .before .before .before .before .before .before .args .t) _ _ _ _ _ (c .before .before .before .before .before .before .before .before .before .before .before .before .before .before .owners-of .ensures) refl
     (c .before .before .four .ensures ∙ rw (c .before .before .before .before .before .before .two .ensures, c .before .before .before .two2 .ensures))
     (λ l. rw (c .before .before .before .before .before .before .before .before .before .before .before .record-at .ensures) (c .before .before .before .before .before .before .before .before .before .before .before .before .before .loop .inv .1 (c .before .before .before .before .before .before .before .before .before .before .before .before .loop-test .taken) l)) (c .behavior-cause .ensures)
 
@@ -80,7 +79,7 @@ other-kind Unknown h l = absurd (omega arith)
 
 -- each arm adds its record
 added : (c : lts.At-match-came claims reads.Pre reads.Post Inv-loop μ-loop) →
-    (c .match .b .transitions ≤ maxTransitions) × (standing (c .before .before .counted .result) (c .before .before .before .before .before .before .before .before .before .before .before .before .before .before .before .before .before .before .before .before .before .before .before .args .t) (c .match .b) ≡ nextReading (standing (c .before .before .before .before .before .before .before .before .before .before .before .before .before .before .before .before .before .before .before .loop .n) (c .before .before .before .before .before .before .before .before .before .before .before .before .before .before .before .before .before .before .before .before .before .before .before .args .t) (c .before .before .before .before .before .before .before .before .before .before .before .before .before .before .before .before .before .before .before .loop .b)) (c .before .before .before .before .before .before .before .before .before .before .before .before .before .before .before .before .before .record-at .result))
+    (c .match .b .transitions ≤ maxTransitions) × (standing (c .before .before .counted .result) (c .before .before .before .before .before .before .before .before .before .before .before .before .before .before .before .before .before .before .before .before .before .before .args .t) (c .match .b) ≡ nextReading (standing (c .before .before .before .before .before .before .before .before .before .before .before .before .before .before .before .before .before .before .before .loop .n) (c .before .before .before .before .before .before .before .before .before .before .before .before .before .before .before .before .before .before .before .before .before .before .args .t) (c .before .before .before .before .before .before .before .before .before .before .before .before .before .before .before .before .before .before .before .loop .b)) (c .before .before .before .before .before .before .before .before .before .before .before .before .before .before .before .before .before .record-at .result))
 added c =
     let e = c .before .before .before .kind-of .ensures in
     let k = c .before .before .counted .ensures in
@@ -89,19 +88,16 @@ added c =
     let g = c .before .before .before .before .before .before .before .before .before .before .before .before .before .before .before .before .last-of .ensures in
     let i = c .before .before .before .before .before .before .behavior-cause .ensures in
     let p = passes (c .before .before .before .before) in
-    ⊎-elim (λ w. transition-added _ _ (c .before .before .before .before .before .before .before .before .before .before .before .before .before .before .before .before .before .before .before .before .before .before .before .args .t) _ _ _ _ _ _ _ e k u h g refl _ (w .1 .given .1) (transition-room _ _ _ _ _ _ _ i p _ (w .1 .given .1)) (w .3))
-    (⊎-elim (λ w. atom-added _ _ (c .before .before .before .before .before .before .before .before .before .before .before .before .before .before .before .before .before .before .before .before .before .before .before .args .t) _ _ _ _ _ _ _ e k u h g refl _ _ _ (w .1 .given .1) (atom-room _ _ _ _ _ _ _ i p _ (w .1 .given .1)) (w .4 .ensures) (w .5 .ensures) (w .6))
-    (⊎-elim (λ w. assignment-added _ _ (c .before .before .before .before .before .before .before .before .before .before .before .before .before .before .before .before .before .before .before .before .before .before .before .args .t) _ _ _ _ _ _ _ e k u h g refl _ _ _ (w .1 .given .1) (assignment-room _ _ _ _ _ _ _ i p _ (w .1 .given .1)) (w .4 .ensures) (w .5 .ensures) (w .6))
+    ⊎-elim (λ w. transition-added _ _ (c .before .before .before .before .before .before .before .before .before .before .before .before .before .before .before .before .before .before .before .before .before .before .args .t) _ _ _ _ _ _ _ e k u h g refl _ (w .1 .given .1) (transition-room _ _ _ _ _ _ _ i p _ (w .1 .given .1)) (w .3))
+    (⊎-elim (λ w. atom-added _ _ (c .before .before .before .before .before .before .before .before .before .before .before .before .before .before .before .before .before .before .before .before .before .before .args .t) _ _ _ _ _ _ _ e k u h g refl _ _ _ (w .1 .given .1) (atom-room _ _ _ _ _ _ _ i p _ (w .1 .given .1)) (w .4 .ensures) (w .5 .ensures) (w .6))
+    (⊎-elim (λ w. assignment-added _ _ (c .before .before .before .before .before .before .before .before .before .before .before .before .before .before .before .before .before .before .before .before .before .before .args .t) _ _ _ _ _ _ _ e k u h g refl _ _ _ (w .1 .given .1) (assignment-room _ _ _ _ _ _ _ i p _ (w .1 .given .1)) (w .4 .ensures) (w .5 .ensures) (w .6))
     (λ w. absurd (other-kind _ (tag-other _ (w .0 .keys4)) (behavior-late _ _ _ _ _ _ _ i p))))) (c .match .came)
 
 owners-of-requires : tie.Need-owners-of-requires Inv-loop μ-loop
 owners-of-requires c κs = search needs
 
-no-behavior-requires : tie.Need-no-behavior-requires Inv-loop μ-loop
-no-behavior-requires c κs = search needs
-
 loop-holds : tie.Need-loop-holds Inv-loop μ-loop
-loop-holds c = behavior-begin _ _ _ (c .before .before .before .args .t) _ (c .no-behavior .ensures) (c .before .before .before .pre)
+loop-holds c = behavior-begin _ _ _ (c .before .before .args .t) _ (c .before .before .pre .0) (c .before .before .pre .1)
 
 record-at-requires : tie.Need-record-at-requires Inv-loop μ-loop
 record-at-requires c κs = search needs
@@ -277,7 +273,6 @@ read-behaviors-spec =
     Inv-loop
     μ-loop
     owners-of-requires
-    no-behavior-requires
     loop-holds
     record-at-requires
     last-of-requires

@@ -28,7 +28,6 @@ use Rattle.model_causes.proofs.found_in.Reads as found-in-reads
 use Rattle.model_causes.proofs.nothing.Reads as nothing-reads
 use Rattle.model_causes.proofs.timing_cause.Reads as timing-cause-reads
 use Rattle.model_causes.proofs.timing_of.Reads as timing-of-reads
-use Rattle.model_format.proofs.empty_model.Reads as empty-model-reads
 use Rattle.model_format.proofs.kind_of.Reads as kind-of-reads
 use Rattle.model_reader.proofs.begun.Reads as begun-reads
 use Rattle.model_reader.proofs.counted.Reads as counted-reads
@@ -48,7 +47,7 @@ abbrev μ-loop : tie.MeasureT-loop
 μ-loop s t₀ n₀ at₀ t n at = length s - at
 
 abbrev claims : lts.Claims
-claims = (empty-model-reads.Asked, empty-model-reads.Learnt, no-items-reads.Asked, no-items-reads.Learnt, record-at-reads.Asked, record-at-reads.Learnt, kind-of-reads.Asked, kind-of-reads.Learnt, begun-reads.Asked, begun-reads.Learnt, timing-of-reads.Asked, timing-of-reads.Learnt, found-in-reads.Asked, found-in-reads.Learnt, nothing-reads.Asked, nothing-reads.Learnt, timing-cause-reads.Asked, timing-cause-reads.Learnt, is-none-reads.Asked, is-none-reads.Learnt, end-at-reads.Asked, end-at-reads.Learnt, stopped-reads.Asked, stopped-reads.Learnt, place-of-reads.Asked, place-of-reads.Learnt, counted-reads.Asked, counted-reads.Learnt, headed-reads.Asked, headed-reads.Learnt, with-periods-reads.Asked, with-periods-reads.Learnt)
+claims = (no-items-reads.Asked, no-items-reads.Learnt, record-at-reads.Asked, record-at-reads.Learnt, kind-of-reads.Asked, kind-of-reads.Learnt, begun-reads.Asked, begun-reads.Learnt, timing-of-reads.Asked, timing-of-reads.Learnt, found-in-reads.Asked, found-in-reads.Learnt, nothing-reads.Asked, nothing-reads.Learnt, timing-cause-reads.Asked, timing-cause-reads.Learnt, is-none-reads.Asked, is-none-reads.Learnt, end-at-reads.Asked, end-at-reads.Learnt, stopped-reads.Asked, stopped-reads.Learnt, place-of-reads.Asked, place-of-reads.Learnt, counted-reads.Asked, counted-reads.Learnt, headed-reads.Asked, headed-reads.Learnt, with-periods-reads.Asked, with-periods-reads.Learnt)
 
 -- ---- where f is found, c is the cause, and the record passes
 found : (c : lts.Joined2 claims reads.Pre reads.Post Inv-loop μ-loop) → c .if2 .f ≡ foundIn (timingOf (c .before .before .before .before .before .loop .n) (c .before .before .before .before .before .loop .t)) (c .before .before .before .record-at .result)
@@ -101,14 +100,11 @@ added c =
     (⊎-elim (λ w. switch-added _ _ _ _ _ _ _ _ _ e g h _ _ (w .1 .given .1) (found (c .before .before .before .before .before .before)) (w .3 .ensures) (w .5 ∙ k) (w .4))
     (λ w. absurd (other-kind _ _ _ (tag-late _ (w .0 .keys8)) (rw (← e) (c .before .before .before .before .before .before .before .if1 .left)) h)))))))) (c .match .came)
 
-empty-model-requires : tie.Need-empty-model-requires Inv-loop μ-loop
-empty-model-requires c κs = search needs
-
 no-items-requires : tie.Need-no-items-requires Inv-loop μ-loop
 no-items-requires c κs = search needs
 
 loop-holds : tie.Need-loop-holds Inv-loop μ-loop
-loop-holds c = read-begin _ _ _ (c .no-items .ensures) (c .before .before .empty-model .ensures)
+loop-holds c = read-begin _ _ _ (c .no-items .ensures) (c .before .before .pre)
 
 record-at-requires : tie.Need-record-at-requires Inv-loop μ-loop
 record-at-requires c κs = search needs
@@ -245,7 +241,6 @@ read-timing-spec =
     (tie.spec
     Inv-loop
     μ-loop
-    empty-model-requires
     no-items-requires
     loop-holds
     record-at-requires
