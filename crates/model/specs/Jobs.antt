@@ -2,12 +2,13 @@
 use mathlib.Core.Bool.{Bool, false, cond, _&&_, _||_, not}
 use Prim.Native.Nat.{ℕ, _+_}
 use lib.Dec.{eqb, leb}
+use Rattle.numbers.specs.Lists.{item}
 use Rattle.numbers.specs.Multiples.{isMultiple}
 use Rattle.model_format.specs.declared.Thread.{Thread}
 use Rattle.model_format.specs.declared.Connection.{Connection}
 use Rattle.model_format.specs.declared.ModeTransition.{ModeTransition}
 use Rattle.model_format.specs.declared.Timing.{Timing}
-use Rattle.model_format.specs.Model.{threadAt, immediate, delayed, sourceThread}
+use Rattle.model_format.specs.Model.{maxOutputs, threadAt, immediate, delayed, sourceThread}
 use Rattle.model.specs.declared.Clock.{Clock}
 use Rattle.model.specs.declared.State.{State}
 use Rattle.model.specs.declared.Job.{Job}
@@ -84,6 +85,10 @@ besideComes v j =
 
 abbrev pub beside : View → Job → Bool
 beside v j = besideRuns v j || besideComes v j
+
+-- the view of the thread that the connection x comes from
+unfoldable pub sourceOf : Timing → State → Connection → View
+sourceOf m s x = viewOf m s (item maxOutputs (m .output) (x .source) 0)
 
 -- the connection x, live or not, is a live one of a kind into thread t, where owner is that of its target
 unfoldable pub leadsTo : Connection → ℕ → Bool → ℕ → ℕ → Bool

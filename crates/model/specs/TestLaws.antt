@@ -12,9 +12,10 @@ use Rattle.numbers.specs.Lists.{item, anyBelow}
 use Rattle.numbers.specs.ListLaws.{any-none, any-some}
 use Rattle.numbers.specs.Values.{duration}
 use Rattle.model_format.specs.declared.Thread.{Thread}
+use Rattle.model_format.specs.declared.Connection.{Connection}
 use Rattle.model_format.specs.declared.ModeTransition.{ModeTransition}
 use Rattle.model_format.specs.declared.Timing.{Timing}
-use Rattle.model_format.specs.Model.{maxThreads, maxInputs, maxConnections, noThread, noConnection, connectionAt, inputOwner, threadAt, switchAt, immediate, delayed, isKind, sourceThread, targetThread}
+use Rattle.model_format.specs.Model.{maxThreads, maxInputs, maxOutputs, maxConnections, noThread, noConnection, connectionAt, inputOwner, outputOwner, threadAt, switchAt, immediate, delayed, sourceThread}
 use Rattle.model.specs.declared.Clock.{Clock}
 use Rattle.model.specs.declared.Threads.{Threads}
 use Rattle.model.specs.declared.State.{State}
@@ -23,7 +24,7 @@ use Rattle.model.specs.declared.View.{View}
 use Rattle.model.specs.State.{none, isActive, codeOf, dispatchTime, lengthOf, spentOf, isLive}
 use Rattle.model.specs.Parts.{jobOf}
 use Rattle.model.specs.Tests.{isWaiting, isUnfinished, hasJob, dueOf, isDue, isPeriodic, feeds, canActivate, canDeactivate, awaitsDelayed, canDispatch, runsBeside, comesBeside, awaitsImmediate, startFault, canComplete, canMeetDeadline, canMiss, canEnter, canLeave, threadBusy, switchBusy, isBusy}
-use Rattle.model.specs.Jobs.{viewOf, activates, deactivates, completes, dispatchesAlone, startsAlone, faultOf, meets, misses, mayAct, dueWithJob, besideRuns, besideComes, holdsDispatch, holdsStart, leadsTo, enters, leaves}
+use Rattle.model.specs.Jobs.{viewOf, activates, deactivates, completes, dispatchesAlone, startsAlone, faultOf, meets, misses, mayAct, dueWithJob, besideRuns, besideComes, sourceOf, leadsTo, holdsDispatch, holdsStart, enters, leaves}
 
 -- ---- Bools
 pub false-true : {A : Type 0} → false ≡ true → A
@@ -99,29 +100,29 @@ module _ (v : View) (ready waits : Bool) (n : ℕ) where
         fault-length k = rw (not-false ready h, g, w, k)
 
 -- ---- connections
-pub feeds-by : (m : Timing) (s : State) (kind t c : ℕ) (k l : Bool) (u w : ℕ) → k ≡ isKind m kind c → u ≡ targetThread m c → w ≡ u →
-    l ≡ item maxConnections (s .live) c false → (k && (eqb w t && l)) ≡ feeds m s kind t c
-unfolding feeds isLive
-feeds-by m s kind t c k l u w e f g h = rw (e, g ∙ f, h)
+pub source-by : (m : Timing) (s : State) (x : Connection) (i o u : ℕ) (v : View) → i ≡ x .source → o ≡ item maxOutputs (m .output) i 0 → u ≡ o → v ≡ viewOf m s u →
+    v ≡ sourceOf m s x
+unfolding sourceOf
+source-by m s x i o u v e f g h = h ∙ rw (g, f, e)
 
 module _ (m : Timing) (s : State) (t c : ℕ) (b : Bool) where
-  pub dispatch-unfed : b ≡ feeds m s delayed t c → b ≡ false → false ≡ holdsDispatch m s t c
+  dispatch-unfed : b ≡ feeds m s delayed t c → b ≡ false → false ≡ holdsDispatch m s t c
   unfolding holdsDispatch
   dispatch-unfed e h = rw (← e, h)
 
-  pub start-unfed : b ≡ feeds m s immediate t c → b ≡ false → false ≡ holdsStart m s t c
+  start-unfed : b ≡ feeds m s immediate t c → b ≡ false → false ≡ holdsStart m s t c
   unfolding holdsStart
   start-unfed e h = rw (← e, h)
 
-  -- u is the source thread, v its view
-  module _ (u w : ℕ) (v : View) (p : u ≡ sourceThread m c) (q : w ≡ u) (f : v ≡ viewOf m s w) where
-    pub dispatch-fed : b ≡ feeds m s delayed t c → b ≡ true → dueWithJob v ≡ holdsDispatch m s t c
+  -- v is the view of the source
+  module _ (v : View) (f : v ≡ viewOf m s (sourceThread m c)) where
+    dispatch-fed : b ≡ feeds m s delayed t c → b ≡ true → dueWithJob v ≡ holdsDispatch m s t c
     unfolding holdsDispatch viewOf hasJob isUnfinished dueOf codeOf dispatchTime jobOf
-    dispatch-fed e h = rw (← e, h, f, q ∙ p)
+    dispatch-fed e h = rw (← e, h, f)
 
-    pub start-fed : (j : Job) → j ≡ jobOf (s .threads) t → b ≡ feeds m s immediate t c → b ≡ true → (besideRuns v j || besideComes v j) ≡ holdsStart m s t c
+    start-fed : (j : Job) → j ≡ jobOf (s .threads) t → b ≡ feeds m s immediate t c → b ≡ true → (besideRuns v j || besideComes v j) ≡ holdsStart m s t c
     unfolding holdsStart viewOf runsBeside comesBeside isUnfinished isWaiting isActive codeOf dispatchTime jobOf
-    start-fed j g e h = rw (← e, h, f, g, q ∙ p)
+    start-fed j g e h = rw (← e, h, f, g)
 
 -- ---- mode transitions
 module _ (m : Timing) (s : State) (q : ℕ) (x : ModeTransition) (e : x ≡ switchAt m q) where
@@ -172,6 +173,18 @@ module _ (m : Timing) (s : State) (t n c : ℕ) (e : n ≡ min (m .connections) 
     feeds-at : b ≡ feeds m s kind t c
     unfolding leadsTo feeds isLive connectionAt inputOwner
     feeds-at = h ∙ rw (g, f, lt-ltb c maxConnections (omega arith))
+
+    -- and v the view of its source
+    source-at : (v : View) → v ≡ sourceOf m s (getD (m .connection) c noConnection) → v ≡ viewOf m s (sourceThread m c)
+    unfolding sourceOf outputOwner connectionAt
+    source-at v p = p ∙ rw (lt-ltb c maxConnections (omega arith))
+
+    pub delayed-fed : (v : View) → v ≡ sourceOf m s (getD (m .connection) c noConnection) → kind ≡ delayed → b ≡ true → dueWithJob v ≡ holdsDispatch m s t c
+    delayed-fed v p j w = dispatch-fed m s t c b v (source-at v p) (rw j at feeds-at) w
+
+    pub immediate-fed : (v : View) (j : Job) → v ≡ sourceOf m s (getD (m .connection) c noConnection) → j ≡ jobOf (s .threads) t → kind ≡ immediate → b ≡ true →
+        (besideRuns v j || besideComes v j) ≡ holdsStart m s t c
+    immediate-fed v j p q k w = start-fed m s t c b v (source-at v p) j q (rw k at feeds-at) w
 
     pub delayed-past : kind ≡ delayed → b ≡ false → holdsDispatch m s t c ≡ false
     delayed-past j w = sym (dispatch-unfed m s t c b (rw j at feeds-at) w)

@@ -41,7 +41,6 @@ pub use tests::can_enter;
 pub use tests::can_leave;
 pub use tests::can_meet_deadline;
 pub use tests::can_miss;
-pub use tests::feeds;
 pub use tests::is_busy;
 pub use tests::start_fault;
 pub use tests::switch_busy;

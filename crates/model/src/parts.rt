@@ -9,7 +9,6 @@ ghost use mathlib.Core.Path.{_≡_};
 ghost use Rattle.numbers.specs.Lists.{item};
 ghost use Rattle.numbers.specs.Values.{natural};
 ghost use Rattle.model.specs.Parts as parts;
-ghost use mathlib.Core.Bool.{false};
 
 fn no_job() -> Job
     ensures { λ r. ⌜ r ≡ parts.noJob ⌝ }
@@ -54,12 +53,6 @@ pub fn missed_of(x: Threads, t: usize) -> u32
     ensures { λ r. ⌜ r ≡ item 16 (x .missed) t 0 ⌝ }
 {
     if t < 16 { x.missed[t] } else { 0 }
-}
-
-pub fn mark_at(l: [bool; 32], c: usize) -> bool
-    ensures { λ r. ⌜ r ≡ item 32 l c false ⌝ }
-{
-    if c < 32 { l[c] } else { false }
 }
 
 pub fn value_at(l: [Value; 32], i: usize) -> Value

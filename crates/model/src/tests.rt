@@ -5,7 +5,6 @@ use crate::Job;
 use crate::State;
 use crate::View;
 use crate::parts::job_of;
-use crate::parts::mark_at;
 use crate::setters::owner_at;
 use crate::setters::wide;
 use crate::setters::wide16;
@@ -14,10 +13,7 @@ use model_format::Connection;
 use model_format::ModeTransition;
 use model_format::Thread;
 use model_format::Timing;
-use model_format::is_kind;
-use model_format::source_thread;
 use model_format::switch_at;
-use model_format::target_thread;
 use model_format::thread_at;
 use numbers::is_multiple;
 ghost use mathlib.Core.Path.{_≡_};
@@ -146,37 +142,13 @@ fn beside_comes(v: View, j: Job) -> bool
     (j.dispatched.0 == v.clock.now.0) & (v.job.active & (waiting & periodic_in(v)))
 }
 
-// A live connection of a kind into thread t.
-pub fn feeds(m: Timing, s: State, kind: u8, t: usize, c: usize) -> bool
-    ensures { λ r. ⌜ r ≡ tests.feeds m s kind t c ⌝ }
+// The thread that connection x comes from.
+fn source_of(m: Timing, s: State, x: Connection) -> View
+    ensures { λ r. ⌜ r ≡ jobs.sourceOf m s x ⌝ }
 {
-    let l = s.live;
-    let live = mark_at(l, c);
-    let to = wide(target_thread(m, c));
-    is_kind(m, kind, c) & ((to == t) & live)
-}
-
-fn holds_dispatch(m: Timing, s: State, t: usize, c: usize) -> bool
-    ensures { λ r. ⌜ r ≡ jobs.holdsDispatch m s t c ⌝ }
-{
-    if !feeds(m, s, 1, t, c) {
-        return false;
-    }
-    let u = wide(source_thread(m, c));
-    let v = view_of(m, s, u);
-    due_with_job(v)
-}
-
-fn holds_start(m: Timing, s: State, t: usize, c: usize) -> bool
-    ensures { λ r. ⌜ r ≡ jobs.holdsStart m s t c ⌝ }
-{
-    if !feeds(m, s, 0, t, c) {
-        return false;
-    }
-    let j = job_at(s, t);
-    let u = wide(source_thread(m, c));
-    let v = view_of(m, s, u);
-    beside_runs(v, j) | beside_comes(v, j)
+    let owners = m.output;
+    let u = wide(owner_at(owners, wide16(x.source)));
+    view_of(m, s, u)
 }
 
 // Connection x is a live one of a kind into thread t: `owner` is that of its target.
@@ -199,7 +171,8 @@ pub fn awaits_delayed(m: Timing, s: State, t: usize) -> bool
         let live = s.live[c];
         let owner = owner_at(owners, wide16(x.target));
         if leads_to(x, owner, live, 1, t) {
-            if holds_dispatch(m, s, t, c) {
+            let v = source_of(m, s, x);
+            if due_with_job(v) {
                 return true;
             }
         }
@@ -211,6 +184,7 @@ pub fn awaits_delayed(m: Timing, s: State, t: usize) -> bool
 pub fn awaits_immediate(m: Timing, s: State, t: usize) -> bool
     ensures { λ r. ⌜ r ≡ tests.awaitsImmediate m s t ⌝ }
 {
+    let j = job_at(s, t);
     let owners = m.input;
     let n = within(m.connections, 32);
     let mut c: usize = 0;
@@ -219,7 +193,8 @@ pub fn awaits_immediate(m: Timing, s: State, t: usize) -> bool
         let live = s.live[c];
         let owner = owner_at(owners, wide16(x.target));
         if leads_to(x, owner, live, 0, t) {
-            if holds_start(m, s, t, c) {
+            let v = source_of(m, s, x);
+            if beside_runs(v, j) | beside_comes(v, j) {
                 return true;
             }
         }

@@ -12,6 +12,7 @@ use Rattle.numbers.specs.declared.Value.{Value}
 use Rattle.numbers.specs.Lists.{item, store, anyBelow, allBelow, firstBelow, foldBelow}
 use Rattle.numbers.specs.ListLaws.{any-suc, all-next, all-zero, all-not, fold-next, fold-suc, first-none, first-found}
 use Rattle.numbers.specs.Values.{duration, natural, bitsOf, oneMore}
+use Rattle.records.specs.declared.Event.{Event}
 use Rattle.records.specs.declared.Operand.{Operand}
 use Rattle.model_format.specs.declared.Transition.{Transition}
 use Rattle.model_format.specs.declared.Atom.{Atom}
@@ -31,8 +32,9 @@ use Rattle.model.specs.declared.State.{State}
 use Rattle.model_effects.specs.declared.Wiring.{Wiring}
 use Rattle.model.specs.State.{none, isActive, codeOf, behaviorOf, missedOf, isLive, bufferOf, inputOf, outputOf, localOf, withClock, withThreads, withLive, withPorts, withEntered, withMode, withPhase, withCpu, withActive, withCode, withDispatchTime, withJob, withBehavior, withMissed}
 use Rattle.model.specs.Parts.{jobOf, setDispatch, setJob, setBehavior, setMissed, setInput, setBuffer, putInput, putBuffer, putOutput, putLocal, setCpu, setPhase, setEntered, setMode}
-use Rattle.model.specs.Tests.{waitingExecution, execution, completed}
+use Rattle.model.specs.Tests.{waitingMode, waitingDispatch, waitingExecution, execution, completed}
 use Rattle.model.specs.Effects.{isFedImmediately, isPort, freeze, dispatch, start, operandValue, leftValue, atomHolds, isOpen, firstOpen, takenTransition, assignedValue, assign, carries, send, endJob, restCode, complete, meetDeadline, miss, request, activeIn, inBoth, liveIn, enter, leave}
+use Rattle.model.specs.Machine.{effect}
 
 -- ---- bools
 not-false : (b : Bool) → not b ≡ false → b ≡ true
@@ -529,3 +531,26 @@ pub live-is : (m : Timing) (n c old new : ℕ) (r : Bool) → n ≡ min (m .conn
     r ≡ inBoth (connectionAt m c .modes) old new
 unfolding connectionAt
 live-is m n c old new r e h f = f ∙ rw (lt-ltb c maxConnections (omega arith))
+
+-- ---- one event but COMPLETE, which alone asks for the behaviours
+unfoldable pub timedEffect : Timing → State → Event → State
+timedEffect m s e =
+    let t = e .id in
+    cond (eqb (e .kind) 1) (withCode s t waitingDispatch)
+    (cond (eqb (e .kind) 2) (withCode s t waitingMode)
+    (cond (eqb (e .kind) 3) (dispatch m s t)
+    (cond (eqb (e .kind) 4) (start m s t (e .amount))
+    (cond (eqb (e .kind) 6) (meetDeadline m s t)
+    (cond (eqb (e .kind) 7) (miss m s t)
+    (cond (eqb (e .kind) 8) (request m s t)
+    (cond (eqb (e .kind) 9) (enter m s t)
+    (cond (eqb (e .kind) 10) (leave m s t) s))))))))
+
+module _ (m : Model) (s : State) (e : Event) where
+  pub effect-timed : (e .kind ≡ 5 → ⊥) → timedEffect (m .timing) s e ≡ effect m s e
+  unfolding timedEffect effect
+  effect-timed h = rw (ne-eqb (e .kind) 5 h)
+
+  pub effect-complete : (t : ℕ) (r : State) → e .kind ≡ 5 → t ≡ e .id → r ≡ complete m s t → r ≡ effect m s e
+  unfolding effect
+  effect-complete t r h f g = g ∙ rw (h, f)

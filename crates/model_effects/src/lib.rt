@@ -425,7 +425,7 @@ fn rest_code(s: State, t: usize) -> u8
     if active { 1 } else { 0 }
 }
 
-fn complete(m: Model, s: State, t: usize) -> State
+pub fn complete(m: Model, s: State, t: usize) -> State
     ensures { λ r. ⌜ r ≡ effects.complete m s t ⌝ }
 {
     let b = m.behavior;
@@ -569,10 +569,10 @@ fn leave(m: Timing, s: State, q: usize) -> State
 }
 
 // ---- one event
-pub fn effect(m: Model, s: State, e: Event) -> State
-    ensures { λ r. ⌜ r ≡ machine.effect m s e ⌝ }
+// All but COMPLETE, which alone asks for the behaviours.
+pub fn timed_effect(m: Timing, s: State, e: Event) -> State
+    ensures { λ r. ⌜ r ≡ laws.timedEffect m s e ⌝ }
 {
-    let x = m.timing;
     let id = e.id;
     let n = e.amount;
     let t = wide(id);
@@ -580,14 +580,24 @@ pub fn effect(m: Model, s: State, e: Event) -> State
     match kind {
         1 => with_thread_code(s, t, 1),
         2 => with_thread_code(s, t, 0),
-        3 => dispatch(x, s, t),
-        4 => start(x, s, id, n),
-        5 => complete(m, s, t),
-        6 => meet_deadline(x, s, t),
-        7 => miss(x, s, t),
-        8 => request(x, s, id),
-        9 => enter(x, s, t),
-        10 => leave(x, s, t),
+        3 => dispatch(m, s, t),
+        4 => start(m, s, id, n),
+        6 => meet_deadline(m, s, t),
+        7 => miss(m, s, t),
+        8 => request(m, s, id),
+        9 => enter(m, s, t),
+        10 => leave(m, s, t),
         _ => s,
     }
+}
+
+pub fn effect(m: Model, s: State, e: Event) -> State
+    ensures { λ r. ⌜ r ≡ machine.effect m s e ⌝ }
+{
+    if e.kind == 5 {
+        let t = wide(e.id);
+        return complete(m, s, t);
+    }
+    let x = m.timing;
+    timed_effect(x, s, e)
 }

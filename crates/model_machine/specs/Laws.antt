@@ -27,10 +27,10 @@ use Rattle.model_machine.specs.declared.Ran.{Ran}
 use Rattle.model_machine.specs.declared.Tallied.{Tallied}
 use Rattle.model.specs.State.{nowOf, withNow}
 use Rattle.model.specs.Tests.{execution, canActivate, canDeactivate, canDispatch, startFault, canComplete, canMeetDeadline, canMiss, canEnter, canLeave, isBusy}
-use Rattle.model.specs.Effects.{tick}
+use Rattle.model.specs.Effects.{tick, complete}
 use Rattle.model.specs.Quiet.{moreBy, spending, spentBy, withSpents, later, Quiet}
 use Rattle.model.specs.QuietLaws.{later-none, later-next}
-use Rattle.model_effects.specs.Laws.{fold-room}
+use Rattle.model_effects.specs.Laws.{fold-room, timedEffect, effect-timed, effect-complete}
 use Rattle.model.specs.Machine.{startState, isEnabled, effect, refuse, take, ticks, step, machineOf, runModel}
 
 -- ---- Spent q ticks later
@@ -176,6 +176,20 @@ module _ (m : Model) (s : State) (e : Event) (b : Bool) (f : b ≡ isBroken e) w
       pub step-taken : (x : State) → d ≡ true → x ≡ effect m s e → take x ≡ step m s e
       unfolding step
       step-taken x i j = rw (← f, h, ne-eqb (e .kind) 11 k, ← g, i, j)
+
+      pub step-timed : (x : State) → d ≡ true → (e .kind ≡ 5 → ⊥) → x ≡ timedEffect (m .timing) s e → take x ≡ step m s e
+      step-timed x i l j = step-taken x i (j ∙ effect-timed m s e l)
+
+    -- COMPLETE of the thread t, whose test gives c
+    module _ (k : e .kind ≡ 5) (t : ℕ) (w : t ≡ e .id) (c : Bool) (g : c ≡ canComplete s t) where
+      other-kind : e .kind ≡ 11 → ⊥
+      other-kind z = omega (arith, k, z)
+
+      pub step-complete : (x : State) → (ltb t (m .timing .threads) && c) ≡ true → x ≡ complete m s t → take x ≡ step m s e
+      step-complete x i j = step-taken other-kind (ltb t (m .timing .threads) && c) (enabled-complete (m .timing) s e t w c k g) x i (effect-complete m s e t x k w j)
+
+      pub step-incomplete : (ltb t (m .timing .threads) && c) ≡ false → refuse NotEnabled s ≡ step m s e
+      step-incomplete i = step-refused other-kind (ltb t (m .timing .threads) && c) (enabled-complete (m .timing) s e t w c k g) i
 
 -- ---- a run, as the declared struct has it
 abbrev pub endedOf : Ran → Ended State

@@ -18,7 +18,8 @@ use model::quiet_ticks;
 use model::start_fault;
 use model::wide;
 use model::within;
-use model_effects::effect;
+use model_effects::complete;
+use model_effects::timed_effect;
 use model_format::Model;
 use model_format::Timing;
 use numbers::Duration;
@@ -146,7 +147,7 @@ pub fn is_enabled(m: Timing, s: State, e: Event) -> bool
     }
 }
 
-// One event on a state.
+// One event on a state. COMPLETE goes by itself: it alone asks for the behaviours, which are large.
 pub fn step(m: Model, s: State, e: Event) -> Stepped
     ensures { λ r. ⌜ r ≡ machine.step m s e ⌝ }
 {
@@ -155,6 +156,16 @@ pub fn step(m: Model, s: State, e: Event) -> Stepped
         return answered(c, s);
     }
     let x = m.timing;
+    if e.kind == 5 {
+        let t = wide(e.id);
+        if (t < x.threads) & can_complete(s, t) {
+            let done = complete(m, s, t);
+            let c = Cause::None;
+            return answered(c, done);
+        }
+        let c = Cause::NotEnabled;
+        return answered(c, s);
+    }
     if e.kind == 11 {
         return ticks(x, s, e.amount);
     }
@@ -162,7 +173,7 @@ pub fn step(m: Model, s: State, e: Event) -> Stepped
         let c = Cause::NotEnabled;
         return answered(c, s);
     }
-    let r = effect(m, s, e);
+    let r = timed_effect(x, s, e);
     let c = Cause::None;
     answered(c, r)
 }

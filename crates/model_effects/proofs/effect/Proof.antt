@@ -1,5 +1,5 @@
-use borrow.Author.Tests.{ne-eqb}
-use Rattle.model.specs.Machine.{effect}
+use mathlib.Core.Path.{_∙_}
+use Rattle.model_effects.specs.Laws.{effect-timed, effect-complete}
 use borrow.Author.Needs.{needs}
 use Rattle.model_effects.proofs.effect.Statement.{statement}
 use Rattle.model_effects.proofs.effect.Tie as tie
@@ -7,114 +7,18 @@ use Rattle.model_effects.proofs.effect.Tie as tie
 wide-requires : tie.Need-wide-requires
 wide-requires c κs = search needs
 
-with-thread-code-requires : tie.Need-with-thread-code-requires
-with-thread-code-requires c κs = search needs
-
-with-thread-code-requires-2 : tie.Need-with-thread-code-requires-2
-with-thread-code-requires-2 c κs = search needs
-
-dispatch-requires : tie.Need-dispatch-requires
-dispatch-requires c κs = search needs
-
-start-requires : tie.Need-start-requires
-start-requires c κs = search needs
-
 complete-requires : tie.Need-complete-requires
 complete-requires c κs = search needs
 
-meet-deadline-requires : tie.Need-meet-deadline-requires
-meet-deadline-requires c κs = search needs
-
-miss-requires : tie.Need-miss-requires
-miss-requires c κs = search needs
-
-request-requires : tie.Need-request-requires
-request-requires c κs = search needs
-
-enter-requires : tie.Need-enter-requires
-enter-requires c κs = search needs
-
-leave-requires : tie.Need-leave-requires
-leave-requires c κs = search needs
-
 returns : tie.Need-returns
-unfolding effect
-returns c = rw (c .before .match .keys1, ← c .before .before .wide .ensures) (c .with-thread-code .ensures)
+returns c = effect-complete _ _ _ _ _ (c .before .before .if1 .taken) (c .before .wide .ensures) (c .complete .ensures)
+
+timed-effect-requires : tie.Need-timed-effect-requires
+timed-effect-requires c κs = search needs
 
 returns-2 : tie.Need-returns-2
-unfolding effect
-returns-2 c = rw (c .before .match .keys2, ← c .before .before .wide .ensures) (c .with-thread-code2 .ensures)
-
-returns-3 : tie.Need-returns-3
-unfolding effect
-returns-3 c = rw (c .before .match .keys3, ← c .before .before .wide .ensures) (c .dispatch .ensures)
-
-returns-4 : tie.Need-returns-4
-unfolding effect
-returns-4 c = rw (c .before .match .keys4) (c .start .ensures)
-
-returns-5 : tie.Need-returns-5
-unfolding effect
-returns-5 c = rw (c .before .match .keys5, ← c .before .before .wide .ensures) (c .complete .ensures)
-
-returns-6 : tie.Need-returns-6
-unfolding effect
-returns-6 c = rw (c .before .match .keys6, ← c .before .before .wide .ensures) (c .meet-deadline .ensures)
-
-returns-7 : tie.Need-returns-7
-unfolding effect
-returns-7 c = rw (c .before .match .keys7, ← c .before .before .wide .ensures) (c .miss .ensures)
-
-returns-8 : tie.Need-returns-8
-unfolding effect
-returns-8 c = rw (c .before .match .keys8) (c .request .ensures)
-
-returns-9 : tie.Need-returns-9
-unfolding effect
-returns-9 c = rw (c .before .match .keys9, ← c .before .before .wide .ensures) (c .enter .ensures)
-
-returns-10 : tie.Need-returns-10
-unfolding effect
-returns-10 c = rw (c .before .match .keys10, ← c .before .before .wide .ensures) (c .leave .ensures)
-
-returns-11 : tie.Need-returns-11
-unfolding effect
-returns-11 c = rw (
-  ne-eqb _ _ (c .match .rest .0 .0 .0 .0 .0 .0 .0 .0 .0 .1),
-  ne-eqb _ _ (c .match .rest .0 .0 .0 .0 .0 .0 .0 .0 .1),
-  ne-eqb _ _ (c .match .rest .0 .0 .0 .0 .0 .0 .0 .1),
-  ne-eqb _ _ (c .match .rest .0 .0 .0 .0 .0 .0 .1),
-  ne-eqb _ _ (c .match .rest .0 .0 .0 .0 .0 .1),
-  ne-eqb _ _ (c .match .rest .0 .0 .0 .0 .1),
-  ne-eqb _ _ (c .match .rest .0 .0 .0 .1),
-  ne-eqb _ _ (c .match .rest .0 .0 .1),
-  ne-eqb _ _ (c .match .rest .0 .1),
-  ne-eqb _ _ (c .match .rest .1),
-)
+returns-2 c = c .timed-effect .ensures ∙ effect-timed _ _ _ (c .before .before .if1 .left)
 
 pub effect-spec : {M : Type 1} → statement M
 effect-spec =
-    tie.close
-    (tie.spec
-    wide-requires
-    with-thread-code-requires
-    with-thread-code-requires-2
-    dispatch-requires
-    start-requires
-    complete-requires
-    meet-deadline-requires
-    miss-requires
-    request-requires
-    enter-requires
-    leave-requires
-    returns
-    returns-2
-    returns-3
-    returns-4
-    returns-5
-    returns-6
-    returns-7
-    returns-8
-    returns-9
-    returns-10
-    returns-11)
+    tie.close (tie.spec wide-requires complete-requires returns timed-effect-requires returns-2)

@@ -1,5 +1,5 @@
 use mathlib.Core.Logic.{⊎-elim}
-use Rattle.model.specs.TestLaws.{delayed-some, delayed-none, delayed-past}
+use Rattle.model.specs.TestLaws.{delayed-some, delayed-none, delayed-fed, delayed-past}
 use Rattle.model.specs.Jobs.{holdsDispatch}
 use borrow.Author.Count.{below-more}
 use native.Mathlib.Omega.{arith}
@@ -40,11 +40,14 @@ owner-at-requires c κs = search needs
 leads-to-requires : tie.Need-leads-to-requires Inv-loop μ-loop
 leads-to-requires c κs = search needs
 
-holds-dispatch-requires : tie.Need-holds-dispatch-requires Inv-loop μ-loop
-holds-dispatch-requires c κs = search needs
+source-of-requires : tie.Need-source-of-requires Inv-loop μ-loop
+source-of-requires c κs = search needs
+
+due-with-job-requires : tie.Need-due-with-job-requires Inv-loop μ-loop
+due-with-job-requires c κs = search needs
 
 returns : tie.Need-returns Inv-loop μ-loop
-returns c = delayed-some _ _ _ _ _ (c .before .before .before .before .before .before .before .before .before .before .within .ensures) _ (c .before .before .before .before .before .before .before .before .loop-test .taken) (c .before .holds-dispatch .ensures) (c .if2 .taken)
+returns c = delayed-some _ _ _ _ _ (c .before .before .before .before .before .before .before .before .before .before .before .within .ensures) _ (c .before .before .before .before .before .before .before .before .before .loop-test .taken) (c .before .due-with-job .ensures ∙ delayed-fed (c .before .before .before .before .before .before .before .before .before .before .before .before .before .args .t1) (c .before .before .before .before .before .before .before .before .before .before .before .before .before .args .t2) (c .before .before .before .before .before .before .before .before .before .before .before .before .before .args .t) _ _ (c .before .before .before .before .before .before .before .before .before .before .before .within .ensures) 1 _ _ _ (c .before .before .before .before .before .before .before .before .before .loop-test .taken) (c .before .before .before .before .before .before .wide16 .ensures) (c .before .before .before .before .before .owner-at .ensures) (c .before .before .before .before .leads-to .ensures) _ (c .before .before .source-of .ensures) refl (c .before .before .before .if1 .taken)) (c .if2 .taken)
 
 add-c : tie.Need-add-c Inv-loop μ-loop
 add-c c = search needs
@@ -53,7 +56,7 @@ loop-less : tie.Need-loop-less Inv-loop μ-loop
 loop-less c = search needs
 
 loop-again : tie.Need-loop-again Inv-loop μ-loop
-loop-again c = (omega arith, below-more _ _ (c .before .before .before .before .before .before .before .loop .inv .1) (⊎-elim (λ w. sym (w .1 .ensures) ∙ w .2 .left) (λ w. delayed-past (c .before .before .before .before .before .before .before .before .before .before .args .t1) (c .before .before .before .before .before .before .before .before .before .before .args .t2) (c .before .before .before .before .before .before .before .before .before .before .args .t) _ _ (c .before .before .before .before .before .before .before .before .within .ensures) 1 _ _ _ (c .before .before .before .before .before .before .loop-test .taken) (c .before .before .before .wide16 .ensures) (c .before .before .owner-at .ensures) (c .before .leads-to .ensures) refl (w .left)) (c .if1 .came)))
+loop-again c = (omega arith, below-more _ _ (c .before .before .before .before .before .before .before .loop .inv .1) (⊎-elim (λ w. sym (w .2 .ensures ∙ delayed-fed (c .before .before .before .before .before .before .before .before .before .before .args .t1) (c .before .before .before .before .before .before .before .before .before .before .args .t2) (c .before .before .before .before .before .before .before .before .before .before .args .t) _ _ (c .before .before .before .before .before .before .before .before .within .ensures) 1 _ _ _ (c .before .before .before .before .before .before .loop-test .taken) (c .before .before .before .wide16 .ensures) (c .before .before .owner-at .ensures) (c .before .leads-to .ensures) _ (w .1 .ensures) refl (w .0 .taken)) ∙ w .3 .left) (λ w. delayed-past (c .before .before .before .before .before .before .before .before .before .before .args .t1) (c .before .before .before .before .before .before .before .before .before .before .args .t2) (c .before .before .before .before .before .before .before .before .before .before .args .t) _ _ (c .before .before .before .before .before .before .before .before .within .ensures) 1 _ _ _ (c .before .before .before .before .before .before .loop-test .taken) (c .before .before .before .wide16 .ensures) (c .before .before .owner-at .ensures) (c .before .leads-to .ensures) refl (w .left)) (c .if1 .came)))
 
 returns-2 : tie.Need-returns-2 Inv-loop μ-loop
 returns-2 c = delayed-none _ _ _ _ _ (c .before .before .within .ensures) (c .loop-test .left) (c .before .loop .inv .1)
@@ -72,7 +75,8 @@ awaits-delayed-spec =
     wide16-requires
     owner-at-requires
     leads-to-requires
-    holds-dispatch-requires
+    source-of-requires
+    due-with-job-requires
     returns
     add-c
     loop-less

@@ -1,5 +1,5 @@
 use mathlib.Core.Logic.{⊎-elim}
-use Rattle.model.specs.TestLaws.{immediate-some, immediate-none, immediate-past}
+use Rattle.model.specs.TestLaws.{immediate-some, immediate-none, immediate-fed, immediate-past}
 use Rattle.model.specs.Jobs.{holdsStart}
 use borrow.Author.Count.{below-more}
 use native.Mathlib.Omega.{arith}
@@ -11,10 +11,13 @@ use Rattle.model.proofs.tests.awaits_immediate.Statement.{statement}
 use Rattle.model.proofs.tests.awaits_immediate.Tie as tie
 
 abbrev Inv-loop : tie.InvT-loop
-Inv-loop t m s owners n c₀ c = (c ≤ n) × ((k : ℕ) → k < c → holdsStart m s t k ≡ false)
+Inv-loop t m s j owners n c₀ c = (c ≤ n) × ((k : ℕ) → k < c → holdsStart m s t k ≡ false)
 
 abbrev μ-loop : tie.MeasureT-loop
-μ-loop t m s owners n c₀ c = n - c
+μ-loop t m s j owners n c₀ c = n - c
+
+job-at-requires : tie.Need-job-at-requires Inv-loop μ-loop
+job-at-requires c κs = search needs
 
 within-requires : tie.Need-within-requires Inv-loop μ-loop
 within-requires c κs = search needs
@@ -40,11 +43,17 @@ owner-at-requires c κs = search needs
 leads-to-requires : tie.Need-leads-to-requires Inv-loop μ-loop
 leads-to-requires c κs = search needs
 
-holds-start-requires : tie.Need-holds-start-requires Inv-loop μ-loop
-holds-start-requires c κs = search needs
+source-of-requires : tie.Need-source-of-requires Inv-loop μ-loop
+source-of-requires c κs = search needs
+
+beside-runs-requires : tie.Need-beside-runs-requires Inv-loop μ-loop
+beside-runs-requires c κs = search needs
+
+beside-comes-requires : tie.Need-beside-comes-requires Inv-loop μ-loop
+beside-comes-requires c κs = search needs
 
 returns : tie.Need-returns Inv-loop μ-loop
-returns c = immediate-some _ _ _ _ _ (c .before .before .before .before .before .before .before .before .before .before .within .ensures) _ (c .before .before .before .before .before .before .before .before .loop-test .taken) (c .before .holds-start .ensures) (c .if2 .taken)
+returns c = immediate-some _ _ _ _ _ (c .before .before .before .before .before .before .before .before .before .before .before .before .within .ensures) _ (c .before .before .before .before .before .before .before .before .before .before .loop-test .taken) (rw (c .before .before .beside-runs .ensures, c .before .beside-comes .ensures) (immediate-fed (c .before .before .before .before .before .before .before .before .before .before .before .before .before .before .before .args .t1) (c .before .before .before .before .before .before .before .before .before .before .before .before .before .before .before .args .t2) (c .before .before .before .before .before .before .before .before .before .before .before .before .before .before .before .args .t) _ _ (c .before .before .before .before .before .before .before .before .before .before .before .before .within .ensures) 0 _ _ _ (c .before .before .before .before .before .before .before .before .before .before .loop-test .taken) (c .before .before .before .before .before .before .before .wide16 .ensures) (c .before .before .before .before .before .before .owner-at .ensures) (c .before .before .before .before .before .leads-to .ensures) _ _ (c .before .before .before .source-of .ensures) (c .before .before .before .before .before .before .before .before .before .before .before .before .before .before .job-at .ensures) refl (c .before .before .before .before .if1 .taken))) (c .if2 .taken)
 
 add-c : tie.Need-add-c Inv-loop μ-loop
 add-c c = search needs
@@ -53,7 +62,7 @@ loop-less : tie.Need-loop-less Inv-loop μ-loop
 loop-less c = search needs
 
 loop-again : tie.Need-loop-again Inv-loop μ-loop
-loop-again c = (omega arith, below-more _ _ (c .before .before .before .before .before .before .before .loop .inv .1) (⊎-elim (λ w. sym (w .1 .ensures) ∙ w .2 .left) (λ w. immediate-past (c .before .before .before .before .before .before .before .before .before .before .args .t1) (c .before .before .before .before .before .before .before .before .before .before .args .t2) (c .before .before .before .before .before .before .before .before .before .before .args .t) _ _ (c .before .before .before .before .before .before .before .before .within .ensures) 0 _ _ _ (c .before .before .before .before .before .before .loop-test .taken) (c .before .before .before .wide16 .ensures) (c .before .before .owner-at .ensures) (c .before .leads-to .ensures) refl (w .left)) (c .if1 .came)))
+loop-again c = (omega arith, below-more _ _ (c .before .before .before .before .before .before .before .loop .inv .1) (⊎-elim (λ w. sym (rw (w .2 .ensures, w .3 .ensures) (immediate-fed (c .before .before .before .before .before .before .before .before .before .before .before .args .t1) (c .before .before .before .before .before .before .before .before .before .before .before .args .t2) (c .before .before .before .before .before .before .before .before .before .before .before .args .t) _ _ (c .before .before .before .before .before .before .before .before .within .ensures) 0 _ _ _ (c .before .before .before .before .before .before .loop-test .taken) (c .before .before .before .wide16 .ensures) (c .before .before .owner-at .ensures) (c .before .leads-to .ensures) _ _ (w .1 .ensures) (c .before .before .before .before .before .before .before .before .before .before .job-at .ensures) refl (w .0 .taken))) ∙ w .4 .left) (λ w. immediate-past (c .before .before .before .before .before .before .before .before .before .before .before .args .t1) (c .before .before .before .before .before .before .before .before .before .before .before .args .t2) (c .before .before .before .before .before .before .before .before .before .before .before .args .t) _ _ (c .before .before .before .before .before .before .before .before .within .ensures) 0 _ _ _ (c .before .before .before .before .before .before .loop-test .taken) (c .before .before .before .wide16 .ensures) (c .before .before .owner-at .ensures) (c .before .leads-to .ensures) refl (w .left)) (c .if1 .came)))
 
 returns-2 : tie.Need-returns-2 Inv-loop μ-loop
 returns-2 c = immediate-none _ _ _ _ _ (c .before .before .within .ensures) (c .loop-test .left) (c .before .loop .inv .1)
@@ -64,6 +73,7 @@ awaits-immediate-spec =
     (tie.spec
     Inv-loop
     μ-loop
+    job-at-requires
     within-requires
     loop-holds
     mul-x
@@ -72,7 +82,9 @@ awaits-immediate-spec =
     wide16-requires
     owner-at-requires
     leads-to-requires
-    holds-start-requires
+    source-of-requires
+    beside-runs-requires
+    beside-comes-requires
     returns
     add-c
     loop-less

@@ -1,4 +1,4 @@
-use Rattle.model_machine.specs.Laws.{step-broken, step-tick, step-refused, step-taken}
+use Rattle.model_machine.specs.Laws.{step-broken, step-complete, step-incomplete, step-tick, step-refused, step-timed}
 use borrow.Author.Tests.{not-true, not-false}
 use mathlib.Core.Path.{_∙_}
 use borrow.Author.Needs.{needs}
@@ -14,29 +14,50 @@ answered-requires c κs = search needs
 returns : tie.Need-returns
 returns c = c .answered .ensures ∙ step-broken _ _ _ _ (c .before .before .is-broken .ensures) (c .before .if1 .taken)
 
-ticks-requires : tie.Need-ticks-requires
-ticks-requires c κs = search needs
+wide-requires : tie.Need-wide-requires
+wide-requires c κs = search needs
 
-returns-2 : tie.Need-returns-2
-returns-2 c = step-tick _ _ _ _ (c .before .before .before .before .before .is-broken .ensures) (c .before .before .before .before .if1 .left) _ (c .before .if2 .taken) (c .ticks .ensures)
+can-complete-requires : tie.Need-can-complete-requires
+can-complete-requires c κs = search needs
 
-is-enabled-requires : tie.Need-is-enabled-requires
-is-enabled-requires c κs = search needs
+complete-requires : tie.Need-complete-requires
+complete-requires c κs = search needs
 
 answered-requires-2 : tie.Need-answered-requires-2
 answered-requires-2 c κs = search needs
 
-returns-3 : tie.Need-returns-3
-returns-3 c = c .answered2 .ensures ∙ step-refused _ _ _ _ (c .before .before .before .before .before .before .before .is-broken .ensures) (c .before .before .before .before .before .before .if1 .left) (c .before .before .before .if2 .left) _ (c .before .before .is-enabled .ensures) (not-true _ (c .before .if3 .taken))
-
-effect-requires : tie.Need-effect-requires
-effect-requires c κs = search needs
+returns-2 : tie.Need-returns-2
+returns-2 c = c .answered2 .ensures ∙ step-complete _ _ _ _ (c .before .before .before .before .before .before .before .before .before .before .is-broken .ensures) (c .before .before .before .before .before .before .before .before .before .if1 .left) (c .before .before .before .before .before .before .if2 .taken) _ (c .before .before .before .before .before .wide .ensures) _ (c .before .before .before .can-complete .ensures) _ (c .before .before .if3 .taken) (c .before .complete .ensures)
 
 answered-requires-3 : tie.Need-answered-requires-3
 answered-requires-3 c κs = search needs
 
+returns-3 : tie.Need-returns-3
+returns-3 c = c .answered3 .ensures ∙ step-incomplete _ _ _ _ (c .before .before .before .before .before .before .before .before .before .is-broken .ensures) (c .before .before .before .before .before .before .before .before .if1 .left) (c .before .before .before .before .before .if2 .taken) _ (c .before .before .before .before .wide .ensures) _ (c .before .before .can-complete .ensures) (c .before .if3 .left)
+
+ticks-requires : tie.Need-ticks-requires
+ticks-requires c κs = search needs
+
 returns-4 : tie.Need-returns-4
-returns-4 c = c .answered3 .ensures ∙ step-taken _ _ _ _ (c .before .before .before .before .before .before .before .before .is-broken .ensures) (c .before .before .before .before .before .before .before .if1 .left) (c .before .before .before .before .if2 .left) _ (c .before .before .before .is-enabled .ensures) _ (not-false _ (c .before .before .if3 .left)) (c .before .effect .ensures)
+returns-4 c = step-tick _ _ _ _ (c .before .before .before .before .before .before .before .is-broken .ensures) (c .before .before .before .before .before .before .if1 .left) _ (c .before .if4 .taken) (c .ticks .ensures)
+
+is-enabled-requires : tie.Need-is-enabled-requires
+is-enabled-requires c κs = search needs
+
+answered-requires-4 : tie.Need-answered-requires-4
+answered-requires-4 c κs = search needs
+
+returns-5 : tie.Need-returns-5
+returns-5 c = c .answered4 .ensures ∙ step-refused _ _ _ _ (c .before .before .before .before .before .before .before .before .before .is-broken .ensures) (c .before .before .before .before .before .before .before .before .if1 .left) (c .before .before .before .if4 .left) _ (c .before .before .is-enabled .ensures) (not-true _ (c .before .if5 .taken))
+
+timed-effect-requires : tie.Need-timed-effect-requires
+timed-effect-requires c κs = search needs
+
+answered-requires-5 : tie.Need-answered-requires-5
+answered-requires-5 c κs = search needs
+
+returns-6 : tie.Need-returns-6
+returns-6 c = c .answered5 .ensures ∙ step-timed _ _ _ _ (c .before .before .before .before .before .before .before .before .before .before .is-broken .ensures) (c .before .before .before .before .before .before .before .before .before .if1 .left) (c .before .before .before .before .if4 .left) _ (c .before .before .before .is-enabled .ensures) _ (not-false _ (c .before .before .if5 .left)) (c .before .before .before .before .before .before .if2 .left) (c .before .timed-effect .ensures)
 
 pub step-spec : {M : Type 1} → statement M
 step-spec =
@@ -45,11 +66,18 @@ step-spec =
     is-broken-requires
     answered-requires
     returns
-    ticks-requires
-    returns-2
-    is-enabled-requires
+    wide-requires
+    can-complete-requires
+    complete-requires
     answered-requires-2
-    returns-3
-    effect-requires
+    returns-2
     answered-requires-3
-    returns-4)
+    returns-3
+    ticks-requires
+    returns-4
+    is-enabled-requires
+    answered-requires-4
+    returns-5
+    timed-effect-requires
+    answered-requires-5
+    returns-6)
