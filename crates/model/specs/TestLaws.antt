@@ -1,7 +1,6 @@
 -- Laws of the tests, in the forms in which the code has them.
 use mathlib.Core.Path.{_≡_, refl, sym, _∙_}
 use mathlib.Core.Bool.{Bool, true, false, cond, _&&_, _||_, not}
-use mathlib.Core.List.{List}
 use Prim.Native.Nat.{ℕ, zero, suc, _<_, _≤_, min}
 use native.Mathlib.Omega.{arith}
 use native.Mathlib.Decide.{ℕ-discrete, decLt}
@@ -16,7 +15,6 @@ use Rattle.model_format.specs.declared.Connection.{Connection}
 use Rattle.model_format.specs.declared.ModeTransition.{ModeTransition}
 use Rattle.model_format.specs.declared.Timing.{Timing}
 use Rattle.model_format.specs.Model.{maxThreads, maxInputs, maxOutputs, maxConnections, noThread, noConnection, connectionAt, inputOwner, outputOwner, threadAt, switchAt, immediate, delayed, sourceThread}
-use Rattle.model.specs.declared.Clock.{Clock}
 use Rattle.model.specs.declared.Threads.{Threads}
 use Rattle.model.specs.declared.State.{State}
 use Rattle.model.specs.declared.Job.{Job}

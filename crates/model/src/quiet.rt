@@ -133,7 +133,7 @@ fn switches_calm(m: Timing, s: State, n: u32) -> u32
     }
 }
 
-// How many of n ticks pass with no event but at the first of them; at least that one.
+// How many of n ticks can pass at once where the first can: no event comes before any of those after it.
 pub fn quiet_ticks(m: Timing, s: State, n: u32) -> u32
     requires { ⌜ 0 < n ⌝ }
     ensures { λ r. ⌜ (0 < r) × ((r ≤ n) × quiet.Quiet m s r) ⌝ }
