@@ -105,7 +105,8 @@ fn run_table_listing(table: &[u8], script: &[u8], d: &mut [u8]) -> usize
     ensures { λ r. ⌜ Wrote (now (d .entry)) 0 (listing (table-machine.machineOf (tableOf (now (table .entry)) .rules)) table-machine.clockOf (table-machine.startVariables (tableOf (now (table .entry)))) (now (script .entry))) (now (d .exit)) r ⌝ }
 {
     let mut place = [0; 1024];
-    let heads = table::list_heads(table, &mut place);
+    let mut guard = [0; 1024];
+    let heads = table::list_heads(table, &mut place, &mut guard);
     let mut v = table::all_bits(table::start_variables(table));
     let mut taken: u64 = 0;
     let mut p = 0;
@@ -115,7 +116,7 @@ fn run_table_listing(table: &[u8], script: &[u8], d: &mut [u8]) -> usize
         let n = records::part_at(w, script, p);
         let q = p + n;
         let e = records::event_of(&script[p..q]);
-        let c = table::step_on(table, &place, heads, &mut v, e);
+        let c = table::step_on(table, &place, &guard, heads, &mut v, e);
         if !records::is_none(c) {
             return put_last(d, at, taken, c, table::clock_in(&v));
         }

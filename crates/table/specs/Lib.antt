@@ -5,5 +5,6 @@ pub mod Bits
 pub mod Places
 pub mod Enabled
 pub mod Ticking
+pub mod Guards
 pub mod Applied
 pub mod Running

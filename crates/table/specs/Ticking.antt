@@ -66,7 +66,7 @@ pub clock-back : (i : ℕ) (v : List Value) → store variables (later i v) nowV
 clock-back i [] = ap (λ (w : List Value). store variables w nowVar (natural 0)) (later-empty i)
 clock-back i (x ∷ l) = ap (λ (w : List Value). store variables w nowVar x) (later-head i x l)
 
-later-other : (i : ℕ) (v : List Value) (j : ℕ) → eqb j nowVar ≡ false → valueOf (later i v) j ≡ valueOf v j
+pub later-other : (i : ℕ) (v : List Value) (j : ℕ) → eqb j nowVar ≡ false → valueOf (later i v) j ≡ valueOf v j
 unfolding later
 later-other zero v j h = refl
 later-other (suc i) v j h =

@@ -23,6 +23,7 @@ ghost use Rattle.table.specs.Rules as rules;
 ghost use Rattle.table.specs.Machine as machine;
 ghost use Rattle.table.specs.Bits.{values};
 ghost use Rattle.table.specs.Places.{HeadAt, headIn, Listed};
+ghost use Rattle.table.specs.Guards.{mayHold, Asks, Guards, Guarded};
 ghost use Rattle.table.specs.Enabled.{passes, allPass, clausesAt, isAsked, oneMore, ruleAt, rulesFound, choice, foundRule, foundAfter, foundHere, Finds, ruleStops, stopsTick};
 ghost use Rattle.table.specs.Ticking.{oneTick, later, quietFrom};
 ghost use Rattle.table.specs.Applied.{Unmarked, writesFrom, Applied, Result, headAllows};
@@ -91,6 +92,12 @@ pub fn variables_of(v: [u32; 288]) -> Variables
 
 fn wide(n: u16) -> usize
     ensures { λ r. ⌜ (r ≡ n) × (n < 65536) ⌝ }
+{
+    n as usize
+}
+
+fn wide32(n: u32) -> usize
+    ensures { λ r. ⌜ (r ≡ n) × (n < 4294967296) ⌝ }
 {
     n as usize
 }
@@ -218,27 +225,89 @@ pub struct Heads {
     pub rest: usize,
 }
 
-// The list of a table's heads, as far as there is room: a run makes it once, and walks the table no more.
-pub fn list_heads(t: &[u8], place: &mut [usize]) -> Heads
-    ensures { λ r. ⌜ Listed (now (t .entry)) (now (place .exit)) (r .listed) (r .rest) ⌝ }
+fn listed(n: usize, rest: usize) -> Heads
+    ensures { λ r. ⌜ r ≡ record { listed = n; rest = rest } ⌝ }
+{
+    Heads {
+        listed: n,
+        rest: rest,
+    }
+}
+
+// What an atom asks its variable for, where it is variable = constant: the variable's number times 2^32, and the constant's bits. Else 0.
+fn asked_in(x: &[u8]) -> usize
+    ensures { λ r. ⌜ Asks (now (x .entry)) r ⌝ }
+{
+    let op = numbers::byte_at(x, 1);
+    if op != 0 {
+        return 0;
+    }
+    let tag = numbers::byte_at(x, 4);
+    if tag != 0 {
+        return 0;
+    }
+    let j = wide(numbers::u16_at(x, 2));
+    let n = wide32(numbers::u32_at(x, 5));
+    4294967296 * j + n
+}
+
+// The same of the first clause of a rule whose records after its head begin at p, where it is one atom: its guard.
+fn guard_of(t: &[u8], p: usize) -> usize
+    ensures { λ r. ⌜ Guards (now (t .entry)) p r ⌝ }
+{
+    if t.len() <= p {
+        return 0;
+    }
+    if t.len() - p < 11 {
+        return 0;
+    }
+    if t[p] != 34 {
+        return 0;
+    }
+    if t[p + 1] != 35 {
+        return 0;
+    }
+    if t[p + 10] != 34 {
+        return 0;
+    }
+    asked_in(&t[p + 1..p + 10])
+}
+
+// Whether a rule of that guard may be enabled.
+fn may_hold(v: &[u32; 288], guard: usize) -> bool
+    ensures { λ r. ⌜ r ≡ mayHold (values (now (v .entry))) guard ⌝ }
+{
+    let j = guard / 4294967296;
+    if j == 0 {
+        return true;
+    }
+    if 288 <= j {
+        return true;
+    }
+    let x = value_in(v, j);
+    let n = (guard % 4294967296) as u32;
+    numbers::same(x, numbers::value_of(n))
+}
+
+// The list of a table's heads with their guards, as far as there is room: a run makes it once, and walks the table no more.
+pub fn list_heads(t: &[u8], place: &mut [usize], guard: &mut [usize]) -> Heads
+    ensures { λ r. ⌜ Listed (now (t .entry)) (now (place .exit)) (r .listed) (r .rest) × Guarded (now (t .entry)) (now (place .exit)) (now (guard .exit)) (r .listed) ⌝ }
 {
     let mut n: usize = 0;
     let mut at: usize = 0;
     while at < t.len() {
         if t[at] == 33 {
             if place.len() <= n {
-                return Heads {
-                    listed: n,
-                    rest: at,
-                };
+                return listed(n, at);
+            }
+            if guard.len() <= n {
+                return listed(n, at);
             }
             if t.len() - at < 11 {
-                return Heads {
-                    listed: n,
-                    rest: at,
-                };
+                return listed(n, at);
             }
             place[n] = at;
+            guard[n] = guard_of(t, at + 11);
             n += 1;
             at += 11;
             continue;
@@ -246,10 +315,7 @@ pub fn list_heads(t: &[u8], place: &mut [usize]) -> Heads
         let w = Notation::Table;
         at += records::part_at(w, t, at);
     }
-    Heads {
-        listed: n,
-        rest: at,
-    }
+    listed(n, at)
 }
 
 // The enabled rules of an event's kind and id: none, one or more (`count` 0, 1, 2). Of the last one its head, and the place after that.
@@ -615,14 +681,25 @@ fn quiet_from(t: &[u8], from: usize, v: &[u32; 288], n: u32) -> u32
 }
 
 // And before some rule listed does.
-fn quiet_listed(t: &[u8], place: &[usize], heads: Heads, v: &[u32; 288], n: u32) -> u32
-    requires { ⌜ Listed (now t) (now place) (heads .listed) (heads .rest) ⌝ }
+fn quiet_listed(
+    t: &[u8],
+    place: &[usize],
+    guard: &[usize],
+    heads: Heads,
+    v: &[u32; 288],
+    n: u32,
+) -> u32
+    requires { ⌜ Listed (now t) (now place) (heads .listed) (heads .rest) × Guarded (now t) (now place) (now guard) (heads .listed) ⌝ }
     ensures { λ r. ⌜ quietFrom (now (t .entry)) (values (now (v .entry))) r (heads .rest) ≡ firstBelow n (λ i. machine.isBusy (later i (values (now (v .entry)))) (tableOf (now (t .entry)) .rules)) ⌝ }
 {
     let count = heads.listed;
     let mut limit = n;
     let mut i: usize = 0;
     while i < count {
+        if !may_hold(v, guard[i]) {
+            i += 1;
+            continue;
+        }
         let at = place[i];
         let kind = t[at + 1];
         limit = ticks_to_rule(t, v, limit, at + 11, kind);
@@ -632,21 +709,35 @@ fn quiet_listed(t: &[u8], place: &[usize], heads: Heads, v: &[u32; 288], n: u32)
 }
 
 // How many of n ticks pass before some rule stops them.
-fn quiet_ticks(t: &[u8], place: &[usize], heads: Heads, v: &[u32; 288], n: u32) -> u32
-    requires { ⌜ Listed (now t) (now place) (heads .listed) (heads .rest) ⌝ }
+fn quiet_ticks(
+    t: &[u8],
+    place: &[usize],
+    guard: &[usize],
+    heads: Heads,
+    v: &[u32; 288],
+    n: u32,
+) -> u32
+    requires { ⌜ Listed (now t) (now place) (heads .listed) (heads .rest) × Guarded (now t) (now place) (now guard) (heads .listed) ⌝ }
     ensures { λ r. ⌜ r ≡ firstBelow n (λ i. machine.isBusy (later i (values (now (v .entry)))) (tableOf (now (t .entry)) .rules)) ⌝ }
 {
-    let m = quiet_listed(t, place, heads, v, n);
+    let m = quiet_listed(t, place, guard, heads, v, n);
     let rest = heads.rest;
     quiet_from(t, rest, v, m)
 }
 
 // n ticks: the quiet ones, as far as the clock goes. Where they are refused, the clock is set back.
-fn tick(t: &[u8], place: &[usize], heads: Heads, v: &mut [u32; 288], n: u32) -> Cause
-    requires { ⌜ Listed (now t) (now place) (heads .listed) (heads .rest) ⌝ }
+fn tick(
+    t: &[u8],
+    place: &[usize],
+    guard: &[usize],
+    heads: Heads,
+    v: &mut [u32; 288],
+    n: u32,
+) -> Cause
+    requires { ⌜ Listed (now t) (now place) (heads .listed) (heads .rest) × Guarded (now t) (now place) (now guard) (heads .listed) ⌝ }
     ensures { λ r. ⌜ steppedTo r (now (v .exit)) ≡ machine.ticks (tableOf (now (t .entry)) .rules) (variablesOf (now (v .entry))) n (values (now (v .entry))) ⌝ }
 {
-    let quiet = quiet_ticks(t, place, heads, v, n);
+    let quiet = quiet_ticks(t, place, guard, heads, v, n);
     let first = value_in(v, 0);
     let mut i: u32 = 0;
     while i < quiet {
@@ -666,15 +757,22 @@ fn tick(t: &[u8], place: &[usize], heads: Heads, v: &mut [u32; 288], n: u32) -> 
 
 // One event on the table that the bytes t hold, whether or not they were accepted: `v` are the bits of the variables one event further, or as
 // they were where it is refused.
-pub fn step_on(t: &[u8], place: &[usize], heads: Heads, v: &mut [u32; 288], e: Event) -> Cause
-    requires { ⌜ Listed (now t) (now place) (heads .listed) (heads .rest) ⌝ }
+pub fn step_on(
+    t: &[u8],
+    place: &[usize],
+    guard: &[usize],
+    heads: Heads,
+    v: &mut [u32; 288],
+    e: Event,
+) -> Cause
+    requires { ⌜ Listed (now t) (now place) (heads .listed) (heads .rest) × Guarded (now t) (now place) (now guard) (heads .listed) ⌝ }
     ensures { λ r. ⌜ steppedTo r (now (v .exit)) ≡ machine.step (tableOf (now (t .entry)) .rules) (variablesOf (now (v .entry))) e ⌝ }
 {
     if records::is_broken(e) {
         return Cause::BrokenEvent;
     }
     if e.kind == 11 {
-        return tick(t, place, heads, v, e.amount);
+        return tick(t, place, guard, heads, v, e.amount);
     }
     let f = find(t, place, heads, v, e);
     let n = f.count;
@@ -694,7 +792,7 @@ pub fn step(t: &[u8], s: Variables, e: Event) -> Stepped
     let place = [0; 1];
     let none = Heads { listed: 0, rest: 0 };
     let mut v = all_bits(s);
-    let c = step_on(t, &place, none, &mut v, e);
+    let c = step_on(t, &place, &place, none, &mut v, e);
     let q = variables_of(v);
     Stepped {
         answer: c,
@@ -772,7 +870,8 @@ pub fn run_table(t: &[u8], script: &[u8]) -> Ran
     ensures { λ r. ⌜ endedOf r ≡ machine.runTable (now (t .entry)) (now (script .entry)) ⌝ }
 {
     let mut place = [0; 1024];
-    let heads = list_heads(t, &mut place);
+    let mut guard = [0; 1024];
+    let heads = list_heads(t, &mut place, &mut guard);
     let mut v = all_bits(start_variables(t));
     let mut k: usize = 0;
     let mut at: usize = 0;
@@ -781,7 +880,7 @@ pub fn run_table(t: &[u8], script: &[u8]) -> Ran
         let n = records::part_at(w, script, at);
         let next = at + n;
         let e = records::event_of(&script[at..next]);
-        let c = step_on(t, &place, heads, &mut v, e);
+        let c = step_on(t, &place, &guard, heads, &mut v, e);
         if !records::is_none(c) {
             let h = Holder::Script;
             return ended(k, c, h, at, next, variables_of(v));
@@ -799,7 +898,8 @@ pub fn run_on(t: &[u8], script: &[u8]) -> Tallied
     ensures { λ r. ⌜ tallyOf r ≡ machine.tallyTable (now (t .entry)) (now (script .entry)) ⌝ }
 {
     let mut place = [0; 1024];
-    let heads = list_heads(t, &mut place);
+    let mut guard = [0; 1024];
+    let heads = list_heads(t, &mut place, &mut guard);
     let mut v = all_bits(start_variables(t));
     let mut k: usize = 0;
     let mut r: usize = 0;
@@ -809,7 +909,7 @@ pub fn run_on(t: &[u8], script: &[u8]) -> Tallied
         let n = records::part_at(w, script, at);
         let next = at + n;
         let e = records::event_of(&script[at..next]);
-        let c = step_on(t, &place, heads, &mut v, e);
+        let c = step_on(t, &place, &guard, heads, &mut v, e);
         at = next;
         if records::is_none(c) {
             k += 1;

@@ -9,6 +9,7 @@ use Rattle.listing.specs.Listing.{listing}
 use Rattle.table_format.specs.Table.{tableOf}
 use Rattle.table.specs.Machine.{startVariables, clockOf, machineOf}
 use Rattle.table.specs.Places.{Listed}
+use Rattle.table.specs.Guards.{Guarded}
 use Rattle.table.specs.Running.{variablesOf, answer-of, state-of, refused-same}
 use Rattle.printing.specs.Runs.{Running, run-begin, run-on, run-refused, run-end}
 use borrow.Author.Needs.{needs}
@@ -16,13 +17,16 @@ use Rattle.printing.proofs.run_table_listing.Statement.{statement}
 use Rattle.printing.proofs.run_table_listing.Tie as tie
 
 abbrev Inv-loop : tie.InvT-loop
-Inv-loop table script d₀ place heads v₀ taken₀ p₀ at₀ d v taken p at = Listed table place (heads .listed) (heads .rest) × Running (machineOf (tableOf table .rules)) clockOf script d₀ (listing (machineOf (tableOf table .rules)) clockOf (startVariables (tableOf table)) script) d at p (variablesOf v) taken
+Inv-loop table script d₀ place guard heads v₀ taken₀ p₀ at₀ d v taken p at = (Listed table place (heads .listed) (heads .rest) × Guarded table place guard (heads .listed)) × Running (machineOf (tableOf table .rules)) clockOf script d₀ (listing (machineOf (tableOf table .rules)) clockOf (startVariables (tableOf table)) script) d at p (variablesOf v) taken
 
 abbrev μ-loop : tie.MeasureT-loop
-μ-loop table script d₀ place heads v₀ taken₀ p₀ at₀ d v taken p at = length script - p
+μ-loop table script d₀ place guard heads v₀ taken₀ p₀ at₀ d v taken p at = length script - p
 
 slice-aggregate-list-heads : tie.Need-slice-aggregate-list-heads Inv-loop μ-loop
 slice-aggregate-list-heads c = search needs
+
+slice-aggregate-list-heads-2 : tie.Need-slice-aggregate-list-heads-2 Inv-loop μ-loop
+slice-aggregate-list-heads-2 c = search needs
 
 list-heads-requires : tie.Need-list-heads-requires Inv-loop μ-loop
 list-heads-requires c κs = search needs
@@ -34,7 +38,7 @@ all-bits-requires : tie.Need-all-bits-requires Inv-loop μ-loop
 all-bits-requires c κs = search needs
 
 loop-holds : tie.Need-loop-holds Inv-loop μ-loop
-loop-holds c = (c .before .before .before .list-heads .ensures, rw (c .all-bits .ensures, c .before .start-variables .ensures) (run-begin _ _ _ _ _ (search needs) (search needs)))
+loop-holds c = (c .before .before .before .before .list-heads .ensures, rw (c .all-bits .ensures, c .before .start-variables .ensures) (run-begin _ _ _ _ _ (search needs) (search needs)))
 
 part-at-requires : tie.Need-part-at-requires Inv-loop μ-loop
 part-at-requires c κs = search needs
@@ -57,8 +61,11 @@ event-of-requires c κs = search needs
 slice-aggregate-step-on : tie.Need-slice-aggregate-step-on Inv-loop μ-loop
 slice-aggregate-step-on c = search needs
 
+slice-aggregate-step-on-2 : tie.Need-slice-aggregate-step-on-2 Inv-loop μ-loop
+slice-aggregate-step-on-2 c = search needs
+
 step-on-requires : tie.Need-step-on-requires Inv-loop μ-loop
-step-on-requires c κs = c .before .before .before .before .before .before .loop .inv .0
+step-on-requires c κs = c .before .before .before .before .before .before .before .loop .inv .0
 
 is-none-requires : tie.Need-is-none-requires Inv-loop μ-loop
 is-none-requires c κs = search needs
@@ -73,10 +80,10 @@ same-length : tie.Need-same-length Inv-loop μ-loop
 same-length c = search needs
 
 returns : tie.Need-returns Inv-loop μ-loop
-returns c = run-refused _ _ _ (c .before .before .before .before .before .before .before .before .before .before .before .before .before .before .before .loop .inv .1) _ _ _ _ _ (c .before .before .before .before .before .before .before .before .before .before .before .before .before .before .loop-test .taken) (c .before .before .before .before .before .before .before .before .before .before .before .before .before .part-at .ensures) (c .before .before .before .before .before .before .before .before .before .before .before .event-of .ensures) (answer-of _ _ _ _ _ (c .before .before .before .before .before .before .before .before .step-on .ensures)) (c .before .before .before .before .before .before .before .is-none .ensures) (not-true _ (c .before .before .before .before .before .before .if1 .taken)) (c .before .before .before .clock-in .ensures ∙ ap clockOf (refused-same _ _ _ _ _ (c .before .before .before .before .before .before .before .before .step-on .ensures) (sym (c .before .before .before .before .before .before .before .is-none .ensures) ∙ not-true _ (c .before .before .before .before .before .before .if1 .taken)))) (c .before .before .put-last .ensures)
+returns c = run-refused _ _ _ (c .before .before .before .before .before .before .before .before .before .before .before .before .before .before .before .before .loop .inv .1) _ _ _ _ _ (c .before .before .before .before .before .before .before .before .before .before .before .before .before .before .before .loop-test .taken) (c .before .before .before .before .before .before .before .before .before .before .before .before .before .before .part-at .ensures) (c .before .before .before .before .before .before .before .before .before .before .before .before .event-of .ensures) (answer-of _ _ _ _ _ (c .before .before .before .before .before .before .before .before .step-on .ensures)) (c .before .before .before .before .before .before .before .is-none .ensures) (not-true _ (c .before .before .before .before .before .before .if1 .taken)) (c .before .before .before .clock-in .ensures ∙ ap clockOf (refused-same _ _ _ _ _ (c .before .before .before .before .before .before .before .before .step-on .ensures) (sym (c .before .before .before .before .before .before .before .is-none .ensures) ∙ not-true _ (c .before .before .before .before .before .before .if1 .taken)))) (c .before .before .put-last .ensures)
 
 add-taken : tie.Need-add-taken Inv-loop μ-loop
-add-taken c = let k = c .before .before .before .before .before .before .before .before .before .loop .inv .1 .count in let h = c .before .before .before .before .before .before .before .before .loop-test .taken in let n = c .before .before .before .before .before .before .before .before .before .loop .inv .1 .size in search needs
+add-taken c = let k = c .before .before .before .before .before .before .before .before .before .before .loop .inv .1 .count in let h = c .before .before .before .before .before .before .before .before .before .loop-test .taken in let n = c .before .before .before .before .before .before .before .before .before .before .loop .inv .1 .size in search needs
 
 clock-in-requires-2 : tie.Need-clock-in-requires-2 Inv-loop μ-loop
 clock-in-requires-2 c κs = search needs
@@ -85,10 +92,10 @@ put-event-requires : tie.Need-put-event-requires Inv-loop μ-loop
 put-event-requires c κs = search needs
 
 loop-less : tie.Need-loop-less Inv-loop μ-loop
-loop-less c = let z = next-place Script _ _ _ (c .before .before .before .before .before .before .before .before .before .before .before .before .before .before .loop-test .taken) (c .before .before .before .before .before .before .before .before .before .before .before .before .before .part-at .ensures) in omega arith
+loop-less c = let z = next-place Script _ _ _ (c .before .before .before .before .before .before .before .before .before .before .before .before .before .before .before .loop-test .taken) (c .before .before .before .before .before .before .before .before .before .before .before .before .before .before .part-at .ensures) in omega arith
 
 loop-again : tie.Need-loop-again Inv-loop μ-loop
-loop-again c = (c .before .before .before .before .before .before .before .before .before .before .before .before .before .before .before .loop .inv .0, run-on _ _ _ (c .before .before .before .before .before .before .before .before .before .before .before .before .before .before .before .loop .inv .1) _ _ _ _ _ (c .before .before .before .before .before .before .before .before .before .before .before .before .before .before .loop-test .taken) (c .before .before .before .before .before .before .before .before .before .before .before .before .before .part-at .ensures) (c .before .before .before .before .before .before .before .before .before .before .before .event-of .ensures) (answer-of _ _ _ _ _ (c .before .before .before .before .before .before .before .before .step-on .ensures)) (c .before .before .before .before .before .before .before .is-none .ensures) _ (state-of _ _ _ _ _ (c .before .before .before .before .before .before .before .before .step-on .ensures)) (not-false _ (c .before .before .before .before .before .before .if1 .left)) (c .before .before .before .clock-in2 .ensures) (c .before .before .put-event .ensures))
+loop-again c = (c .before .before .before .before .before .before .before .before .before .before .before .before .before .before .before .before .loop .inv .0, run-on _ _ _ (c .before .before .before .before .before .before .before .before .before .before .before .before .before .before .before .before .loop .inv .1) _ _ _ _ _ (c .before .before .before .before .before .before .before .before .before .before .before .before .before .before .before .loop-test .taken) (c .before .before .before .before .before .before .before .before .before .before .before .before .before .before .part-at .ensures) (c .before .before .before .before .before .before .before .before .before .before .before .before .event-of .ensures) (answer-of _ _ _ _ _ (c .before .before .before .before .before .before .before .before .step-on .ensures)) (c .before .before .before .before .before .before .before .is-none .ensures) _ (state-of _ _ _ _ _ (c .before .before .before .before .before .before .before .before .step-on .ensures)) (not-false _ (c .before .before .before .before .before .before .if1 .left)) (c .before .before .before .clock-in2 .ensures) (c .before .before .put-event .ensures))
 
 clock-in-requires-3 : tie.Need-clock-in-requires-3 Inv-loop μ-loop
 clock-in-requires-3 c κs = search needs
@@ -109,6 +116,7 @@ run-table-listing-spec =
     Inv-loop
     μ-loop
     slice-aggregate-list-heads
+    slice-aggregate-list-heads-2
     list-heads-requires
     start-variables-requires
     all-bits-requires
@@ -120,6 +128,7 @@ run-table-listing-spec =
     part-event-of-end
     event-of-requires
     slice-aggregate-step-on
+    slice-aggregate-step-on-2
     step-on-requires
     is-none-requires
     clock-in-requires

@@ -1,11 +1,12 @@
 use mathlib.Core.Path.{_≡_, sym, _∙_}
-use Prim.Native.Nat.{_+_, _-_, _≤_}
 use native.Mathlib.Omega.{arith}
 use lib.ListN.{length, drop}
 use Rattle.records.specs.Format.{parts}
 use Rattle.records.specs.declared.Notation.the-variants as notations
 use Rattle.table_format.specs.Table.{tableOf}
 use Rattle.table.specs.Places.{Listed}
+use Rattle.table.specs.Guards.{Guarded}
+use Prim.Native.Nat.{_+_, _-_, _≤_}
 use Rattle.records.specs.Run.{tallyFrom}
 use Rattle.records.specs.Walk.{next-place, slice-part, tally-end, tally-taken, tally-refused}
 use Rattle.table.specs.Machine.{machineOf, tallyTable}
@@ -15,13 +16,16 @@ use Rattle.table.proofs.run_on.Statement.{statement}
 use Rattle.table.proofs.run_on.Tie as tie
 
 abbrev Inv-loop : tie.InvT-loop
-Inv-loop t script place heads v₀ k₀ r₀ at₀ v k r at = (k + r ≤ at) × (at ≤ length script) × Listed t place (heads .listed) (heads .rest) × (tallyFrom (machineOf (tableOf t .rules)) (variablesOf v) k r (parts notations.Script (drop at script)) ≡ tallyTable t script)
+Inv-loop t script place guard heads v₀ k₀ r₀ at₀ v k r at = (k + r ≤ at) × (at ≤ length script) × (Listed t place (heads .listed) (heads .rest) × Guarded t place guard (heads .listed)) × (tallyFrom (machineOf (tableOf t .rules)) (variablesOf v) k r (parts notations.Script (drop at script)) ≡ tallyTable t script)
 
 abbrev μ-loop : tie.MeasureT-loop
-μ-loop t script place heads v₀ k₀ r₀ at₀ v k r at = length script - at
+μ-loop t script place guard heads v₀ k₀ r₀ at₀ v k r at = length script - at
 
 slice-aggregate-list-heads : tie.Need-slice-aggregate-list-heads Inv-loop μ-loop
 slice-aggregate-list-heads c = search needs
+
+slice-aggregate-list-heads-2 : tie.Need-slice-aggregate-list-heads-2 Inv-loop μ-loop
+slice-aggregate-list-heads-2 c = search needs
 
 list-heads-requires : tie.Need-list-heads-requires Inv-loop μ-loop
 list-heads-requires c κs = search needs
@@ -34,13 +38,13 @@ all-bits-requires c κs = search needs
 
 loop-holds : tie.Need-loop-holds Inv-loop μ-loop
 unfolding tallyTable
-loop-holds c = (omega arith, omega arith, c .before .before .before .list-heads .ensures, rw (c .all-bits .ensures, c .before .start-variables .ensures))
+loop-holds c = (omega arith, omega arith, c .before .before .before .before .list-heads .ensures, rw (c .all-bits .ensures, c .before .start-variables .ensures))
 
 part-at-requires : tie.Need-part-at-requires Inv-loop μ-loop
 part-at-requires c κs = search needs
 
 add-next : tie.Need-add-next Inv-loop μ-loop
-add-next c = let n = next-place notations.Script (c .before .before .before .before .before .before .before .before .before .before .args .script .now) _ _ (c .before .loop-test .taken) (c .part-at .ensures) in record { fits = omega arith }
+add-next c = let n = next-place notations.Script (c .before .before .before .before .before .before .before .before .before .before .before .before .args .script .now) _ _ (c .before .loop-test .taken) (c .part-at .ensures) in record { fits = omega arith }
 
 sub-event-of : tie.Need-sub-event-of Inv-loop μ-loop
 sub-event-of c = search needs
@@ -49,7 +53,7 @@ part-event-of-start : tie.Need-part-event-of-start Inv-loop μ-loop
 part-event-of-start c = search needs
 
 part-event-of-end : tie.Need-part-event-of-end Inv-loop μ-loop
-part-event-of-end c = let n = next-place notations.Script (c .before .before .before .before .before .before .before .before .before .before .args .script .now) _ _ (c .before .loop-test .taken) (c .part-at .ensures) in omega arith
+part-event-of-end c = let n = next-place notations.Script (c .before .before .before .before .before .before .before .before .before .before .before .before .args .script .now) _ _ (c .before .loop-test .taken) (c .part-at .ensures) in omega arith
 
 event-of-requires : tie.Need-event-of-requires Inv-loop μ-loop
 event-of-requires c κs = search needs
@@ -57,35 +61,38 @@ event-of-requires c κs = search needs
 slice-aggregate-step-on : tie.Need-slice-aggregate-step-on Inv-loop μ-loop
 slice-aggregate-step-on c = search needs
 
+slice-aggregate-step-on-2 : tie.Need-slice-aggregate-step-on-2 Inv-loop μ-loop
+slice-aggregate-step-on-2 c = search needs
+
 step-on-requires : tie.Need-step-on-requires Inv-loop μ-loop
-step-on-requires c κs = c .before .before .before .before .before .before .loop .inv .2
+step-on-requires c κs = c .before .before .before .before .before .before .before .loop .inv .2
 
 is-none-requires : tie.Need-is-none-requires Inv-loop μ-loop
 is-none-requires c κs = search needs
 
 add-k : tie.Need-add-k Inv-loop μ-loop
-add-k c = search needs
+add-k c = let a = c .before .before .before .before .before .before .before .before .before .before .loop .inv .0 in let b = c .before .before .before .before .before .before .before .before .before .before .loop .inv .1 in let l = c .before .before .before .before .before .before .before .before .before .loop-test .taken in let q = c .before .before .before .before .before .before .before .before .before .before .before .before .before .before .before .before .before .before .before .before .good .1 .0 in record { fits = omega arith }
 
 loop-less : tie.Need-loop-less Inv-loop μ-loop
-loop-less c = let n = next-place notations.Script (c .before .before .before .before .before .before .before .before .before .before .before .before .before .before .before .before .before .args .script .now) _ _ (c .before .before .before .before .before .before .before .before .loop-test .taken) (c .before .before .before .before .before .before .before .part-at .ensures) in omega arith
+loop-less c = let n = next-place notations.Script (c .before .before .before .before .before .before .before .before .before .before .before .before .before .before .before .before .before .before .before .before .args .script .now) _ _ (c .before .before .before .before .before .before .before .before .before .loop-test .taken) (c .before .before .before .before .before .before .before .before .part-at .ensures) in omega arith
 
 loop-again : tie.Need-loop-again Inv-loop μ-loop
-loop-again c = let n = next-place notations.Script (c .before .before .before .before .before .before .before .before .before .before .before .before .before .before .before .before .before .args .script .now) _ _ (c .before .before .before .before .before .before .before .before .loop-test .taken) (c .before .before .before .before .before .before .before .part-at .ensures) in (omega arith, omega arith, c .before .before .before .before .before .before .before .before .before .loop .inv .2, tally-taken (machineOf (tableOf (c .before .before .before .before .before .before .before .before .before .before .before .before .before .before .before .before .before .args .t .now) .rules)) (c .before .before .before .before .before .before .before .before .before .before .before .before .before .before .before .before .before .args .script .now) _ (variablesOf (c .before .before .before .before .before .before .before .before .before .loop .v)) _ _ (c .before .before .before .before .before .before .before .before .loop-test .taken) (c .before .before .before .before .before .before .before .part-at .ensures) (rw slice-part at (c .before .before .before .before .before .event-of .ensures)) _ _ _ _ (answer-of _ _ _ _ _ (c .before .before .step-on .ensures)) (state-of _ _ _ _ _ (c .before .before .step-on .ensures)) (sym (c .before .is-none .ensures) ∙ c .if1 .taken) ∙ c .before .before .before .before .before .before .before .before .before .loop .inv .3)
+loop-again c = let n = next-place notations.Script (c .before .before .before .before .before .before .before .before .before .before .before .before .before .before .before .before .before .before .before .before .args .script .now) _ _ (c .before .before .before .before .before .before .before .before .before .loop-test .taken) (c .before .before .before .before .before .before .before .before .part-at .ensures) in (omega arith, omega arith, c .before .before .before .before .before .before .before .before .before .before .loop .inv .2, tally-taken (machineOf (tableOf (c .before .before .before .before .before .before .before .before .before .before .before .before .before .before .before .before .before .before .before .before .args .t .now) .rules)) (c .before .before .before .before .before .before .before .before .before .before .before .before .before .before .before .before .before .before .before .before .args .script .now) _ (variablesOf (c .before .before .before .before .before .before .before .before .before .before .loop .v)) _ _ (c .before .before .before .before .before .before .before .before .before .loop-test .taken) (c .before .before .before .before .before .before .before .before .part-at .ensures) (rw slice-part at (c .before .before .before .before .before .before .event-of .ensures)) _ _ _ _ (answer-of _ _ _ _ _ (c .before .before .step-on .ensures)) (state-of _ _ _ _ _ (c .before .before .step-on .ensures)) (sym (c .before .is-none .ensures) ∙ c .if1 .taken) ∙ c .before .before .before .before .before .before .before .before .before .before .loop .inv .3)
 
 add-r : tie.Need-add-r Inv-loop μ-loop
-add-r c = search needs
+add-r c = let a = c .before .before .before .before .before .before .before .before .before .before .loop .inv .0 in let b = c .before .before .before .before .before .before .before .before .before .before .loop .inv .1 in let l = c .before .before .before .before .before .before .before .before .before .loop-test .taken in let q = c .before .before .before .before .before .before .before .before .before .before .before .before .before .before .before .before .before .before .before .before .good .1 .0 in record { fits = omega arith }
 
 loop-less-2 : tie.Need-loop-less-2 Inv-loop μ-loop
-loop-less-2 c = let n = next-place notations.Script (c .before .before .before .before .before .before .before .before .before .before .before .before .before .before .before .before .before .args .script .now) _ _ (c .before .before .before .before .before .before .before .before .loop-test .taken) (c .before .before .before .before .before .before .before .part-at .ensures) in omega arith
+loop-less-2 c = let n = next-place notations.Script (c .before .before .before .before .before .before .before .before .before .before .before .before .before .before .before .before .before .before .before .before .args .script .now) _ _ (c .before .before .before .before .before .before .before .before .before .loop-test .taken) (c .before .before .before .before .before .before .before .before .part-at .ensures) in omega arith
 
 loop-again-2 : tie.Need-loop-again-2 Inv-loop μ-loop
-loop-again-2 c = let n = next-place notations.Script (c .before .before .before .before .before .before .before .before .before .before .before .before .before .before .before .before .before .args .script .now) _ _ (c .before .before .before .before .before .before .before .before .loop-test .taken) (c .before .before .before .before .before .before .before .part-at .ensures) in (omega arith, omega arith, c .before .before .before .before .before .before .before .before .before .loop .inv .2, tally-refused (machineOf (tableOf (c .before .before .before .before .before .before .before .before .before .before .before .before .before .before .before .before .before .args .t .now) .rules)) (c .before .before .before .before .before .before .before .before .before .before .before .before .before .before .before .before .before .args .script .now) _ (variablesOf (c .before .before .before .before .before .before .before .before .before .loop .v)) _ _ (c .before .before .before .before .before .before .before .before .loop-test .taken) (c .before .before .before .before .before .before .before .part-at .ensures) (rw slice-part at (c .before .before .before .before .before .event-of .ensures)) _ _ _ _ (answer-of _ _ _ _ _ (c .before .before .step-on .ensures)) (state-of _ _ _ _ _ (c .before .before .step-on .ensures)) (sym (c .before .is-none .ensures) ∙ c .if1 .left) ∙ c .before .before .before .before .before .before .before .before .before .loop .inv .3)
+loop-again-2 c = let n = next-place notations.Script (c .before .before .before .before .before .before .before .before .before .before .before .before .before .before .before .before .before .before .before .before .args .script .now) _ _ (c .before .before .before .before .before .before .before .before .before .loop-test .taken) (c .before .before .before .before .before .before .before .before .part-at .ensures) in (omega arith, omega arith, c .before .before .before .before .before .before .before .before .before .before .loop .inv .2, tally-refused (machineOf (tableOf (c .before .before .before .before .before .before .before .before .before .before .before .before .before .before .before .before .before .before .before .before .args .t .now) .rules)) (c .before .before .before .before .before .before .before .before .before .before .before .before .before .before .before .before .before .before .before .before .args .script .now) _ (variablesOf (c .before .before .before .before .before .before .before .before .before .before .loop .v)) _ _ (c .before .before .before .before .before .before .before .before .before .loop-test .taken) (c .before .before .before .before .before .before .before .before .part-at .ensures) (rw slice-part at (c .before .before .before .before .before .before .event-of .ensures)) _ _ _ _ (answer-of _ _ _ _ _ (c .before .before .step-on .ensures)) (state-of _ _ _ _ _ (c .before .before .step-on .ensures)) (sym (c .before .is-none .ensures) ∙ c .if1 .left) ∙ c .before .before .before .before .before .before .before .before .before .before .loop .inv .3)
 
 variables-of-requires : tie.Need-variables-of-requires Inv-loop μ-loop
 variables-of-requires c κs = search needs
 
 returns : tie.Need-returns Inv-loop μ-loop
-returns c = rw (c .variables-of .ensures) (tally-end (machineOf (tableOf (c .before .before .before .before .before .before .before .before .before .before .args .t .now) .rules)) (c .before .before .before .before .before .before .before .before .before .before .args .script .now) _ (variablesOf (c .before .before .loop .v)) _ _ (c .before .loop-test .left) ∙ c .before .before .loop .inv .3)
+returns c = rw (c .variables-of .ensures) (tally-end (machineOf (tableOf (c .before .before .before .before .before .before .before .before .before .before .before .before .args .t .now) .rules)) (c .before .before .before .before .before .before .before .before .before .before .before .before .args .script .now) _ (variablesOf (c .before .before .loop .v)) _ _ (c .before .loop-test .left) ∙ c .before .before .loop .inv .3)
 
 pub run-on-spec : {M : Type 1} → statement M
 run-on-spec =
@@ -94,6 +101,7 @@ run-on-spec =
     Inv-loop
     μ-loop
     slice-aggregate-list-heads
+    slice-aggregate-list-heads-2
     list-heads-requires
     start-variables-requires
     all-bits-requires
@@ -105,6 +113,7 @@ run-on-spec =
     part-event-of-end
     event-of-requires
     slice-aggregate-step-on
+    slice-aggregate-step-on-2
     step-on-requires
     is-none-requires
     add-k

@@ -1,12 +1,13 @@
 use mathlib.Core.Path.{_≡_, sym, _∙_}
-use Prim.Native.Nat.{_-_, _≤_}
 use native.Mathlib.Omega.{arith}
 use lib.ListN.{length, drop}
-use borrow.Author.Tests.{not-true, not-false}
 use Rattle.records.specs.Format.{parts}
 use Rattle.records.specs.declared.Notation.the-variants as notations
 use Rattle.table_format.specs.Table.{tableOf}
 use Rattle.table.specs.Places.{Listed}
+use Rattle.table.specs.Guards.{Guarded}
+use Prim.Native.Nat.{_-_, _≤_}
+use borrow.Author.Tests.{not-true, not-false}
 use Rattle.records.specs.Run.{runFrom}
 use Rattle.records.specs.Walk.{next-place, slice-part, run-end, run-on, run-refused}
 use Rattle.table.specs.Machine.{machineOf, runTable}
@@ -16,13 +17,16 @@ use Rattle.table.proofs.run_table.Statement.{statement}
 use Rattle.table.proofs.run_table.Tie as tie
 
 abbrev Inv-loop : tie.InvT-loop
-Inv-loop t script place heads v₀ k₀ at₀ v k at = (k ≤ at) × (at ≤ length script) × Listed t place (heads .listed) (heads .rest) × (runFrom (machineOf (tableOf t .rules)) (variablesOf v) k at (parts notations.Script (drop at script)) ≡ runTable t script)
+Inv-loop t script place guard heads v₀ k₀ at₀ v k at = (k ≤ at) × (at ≤ length script) × (Listed t place (heads .listed) (heads .rest) × Guarded t place guard (heads .listed)) × (runFrom (machineOf (tableOf t .rules)) (variablesOf v) k at (parts notations.Script (drop at script)) ≡ runTable t script)
 
 abbrev μ-loop : tie.MeasureT-loop
-μ-loop t script place heads v₀ k₀ at₀ v k at = length script - at
+μ-loop t script place guard heads v₀ k₀ at₀ v k at = length script - at
 
 slice-aggregate-list-heads : tie.Need-slice-aggregate-list-heads Inv-loop μ-loop
 slice-aggregate-list-heads c = search needs
+
+slice-aggregate-list-heads-2 : tie.Need-slice-aggregate-list-heads-2 Inv-loop μ-loop
+slice-aggregate-list-heads-2 c = search needs
 
 list-heads-requires : tie.Need-list-heads-requires Inv-loop μ-loop
 list-heads-requires c κs = search needs
@@ -35,13 +39,13 @@ all-bits-requires c κs = search needs
 
 loop-holds : tie.Need-loop-holds Inv-loop μ-loop
 unfolding runTable
-loop-holds c = (omega arith, omega arith, c .before .before .before .list-heads .ensures, rw (c .all-bits .ensures, c .before .start-variables .ensures))
+loop-holds c = (omega arith, omega arith, c .before .before .before .before .list-heads .ensures, rw (c .all-bits .ensures, c .before .start-variables .ensures))
 
 part-at-requires : tie.Need-part-at-requires Inv-loop μ-loop
 part-at-requires c κs = search needs
 
 add-next : tie.Need-add-next Inv-loop μ-loop
-add-next c = let n = next-place notations.Script (c .before .before .before .before .before .before .before .before .before .before .args .script .now) _ _ (c .before .loop-test .taken) (c .part-at .ensures) in record { fits = omega arith }
+add-next c = let n = next-place notations.Script (c .before .before .before .before .before .before .before .before .before .before .before .before .args .script .now) _ _ (c .before .loop-test .taken) (c .part-at .ensures) in record { fits = omega arith }
 
 sub-event-of : tie.Need-sub-event-of Inv-loop μ-loop
 sub-event-of c = search needs
@@ -50,7 +54,7 @@ part-event-of-start : tie.Need-part-event-of-start Inv-loop μ-loop
 part-event-of-start c = search needs
 
 part-event-of-end : tie.Need-part-event-of-end Inv-loop μ-loop
-part-event-of-end c = let n = next-place notations.Script (c .before .before .before .before .before .before .before .before .before .before .args .script .now) _ _ (c .before .loop-test .taken) (c .part-at .ensures) in omega arith
+part-event-of-end c = let n = next-place notations.Script (c .before .before .before .before .before .before .before .before .before .before .before .before .args .script .now) _ _ (c .before .loop-test .taken) (c .part-at .ensures) in omega arith
 
 event-of-requires : tie.Need-event-of-requires Inv-loop μ-loop
 event-of-requires c κs = search needs
@@ -58,8 +62,11 @@ event-of-requires c κs = search needs
 slice-aggregate-step-on : tie.Need-slice-aggregate-step-on Inv-loop μ-loop
 slice-aggregate-step-on c = search needs
 
+slice-aggregate-step-on-2 : tie.Need-slice-aggregate-step-on-2 Inv-loop μ-loop
+slice-aggregate-step-on-2 c = search needs
+
 step-on-requires : tie.Need-step-on-requires Inv-loop μ-loop
-step-on-requires c κs = c .before .before .before .before .before .before .loop .inv .2
+step-on-requires c κs = c .before .before .before .before .before .before .before .loop .inv .2
 
 is-none-requires : tie.Need-is-none-requires Inv-loop μ-loop
 is-none-requires c κs = search needs
@@ -71,16 +78,16 @@ ended-requires : tie.Need-ended-requires Inv-loop μ-loop
 ended-requires c κs = search needs
 
 returns : tie.Need-returns Inv-loop μ-loop
-returns c = rw (c .ended .ensures, c .before .variables-of .ensures, refused-same _ _ _ _ _ (c .before .before .before .before .step-on .ensures) (sym (c .before .before .before .is-none .ensures) ∙ not-true _ (c .before .before .if1 .taken))) (run-refused (machineOf (tableOf (c .before .before .before .before .before .before .before .before .before .before .before .before .before .before .before .before .before .before .before .args .t .now) .rules)) (c .before .before .before .before .before .before .before .before .before .before .before .before .before .before .before .before .before .before .before .args .script .now) _ (variablesOf (c .before .before .before .before .before .before .before .before .before .before .before .loop .v)) _ _ (c .before .before .before .before .before .before .before .before .before .before .loop-test .taken) (c .before .before .before .before .before .before .before .before .before .part-at .ensures) (rw slice-part at (c .before .before .before .before .before .before .before .event-of .ensures)) _ _ (answer-of _ _ _ _ _ (c .before .before .before .before .step-on .ensures)) (sym (c .before .before .before .is-none .ensures) ∙ not-true _ (c .before .before .if1 .taken)) ∙ c .before .before .before .before .before .before .before .before .before .before .before .loop .inv .3)
+returns c = rw (c .ended .ensures, c .before .variables-of .ensures, refused-same _ _ _ _ _ (c .before .before .before .before .step-on .ensures) (sym (c .before .before .before .is-none .ensures) ∙ not-true _ (c .before .before .if1 .taken))) (run-refused (machineOf (tableOf (c .before .before .before .before .before .before .before .before .before .before .before .before .before .before .before .before .before .before .before .before .before .before .args .t .now) .rules)) (c .before .before .before .before .before .before .before .before .before .before .before .before .before .before .before .before .before .before .before .before .before .before .args .script .now) _ (variablesOf (c .before .before .before .before .before .before .before .before .before .before .before .before .loop .v)) _ _ (c .before .before .before .before .before .before .before .before .before .before .before .loop-test .taken) (c .before .before .before .before .before .before .before .before .before .before .part-at .ensures) (rw slice-part at (c .before .before .before .before .before .before .before .before .event-of .ensures)) _ _ (answer-of _ _ _ _ _ (c .before .before .before .before .step-on .ensures)) (sym (c .before .before .before .is-none .ensures) ∙ not-true _ (c .before .before .if1 .taken)) ∙ c .before .before .before .before .before .before .before .before .before .before .before .before .loop .inv .3)
 
 add-k : tie.Need-add-k Inv-loop μ-loop
-add-k c = search needs
+add-k c = let a = c .before .before .before .before .before .before .before .before .before .before .loop .inv .0 in let b = c .before .before .before .before .before .before .before .before .before .before .loop .inv .1 in let l = c .before .before .before .before .before .before .before .before .before .loop-test .taken in let q = c .before .before .before .before .before .before .before .before .before .before .before .before .before .before .before .before .before .before .before .before .good .1 .0 in record { fits = omega arith }
 
 loop-less : tie.Need-loop-less Inv-loop μ-loop
-loop-less c = let n = next-place notations.Script (c .before .before .before .before .before .before .before .before .before .before .before .before .before .before .before .before .before .args .script .now) _ _ (c .before .before .before .before .before .before .before .before .loop-test .taken) (c .before .before .before .before .before .before .before .part-at .ensures) in omega arith
+loop-less c = let n = next-place notations.Script (c .before .before .before .before .before .before .before .before .before .before .before .before .before .before .before .before .before .before .before .before .args .script .now) _ _ (c .before .before .before .before .before .before .before .before .before .loop-test .taken) (c .before .before .before .before .before .before .before .before .part-at .ensures) in omega arith
 
 loop-again : tie.Need-loop-again Inv-loop μ-loop
-loop-again c = let n = next-place notations.Script (c .before .before .before .before .before .before .before .before .before .before .before .before .before .before .before .before .before .args .script .now) _ _ (c .before .before .before .before .before .before .before .before .loop-test .taken) (c .before .before .before .before .before .before .before .part-at .ensures) in (omega arith, n .1, c .before .before .before .before .before .before .before .before .before .loop .inv .2, run-on (machineOf (tableOf (c .before .before .before .before .before .before .before .before .before .before .before .before .before .before .before .before .before .args .t .now) .rules)) (c .before .before .before .before .before .before .before .before .before .before .before .before .before .before .before .before .before .args .script .now) _ (variablesOf (c .before .before .before .before .before .before .before .before .before .loop .v)) _ _ (c .before .before .before .before .before .before .before .before .loop-test .taken) (c .before .before .before .before .before .before .before .part-at .ensures) (rw slice-part at (c .before .before .before .before .before .event-of .ensures)) _ _ _ (answer-of _ _ _ _ _ (c .before .before .step-on .ensures)) (state-of _ _ _ _ _ (c .before .before .step-on .ensures)) (sym (c .before .is-none .ensures) ∙ not-false _ (c .if1 .left)) ∙ c .before .before .before .before .before .before .before .before .before .loop .inv .3)
+loop-again c = let n = next-place notations.Script (c .before .before .before .before .before .before .before .before .before .before .before .before .before .before .before .before .before .before .before .before .args .script .now) _ _ (c .before .before .before .before .before .before .before .before .before .loop-test .taken) (c .before .before .before .before .before .before .before .before .part-at .ensures) in (omega arith, n .1, c .before .before .before .before .before .before .before .before .before .before .loop .inv .2, run-on (machineOf (tableOf (c .before .before .before .before .before .before .before .before .before .before .before .before .before .before .before .before .before .before .before .before .args .t .now) .rules)) (c .before .before .before .before .before .before .before .before .before .before .before .before .before .before .before .before .before .before .before .before .args .script .now) _ (variablesOf (c .before .before .before .before .before .before .before .before .before .before .loop .v)) _ _ (c .before .before .before .before .before .before .before .before .before .loop-test .taken) (c .before .before .before .before .before .before .before .before .part-at .ensures) (rw slice-part at (c .before .before .before .before .before .before .event-of .ensures)) _ _ _ (answer-of _ _ _ _ _ (c .before .before .step-on .ensures)) (state-of _ _ _ _ _ (c .before .before .step-on .ensures)) (sym (c .before .is-none .ensures) ∙ not-false _ (c .if1 .left)) ∙ c .before .before .before .before .before .before .before .before .before .before .loop .inv .3)
 
 variables-of-requires-2 : tie.Need-variables-of-requires-2 Inv-loop μ-loop
 variables-of-requires-2 c κs = search needs
@@ -89,7 +96,7 @@ ended-requires-2 : tie.Need-ended-requires-2 Inv-loop μ-loop
 ended-requires-2 c κs = search needs
 
 returns-2 : tie.Need-returns-2 Inv-loop μ-loop
-returns-2 c = rw (c .ended2 .ensures, c .before .variables-of2 .ensures) (run-end (machineOf (tableOf (c .before .before .before .before .before .before .before .before .before .before .before .args .t .now) .rules)) (c .before .before .before .before .before .before .before .before .before .before .before .args .script .now) _ (variablesOf (c .before .before .before .loop .v)) _ (c .before .before .loop-test .left) ∙ c .before .before .before .loop .inv .3)
+returns-2 c = rw (c .ended2 .ensures, c .before .variables-of2 .ensures) (run-end (machineOf (tableOf (c .before .before .before .before .before .before .before .before .before .before .before .before .before .args .t .now) .rules)) (c .before .before .before .before .before .before .before .before .before .before .before .before .before .args .script .now) _ (variablesOf (c .before .before .before .loop .v)) _ (c .before .before .loop-test .left) ∙ c .before .before .before .loop .inv .3)
 
 pub run-table-spec : {M : Type 1} → statement M
 run-table-spec =
@@ -98,6 +105,7 @@ run-table-spec =
     Inv-loop
     μ-loop
     slice-aggregate-list-heads
+    slice-aggregate-list-heads-2
     list-heads-requires
     start-variables-requires
     all-bits-requires
@@ -109,6 +117,7 @@ run-table-spec =
     part-event-of-end
     event-of-requires
     slice-aggregate-step-on
+    slice-aggregate-step-on-2
     step-on-requires
     is-none-requires
     variables-of-requires

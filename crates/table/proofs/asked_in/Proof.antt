@@ -1,0 +1,55 @@
+use mathlib.Core.Path.{_∙_}
+use native.Mathlib.Omega.{arith}
+use Rattle.table.specs.Guards.{asks-none, asks-equal}
+use borrow.Author.Needs.{needs}
+use Rattle.table.proofs.asked_in.Statement.{statement}
+use Rattle.table.proofs.asked_in.Tie as tie
+
+byte-at-requires : tie.Need-byte-at-requires
+byte-at-requires c κs = search needs
+
+returns : tie.Need-returns
+returns c = asks-none (c .before .before .before .args .x .now)
+
+byte-at-requires-2 : tie.Need-byte-at-requires-2
+byte-at-requires-2 c κs = search needs
+
+returns-2 : tie.Need-returns-2
+returns-2 c = asks-none (c .before .before .before .before .before .args .x .now)
+
+u16-at-requires : tie.Need-u16-at-requires
+u16-at-requires c κs = search needs
+
+wide-requires : tie.Need-wide-requires
+wide-requires c κs = search needs
+
+u32-at-requires : tie.Need-u32-at-requires
+u32-at-requires c κs = search needs
+
+wide32-requires : tie.Need-wide32-requires
+wide32-requires c κs = search needs
+
+mul-result : tie.Need-mul-result
+mul-result c = let a = c .before .before .wide .ensures in record { fits = omega arith }
+
+add-result : tie.Need-add-result
+add-result c = let a = c .before .before .wide .ensures in let b = c .wide32 .ensures in record { fits = omega arith }
+
+returns-3 : tie.Need-returns-3
+returns-3 c = asks-equal (c .before .before .before .before .before .before .before .before .before .args .x .now) _ _ _ _ (c .before .before .before .before .before .before .before .byte-at .ensures) (c .before .before .before .before .before .before .if1 .left) (c .before .before .before .before .before .byte-at2 .ensures) (c .before .before .before .before .if2 .left) (c .before .before .wide .ensures .0 ∙ c .before .before .before .u16-at .ensures) (c .wide32 .ensures .0 ∙ c .before .u32-at .ensures) (rw (c .wide32 .ensures .0) (c .wide32 .ensures .1))
+
+pub asked-in-spec : {M : Type 1} → statement M
+asked-in-spec =
+    tie.close
+    (tie.spec
+    byte-at-requires
+    returns
+    byte-at-requires-2
+    returns-2
+    u16-at-requires
+    wide-requires
+    u32-at-requires
+    wide32-requires
+    mul-result
+    add-result
+    returns-3)
