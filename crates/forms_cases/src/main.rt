@@ -121,7 +121,7 @@ fn check(m: Model, start: State, script: &[u8]) {
     let mut at: usize = 0;
     while at < script.len() {
         let w = Notation::Script;
-        let n = records::part_at(w, script, at);
+        let n = records::part_length_at(w, script, at);
         let next = at + n;
         let e = records::event_of(&script[at..next]);
         let t = lent_state::take_turn(v, m, s, e);

@@ -76,7 +76,7 @@ pub extern "C" fn fk_event_length(script: &[u8]) -> usize
     ensures { λ r. ⌜ r ≡ partLengthAt notations.Script (now (script .entry)) 0 ⌝ }
 {
     let w = Notation::Script;
-    records::part_at(w, script, 0)
+    records::part_length_at(w, script, 0)
 }
 
 #[no_mangle]

@@ -3,7 +3,7 @@
 use crate::Clock;
 use crate::Job;
 use crate::State;
-use crate::setters::wide;
+use numbers::usize_of_u8;
 use crate::setters::within;
 use model_format::Thread;
 use model_format::Timing;
@@ -121,7 +121,7 @@ fn switches_calm(m: Timing, s: State, n: u32) -> u32
     ensures { λ r. ⌜ (r ≤ n) × quiet.SwitchesCalm m s r ⌝ }
 {
     let k = s.clock;
-    let q = wide(k.pending);
+    let q = usize_of_u8(k.pending);
     if m.switches <= q {
         return n;
     }

@@ -18,24 +18,6 @@ pub fn within(n: usize, room: usize) -> usize
     if n < room { n } else { room }
 }
 
-pub fn wide(n: u8) -> usize
-    ensures { λ r. ⌜ r ≡ n ⌝ }
-{
-    n as usize
-}
-
-pub fn wide16(n: u16) -> usize
-    ensures { λ r. ⌜ r ≡ n ⌝ }
-{
-    n as usize
-}
-
-pub fn wide32(n: u32) -> usize
-    ensures { λ r. ⌜ r ≡ n ⌝ }
-{
-    n as usize
-}
-
 pub fn owner_at(l: [u8; 32], i: usize) -> u8
     ensures { λ r. ⌜ r ≡ item 32 l i 0 ⌝ }
 {

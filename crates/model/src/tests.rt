@@ -6,8 +6,8 @@ use crate::State;
 use crate::View;
 use crate::parts::job_of;
 use crate::setters::owner_at;
-use crate::setters::wide;
-use crate::setters::wide16;
+use numbers::usize_of_u8;
+use numbers::usize_of_u16;
 use crate::setters::within;
 use model_format::Connection;
 use model_format::ModeTransition;
@@ -147,7 +147,7 @@ fn source_of(m: Timing, s: State, x: Connection) -> View
     ensures { λ r. ⌜ r ≡ jobs.sourceOf m s x ⌝ }
 {
     let owners = m.output;
-    let u = wide(owner_at(owners, wide16(x.source)));
+    let u = usize_of_u8(owner_at(owners, usize_of_u16(x.source)));
     view_of(m, s, u)
 }
 
@@ -156,7 +156,7 @@ fn leads_to(x: Connection, owner: u8, live: bool, kind: u8, t: usize) -> bool
     ensures { λ r. ⌜ r ≡ jobs.leadsTo x owner live kind t ⌝ }
 {
     let is = x.kind;
-    let to = wide(owner);
+    let to = usize_of_u8(owner);
     (is == kind) & ((to == t) & live)
 }
 
@@ -169,7 +169,7 @@ pub fn awaits_delayed(m: Timing, s: State, t: usize) -> bool
     while c < n {
         let x = m.connection[c];
         let live = s.live[c];
-        let owner = owner_at(owners, wide16(x.target));
+        let owner = owner_at(owners, usize_of_u16(x.target));
         if leads_to(x, owner, live, 1, t) {
             let v = source_of(m, s, x);
             if due_with_job(v) {
@@ -191,7 +191,7 @@ pub fn awaits_immediate(m: Timing, s: State, t: usize) -> bool
     while c < n {
         let x = m.connection[c];
         let live = s.live[c];
-        let owner = owner_at(owners, wide16(x.target));
+        let owner = owner_at(owners, usize_of_u16(x.target));
         if leads_to(x, owner, live, 0, t) {
             let v = source_of(m, s, x);
             if beside_runs(v, j) | beside_comes(v, j) {
@@ -362,7 +362,7 @@ pub fn is_busy(m: Timing, s: State) -> bool
     if threads_busy(m, s) {
         return true;
     }
-    let q = wide(s.clock.pending);
+    let q = usize_of_u8(s.clock.pending);
     if m.switches <= q {
         return false;
     }

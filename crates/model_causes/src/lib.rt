@@ -15,7 +15,8 @@ use model_format::connection_at;
 use model_format::critical_in;
 use model_format::kind_of;
 use model_format::thread_at;
-use model_format::wide;
+use numbers::usize_of_u16;
+use numbers::usize_of_u8;
 use numbers::lcm_up_to;
 use records::Cause;
 use records::Operand;
@@ -216,7 +217,7 @@ fn allowed_names(allowed: bool, m: Stand, tag: u8, n: u16) -> bool
     ensures { λ r. ⌜ r ≡ cond allowed (reading.namesItem (laws.bare m) tag n) true ⌝ }
 {
     if allowed {
-        names_item(m, tag, wide(n))
+        names_item(m, tag, usize_of_u16(n))
     } else {
         true
     }
@@ -330,12 +331,6 @@ fn is_assigned(n: u8, q: Four, a: Assignment) -> bool
     ((((0 < n) & first) | ((1 < n) & second)) | ((2 < n) & third)) | ((3 < n) & fourth)
 }
 
-pub fn small(n: u8) -> usize
-    ensures { λ r. ⌜ r ≡ n ⌝ }
-{
-    n as usize
-}
-
 // The first fault, in the order of the causes' numbers.
 pub fn judged(f: Faults) -> Cause
     ensures { λ r. ⌜ r ≡ reading.judged f ⌝ }
@@ -410,7 +405,7 @@ fn port_cause(order: bool, count: usize, limit: usize, m: Stand, owner: u8) -> C
     ensures { λ r. ⌜ r ≡ reading.judged (reading.portFaults order count limit (laws.bare m) owner) ⌝ }
 {
     let n = m.threads;
-    let t = small(owner);
+    let t = usize_of_u8(owner);
     judged(Faults {
         order: order,
         excess: limit <= count,
@@ -430,8 +425,8 @@ fn connection_cause(order: bool, m: Stand, f: Found, x: Connection) -> Cause
     let outputs = m.outputs;
     let inputs = m.inputs;
     let kind = x.kind;
-    let source = wide(x.source);
-    let target = wide(x.target);
+    let source = usize_of_u16(x.source);
+    let target = usize_of_u16(x.target);
     let mask = mask_fits(m, x.modes);
     let connected = f.connected;
     judged(Faults {
@@ -471,7 +466,7 @@ fn transition_cause(order: bool, m: Stand, n: usize, x: Transition) -> Cause
     ensures { λ r. ⌜ r ≡ reading.judged (laws.transitionFaultsBy order m n x) ⌝ }
 {
     let threads = m.threads;
-    let thread = small(x.thread);
+    let thread = usize_of_u8(x.thread);
     let from = x.from;
     let to = x.to;
     judged(Faults {
@@ -498,7 +493,7 @@ fn atom_cause(order: bool, m: Stand, o: &[u8; 96], x: Transition, a: Atom) -> Ca
     let tag = operand_tag(right);
     let left_names = allowed_names(left, m, a.tag, a.number);
     let right_names = operand_names(m, right);
-    let left_owned = is_owned_by(o, t, a.tag, wide(a.number));
+    let left_owned = is_owned_by(o, t, a.tag, usize_of_u16(a.number));
     let right_owned = operand_owned(o, t, right);
     judged(Faults {
         order: order,
@@ -532,7 +527,7 @@ fn assignment_cause(
     let tags = operand_tag(first) & operand_tag(second);
     let target_names = allowed_names(target, m, a.tag, a.number);
     let names = operand_names(m, first) & operand_names(m, second);
-    let target_owned = is_owned_by(o, t, a.tag, wide(a.number));
+    let target_owned = is_owned_by(o, t, a.tag, usize_of_u16(a.number));
     let owned = operand_owned(o, t, first) & operand_owned(o, t, second);
     let twice = is_assigned(count, q, a);
     judged(Faults {

@@ -12,9 +12,9 @@ use model::put_input;
 use model::put_local;
 use model::put_output;
 use model::value_at;
-use model::wide;
-use model::wide16;
-use model::wide32;
+use numbers::usize_of_u8;
+use numbers::usize_of_u16;
+use numbers::usize_of_u32;
 use model::with_behavior;
 use model::with_cpu;
 use model::with_dispatch;
@@ -71,7 +71,7 @@ fn wires_of(m: Timing, s: State) -> Wiring
 fn feeds_port(x: Connection, live: bool, i: usize) -> bool
     ensures { λ r. ⌜ r ≡ laws.feedsPort x live i ⌝ }
 {
-    let target = wide16(x.target);
+    let target = usize_of_u16(x.target);
     let kind = x.kind;
     (kind == 0) & ((target == i) & live)
 }
@@ -96,7 +96,7 @@ fn is_fed_immediately(w: Wiring, i: usize) -> bool
 fn is_port(w: Wiring, owner: u8, fed: bool, t: usize, i: usize) -> bool
     ensures { λ r. ⌜ r ≡ laws.isPortOf w owner fed t i ⌝ }
 {
-    if wide(owner) != t {
+    if usize_of_u8(owner) != t {
         return false;
     }
     let now = is_fed_immediately(w, i);
@@ -148,7 +148,7 @@ fn dispatch(m: Timing, s: State, t: usize) -> State
 fn start(m: Timing, s: State, id: u8, n: u32) -> State
     ensures { λ r. ⌜ r ≡ effects.start m s id n ⌝ }
 {
-    let t = wide(id);
+    let t = usize_of_u8(id);
     let c = s.clock;
     let d = with_cpu(c, id);
     let length = Duration(n);
@@ -219,7 +219,7 @@ fn operand_value(p: Ports, o: Operand) -> Value
     if tag == 0 {
         return v;
     }
-    let i = wide32(bits(v));
+    let i = usize_of_u32(bits(v));
     if tag == 1 {
         let l = p.input;
         return value_at(l, i);
@@ -231,7 +231,7 @@ fn operand_value(p: Ports, o: Operand) -> Value
 fn left_value(p: Ports, a: Atom) -> Value
     ensures { λ r. ⌜ r ≡ effects.leftValue p a ⌝ }
 {
-    let i = wide16(a.number);
+    let i = usize_of_u16(a.number);
     let tag = a.tag;
     if tag == 1 {
         let l = p.input;
@@ -270,7 +270,7 @@ fn guard_holds(l: [Atom; 256], p: Ports, k: usize, n: usize) -> bool
 fn leaves(x: Transition, t: usize, from: u8) -> bool
     ensures { λ r. ⌜ r ≡ laws.leaves x t from ⌝ }
 {
-    let thread = wide(x.thread);
+    let thread = usize_of_u8(x.thread);
     let here = x.from;
     (thread == t) & (here == from)
 }
@@ -290,7 +290,7 @@ fn first_open(
     while k < n {
         let x = if k < 64 { list[k] } else { blank_transition() };
         if leaves(x, t, from) {
-            let atoms = wide(x.atoms);
+            let atoms = usize_of_u8(x.atoms);
             if guard_holds(atom, p, k, atoms) {
                 return k;
             }
@@ -331,7 +331,7 @@ fn assign_one(p: Ports, q: Ports, a: Assignment) -> Ports
     ensures { λ r. ⌜ r ≡ laws.assignOne p q a ⌝ }
 {
     let v = assigned_value(p, a);
-    let i = wide16(a.number);
+    let i = usize_of_u16(a.number);
     let tag = a.tag;
     if tag == 3 {
         return put_output(q, i, v);
@@ -358,7 +358,7 @@ fn carries(x: Connection, owner: u8, live: bool, kind: u8, t: usize) -> bool
     ensures { λ r. ⌜ r ≡ laws.carriesFrom x owner live kind t ⌝ }
 {
     let is = x.kind;
-    let source = wide(owner);
+    let source = usize_of_u8(owner);
     (is == kind) & ((source == t) & live)
 }
 
@@ -366,8 +366,8 @@ fn send_one(p: Ports, x: Connection, goes: bool) -> Ports
     ensures { λ r. ⌜ r ≡ laws.sendOne p x goes ⌝ }
 {
     if goes {
-        let o = wide16(x.source);
-        let i = wide16(x.target);
+        let o = usize_of_u16(x.source);
+        let i = usize_of_u16(x.target);
         let l = p.output;
         let v = value_at(l, o);
         return put_buffer(p, i, v);
@@ -385,7 +385,7 @@ fn send(m: Timing, s: State, kind: u8, t: usize, p: Ports) -> Ports
     while c < n {
         let x = m.connection[c];
         let live = s.live[c];
-        let owner = owner_at(owners, wide16(x.source));
+        let owner = owner_at(owners, usize_of_u16(x.source));
         let goes = carries(x, owner, live, kind, t);
         q = send_one(q, x, goes);
         c += 1;
@@ -438,7 +438,7 @@ pub fn complete(m: Model, s: State, t: usize) -> State
     let assignment = b.assignment;
     let k = first_open(b.transitions, list, atom, old, t, from);
     let taken = taken_transition(b.transitions, list, k, from);
-    let n = wide(taken.assignments);
+    let n = usize_of_u8(taken.assignments);
     let new = assign(assignment, old, k, n);
     let p = send(x, s, 0, t, new);
     let mut q = end_job(x, s, t, 4);
@@ -478,7 +478,7 @@ fn miss(m: Timing, s: State, t: usize) -> State
 fn request(m: Timing, s: State, id: u8) -> State
     ensures { λ r. ⌜ r ≡ effects.request m s id ⌝ }
 {
-    let x = switch_at(m, wide(id));
+    let x = switch_at(m, usize_of_u8(id));
     let from = x.from;
     let c = s.clock;
     let phase = c.phase;
@@ -575,7 +575,7 @@ pub fn timed_effect(m: Timing, s: State, e: Event) -> State
 {
     let id = e.id;
     let n = e.amount;
-    let t = wide(id);
+    let t = usize_of_u8(id);
     let kind = e.kind;
     match kind {
         1 => with_thread_code(s, t, 1),
@@ -595,7 +595,7 @@ pub fn effect(m: Model, s: State, e: Event) -> State
     ensures { λ r. ⌜ r ≡ machine.effect m s e ⌝ }
 {
     if e.kind == 5 {
-        let t = wide(e.id);
+        let t = usize_of_u8(e.id);
         return complete(m, s, t);
     }
     let x = m.timing;

@@ -18,12 +18,6 @@ use records::operand_at;
 ghost use mathlib.Core.Path.{_≡_};
 ghost use Rattle.model_format.specs.Format as format;
 
-fn wide(b: u8) -> u16
-    ensures { λ r. ⌜ r ≡ b ⌝ }
-{
-    b as u16
-}
-
 pub fn head_of(x: &[u8]) -> Head
     ensures { λ r. ⌜ r ≡ format.headOf (now (x .entry)) ⌝ }
 {
@@ -71,8 +65,8 @@ pub fn connection_of(x: &[u8]) -> Connection
     ensures { λ r. ⌜ r ≡ format.connectionOf (now (x .entry)) ⌝ }
 {
     let kind = byte_at(x, 1);
-    let source = wide(byte_at(x, 2));
-    let target = wide(byte_at(x, 3));
+    let source = numbers::u16_of_u8(byte_at(x, 2));
+    let target = numbers::u16_of_u8(byte_at(x, 3));
     let modes = byte_at(x, 4);
     Connection {
         kind: kind,
@@ -117,7 +111,7 @@ pub fn atom_of(x: &[u8]) -> Atom
 {
     let op = byte_at(x, 1);
     let tag = byte_at(x, 2);
-    let number = wide(byte_at(x, 3));
+    let number = numbers::u16_of_u8(byte_at(x, 3));
     let right = operand_at(x, 4);
     Atom {
         op: op,
@@ -131,7 +125,7 @@ pub fn assignment_of(x: &[u8]) -> Assignment
     ensures { λ r. ⌜ r ≡ format.assignmentOf (now (x .entry)) ⌝ }
 {
     let tag = byte_at(x, 1);
-    let number = wide(byte_at(x, 2));
+    let number = numbers::u16_of_u8(byte_at(x, 2));
     let op = byte_at(x, 3);
     let first = operand_at(x, 4);
     let second = operand_at(x, 9);

@@ -124,18 +124,12 @@ pub fn is_kind(m: Timing, kind: u8, c: usize) -> bool
     k == kind
 }
 
-pub fn wide(n: u16) -> usize
-    ensures { λ r. ⌜ r ≡ n ⌝ }
-{
-    n as usize
-}
-
 // The threads that a connection comes from and goes to.
 pub fn source_thread(m: Timing, c: usize) -> u8
     ensures { λ r. ⌜ r ≡ model.sourceThread m c ⌝ }
 {
     let x = connection_at(m, c);
-    let o = wide(x.source);
+    let o = numbers::usize_of_u16(x.source);
     output_owner(m, o)
 }
 
@@ -143,7 +137,7 @@ pub fn target_thread(m: Timing, c: usize) -> u8
     ensures { λ r. ⌜ r ≡ model.targetThread m c ⌝ }
 {
     let x = connection_at(m, c);
-    let i = wide(x.target);
+    let i = numbers::usize_of_u16(x.target);
     input_owner(m, i)
 }
 

@@ -31,7 +31,6 @@ pub use items::switch_at;
 pub use items::target_thread;
 pub use items::thread_at;
 pub use items::transition_at;
-pub use items::wide;
 use numbers::Duration;
 use numbers::Value;
 use records::Operand;

@@ -16,7 +16,7 @@ use model::is_busy;
 use model::least;
 use model::quiet_ticks;
 use model::start_fault;
-use model::wide;
+use numbers::usize_of_u8;
 use model::within;
 use model_effects::complete;
 use model_effects::timed_effect;
@@ -31,7 +31,7 @@ use records::Refusal;
 use records::event_of;
 use records::is_broken;
 use records::is_none;
-use records::part_at;
+use records::part_length_at;
 ghost use mathlib.Core.Path.{_≡_};
 ghost use Prim.Native.Nat.{_+_, _≤_};
 ghost use Rattle.model.specs.State.{nowOf};
@@ -128,7 +128,7 @@ pub fn ticks(m: Timing, s: State, n: u32) -> Stepped
 pub fn is_enabled(m: Timing, s: State, e: Event) -> bool
     ensures { λ r. ⌜ r ≡ machine.isEnabled m s e ⌝ }
 {
-    let t = wide(e.id);
+    let t = usize_of_u8(e.id);
     let thread = t < m.threads;
     let switch = t < m.switches;
     let kind = e.kind;
@@ -157,7 +157,7 @@ pub fn step(m: Model, s: State, e: Event) -> Stepped
     }
     let x = m.timing;
     if e.kind == 5 {
-        let t = wide(e.id);
+        let t = usize_of_u8(e.id);
         if (t < x.threads) & can_complete(s, t) {
             let done = complete(m, s, t);
             let c = Cause::None;
@@ -213,7 +213,7 @@ pub fn run_model(m: Model, script: &[u8]) -> Ran
     let mut at: usize = 0;
     while at < script.len() {
         let w = Notation::Script;
-        let n = part_at(w, script, at);
+        let n = part_length_at(w, script, at);
         let next = at + n;
         let e = event_of(&script[at..next]);
         let o = step(m, s, e);

@@ -7,7 +7,7 @@ use model_format::Model;
 use records::Notation;
 use records::event_of;
 use records::is_none;
-use records::part_at;
+use records::part_length_at;
 ghost use mathlib.Core.Path.{_≡_};
 ghost use Rattle.records.specs.Run.{tally};
 ghost use Rattle.model.specs.Machine as machine;
@@ -24,7 +24,7 @@ pub fn run_on(m: Model, script: &[u8]) -> Tallied
     let mut at: usize = 0;
     while at < script.len() {
         let w = Notation::Script;
-        let n = part_at(w, script, at);
+        let n = part_length_at(w, script, at);
         let next = at + n;
         let e = event_of(&script[at..next]);
         let o = step(m, s, e);

@@ -8,7 +8,7 @@ use model_causes::behavior_cause;
 use model_causes::found_in;
 use model_causes::nothing;
 use model_causes::owners_of;
-use model_causes::small;
+use numbers::usize_of_u8;
 use model_causes::timing_cause;
 use model_causes::timing_of;
 use model_format::Assignment;
@@ -99,7 +99,7 @@ fn end_at(s: &[u8], at: usize) -> usize
     ensures { λ r. ⌜ r ≡ laws.endAt (now (s .entry)) at ⌝ }
 {
     let w = Notation::Model;
-    let n = records::part_at(w, s, at);
+    let n = records::part_length_at(w, s, at);
     at + n
 }
 
@@ -346,11 +346,11 @@ fn read_behaviors(s: &[u8], from: usize, start: Stand, t: Timing, empty: Behavio
             Record::TransitionRecord(y) => b.transition[m] = y,
             Record::AtomRecord(a) => {
                 b.transition[k] = with_counts(x, x.atoms + 1, x.assignments);
-                b.atom[i + small(x.atoms)] = a;
+                b.atom[i + usize_of_u8(x.atoms)] = a;
             }
             Record::AssignmentRecord(a) => {
                 b.transition[k] = with_counts(x, x.atoms, x.assignments + 1);
-                b.assignment[i + small(x.assignments)] = a;
+                b.assignment[i + usize_of_u8(x.assignments)] = a;
             }
             _ => {}
         }

@@ -122,6 +122,44 @@ pub fn compares(op: u8, a: Value, b: Value) -> bool
     }
 }
 
+// ---- wider types: the same number, and how large it can be
+pub fn u16_of_u8(n: u8) -> u16
+    ensures { λ r. ⌜ (r ≡ n) × (n < 256) ⌝ }
+{
+    n as u16
+}
+
+pub fn u32_of_u8(n: u8) -> u32
+    ensures { λ r. ⌜ (r ≡ n) × (n < 256) ⌝ }
+{
+    n as u32
+}
+
+pub fn u32_of_u16(n: u16) -> u32
+    ensures { λ r. ⌜ (r ≡ n) × (n < 65536) ⌝ }
+{
+    n as u32
+}
+
+pub fn usize_of_u8(n: u8) -> usize
+    ensures { λ r. ⌜ (r ≡ n) × (n < 256) ⌝ }
+{
+    n as usize
+}
+
+pub fn usize_of_u16(n: u16) -> usize
+    ensures { λ r. ⌜ (r ≡ n) × (n < 65536) ⌝ }
+{
+    n as usize
+}
+
+pub fn usize_of_u32(n: u32) -> usize
+    ensures { λ r. ⌜ (r ≡ n) × (n < 4294967296) ⌝ }
+{
+    n as usize
+}
+
+// ---- bytes
 // The byte at a place; past the end, 0.
 pub fn byte_at(s: &[u8], at: usize) -> u8
     ensures { λ r. ⌜ r ≡ getD (now (s .entry)) at 0 ⌝ }
@@ -140,33 +178,21 @@ fn byte_after(s: &[u8], at: usize, k: usize) -> u8
     }
 }
 
-fn wide16(b: u8) -> u16
-    ensures { λ r. ⌜ (r ≡ b) × (b < 256) ⌝ }
-{
-    b as u16
-}
-
-fn wide32(b: u8) -> u32
-    ensures { λ r. ⌜ (r ≡ b) × (b < 256) ⌝ }
-{
-    b as u32
-}
-
 pub fn u16_at(s: &[u8], at: usize) -> u16
     ensures { λ r. ⌜ r ≡ values.u16At (now (s .entry)) at ⌝ }
 {
-    let a = wide16(byte_at(s, at));
-    let b = wide16(byte_after(s, at, 1));
+    let a = u16_of_u8(byte_at(s, at));
+    let b = u16_of_u8(byte_after(s, at, 1));
     a + 256 * b
 }
 
 pub fn u32_at(s: &[u8], at: usize) -> u32
     ensures { λ r. ⌜ r ≡ values.u32At (now (s .entry)) at ⌝ }
 {
-    let a = wide32(byte_at(s, at));
-    let b = wide32(byte_after(s, at, 1));
-    let c = wide32(byte_after(s, at, 2));
-    let d = wide32(byte_after(s, at, 3));
+    let a = u32_of_u8(byte_at(s, at));
+    let b = u32_of_u8(byte_after(s, at, 1));
+    let c = u32_of_u8(byte_after(s, at, 2));
+    let d = u32_of_u8(byte_after(s, at, 3));
     a + 256 * b + 65536 * c + 16777216 * d
 }
 

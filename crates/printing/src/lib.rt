@@ -68,7 +68,7 @@ fn run_listing(m: Model, script: &[u8], d: &mut [u8]) -> usize
     let mut at = 0;
     while p < script.len() {
         let w = Notation::Script;
-        let n = records::part_at(w, script, p);
+        let n = records::part_length_at(w, script, p);
         let q = p + n;
         let e = records::event_of(&script[p..q]);
         let a = model_machine::step(m, s, e);
@@ -113,7 +113,7 @@ fn run_table_listing(table: &[u8], script: &[u8], d: &mut [u8]) -> usize
     let mut at = 0;
     while p < script.len() {
         let w = Notation::Script;
-        let n = records::part_at(w, script, p);
+        let n = records::part_length_at(w, script, p);
         let q = p + n;
         let e = records::event_of(&script[p..q]);
         let c = table::step_on(table, &place, &guard, heads, &mut v, e);

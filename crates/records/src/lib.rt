@@ -131,7 +131,7 @@ pub fn part_length(w: Notation, k: u8, n: usize) -> usize
 }
 
 // The length of the part that begins at a place; 0 past the end.
-pub fn part_at(w: Notation, s: &[u8], at: usize) -> usize
+pub fn part_length_at(w: Notation, s: &[u8], at: usize) -> usize
     ensures { λ r. ⌜ r ≡ partLengthAt w (now (s .entry)) at ⌝ }
 {
     if at < s.len() {
@@ -220,12 +220,6 @@ pub fn part_of<'a>(m: &'a [u8], s: &'a [u8], r: Refusal) -> &'a [u8]
     }
 }
 
-fn wide16(n: u16) -> u32
-    ensures { λ r. ⌜ r ≡ n ⌝ }
-{
-    n as u32
-}
-
 // The event that a part holds; one of kind 0 where the part is no whole record.
 pub fn event_of(x: &[u8]) -> Event
     ensures { λ r. ⌜ r ≡ eventOf (now (x .entry)) ⌝ }
@@ -240,7 +234,7 @@ pub fn event_of(x: &[u8]) -> Event
     }
     let k = numbers::byte_at(x, 0);
     if k == 11 {
-        let n = wide16(numbers::u16_at(x, 1));
+        let n = numbers::u32_of_u16(numbers::u16_at(x, 1));
         return Event {
             kind: k,
             id: 0,

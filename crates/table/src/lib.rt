@@ -90,18 +90,6 @@ pub fn variables_of(v: [u32; 288]) -> Variables
     Variables { value: a }
 }
 
-fn wide(n: u16) -> usize
-    ensures { λ r. ⌜ (r ≡ n) × (n < 65536) ⌝ }
-{
-    n as usize
-}
-
-fn wide32(n: u32) -> usize
-    ensures { λ r. ⌜ (r ≡ n) × (n < 4294967296) ⌝ }
-{
-    n as usize
-}
-
 // A variable; one that is not there reads 0.
 fn value_in(v: &[u32; 288], j: usize) -> Value
     ensures { λ r. ⌜ r ≡ rules.valueOf (values (now (v .entry))) j ⌝ }
@@ -206,7 +194,7 @@ fn all_pass(t: &[u8], from: usize, free: bool, v: &[u32; 288]) -> bool
             return held;
         }
         let w = Notation::Table;
-        at += records::part_at(w, t, at);
+        at += records::part_length_at(w, t, at);
     }
     held
 }
@@ -246,8 +234,8 @@ fn asked_in(x: &[u8]) -> usize
     if tag != 0 {
         return 0;
     }
-    let j = wide(numbers::u16_at(x, 2));
-    let n = wide32(numbers::u32_at(x, 5));
+    let j = numbers::usize_of_u16(numbers::u16_at(x, 2));
+    let n = numbers::usize_of_u32(numbers::u32_at(x, 5));
     4294967296 * j + n
 }
 
@@ -313,7 +301,7 @@ pub fn list_heads(t: &[u8], place: &mut [usize], guard: &mut [usize]) -> Heads
             continue;
         }
         let w = Notation::Table;
-        at += records::part_at(w, t, at);
+        at += records::part_length_at(w, t, at);
     }
     listed(n, at)
 }
@@ -381,7 +369,7 @@ fn find_from(t: &[u8], from: usize, v: &[u32; 288], e: Event, before: Found) -> 
     let mut at: usize = from;
     while at < t.len() {
         let w = Notation::Table;
-        let n = records::part_at(w, t, at);
+        let n = records::part_length_at(w, t, at);
         let next = at + n;
         f = found_after(t, v, e, f, next, &t[at..next]);
         at = next;
@@ -498,7 +486,7 @@ fn apply_update(n: u32, old: &[u32; 288], new: &mut [u32; 288], marks: &mut [boo
     if !applies(old, x) {
         return 0;
     }
-    let j = wide(numbers::u16_at(x, 4));
+    let j = numbers::usize_of_u16(numbers::u16_at(x, 4));
     if marks.len() <= j {
         return 2;
     }
@@ -538,7 +526,7 @@ fn apply_updates(
             continue;
         }
         let w = Notation::Table;
-        at += records::part_at(w, t, at);
+        at += records::part_length_at(w, t, at);
     }
     0
 }
@@ -672,7 +660,7 @@ fn quiet_from(t: &[u8], from: usize, v: &[u32; 288], n: u32) -> u32
     let mut at: usize = from;
     while at < t.len() {
         let w = Notation::Table;
-        let m = records::part_at(w, t, at);
+        let m = records::part_length_at(w, t, at);
         let next = at + m;
         limit = ticks_to_record(t, v, limit, next, &t[at..next]);
         at = next;
@@ -826,7 +814,7 @@ pub fn start_variables(t: &[u8]) -> Variables
     let mut at: usize = 0;
     while at < t.len() {
         let w = Notation::Table;
-        let n = records::part_at(w, t, at);
+        let n = records::part_length_at(w, t, at);
         let next = at + n;
         begin_with(&mut v, &t[at..next]);
         at = next;
@@ -877,7 +865,7 @@ pub fn run_table(t: &[u8], script: &[u8]) -> Ran
     let mut at: usize = 0;
     while at < script.len() {
         let w = Notation::Script;
-        let n = records::part_at(w, script, at);
+        let n = records::part_length_at(w, script, at);
         let next = at + n;
         let e = records::event_of(&script[at..next]);
         let c = step_on(t, &place, &guard, heads, &mut v, e);
@@ -906,7 +894,7 @@ pub fn run_on(t: &[u8], script: &[u8]) -> Tallied
     let mut at: usize = 0;
     while at < script.len() {
         let w = Notation::Script;
-        let n = records::part_at(w, script, at);
+        let n = records::part_length_at(w, script, at);
         let next = at + n;
         let e = records::event_of(&script[at..next]);
         let c = step_on(t, &place, &guard, heads, &mut v, e);

@@ -65,7 +65,7 @@ fn print_trace(t: &[u8], script: &[u8]) {
     let mut at: usize = 0;
     while at < script.len() {
         let w = Notation::Script;
-        let n = records::part_at(w, script, at);
+        let n = records::part_length_at(w, script, at);
         let next = at + n;
         let e = records::event_of(&script[at..next]);
         let o = table::step(t, s, e);

@@ -366,7 +366,7 @@ pub fn read_table(s: &[u8]) -> Refusal
     let mut at: usize = 0;
     while at < s.len() {
         let w = Notation::Table;
-        let n = records::part_at(w, s, at);
+        let n = records::part_length_at(w, s, at);
         let next = at + n;
         let x = record_of(&s[at..next]);
         let k = cause_of(c, x);

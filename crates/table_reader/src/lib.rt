@@ -29,7 +29,7 @@ pub fn place_after(table: &[u8], at: usize) -> usize
     ensures { λ r. ⌜ r ≡ placeAfter (now (table .entry)) at ⌝ }
 {
     let w = Notation::Table;
-    let n = records::part_at(w, table, at);
+    let n = records::part_length_at(w, table, at);
     at + n
 }
 

@@ -20,8 +20,8 @@ operand-names-requires c κs = search needs
 operand-names-requires-2 : tie.Need-operand-names-requires-2
 operand-names-requires-2 c κs = search needs
 
-wide-requires : tie.Need-wide-requires
-wide-requires c κs = search needs
+usize-of-u16-requires : tie.Need-usize-of-u16-requires
+usize-of-u16-requires c κs = search needs
 
 is-owned-by-requires : tie.Need-is-owned-by-requires
 is-owned-by-requires c κs = search needs
@@ -46,7 +46,7 @@ returns c =
       c .before .before .operand-owned2 .ensures,
       c .before .before .before .operand-owned .ensures,
       c .before .before .before .before .is-owned-by .ensures,
-      c .before .before .before .before .before .wide .ensures,
+      c .before .before .before .before .before .usize-of-u16 .ensures .0,
       c .before .before .before .before .before .before .operand-names2 .ensures,
       c .before .before .before .before .before .before .before .operand-names .ensures,
       c .before .before .before .before .before .before .before .before .allowed-names .ensures,
@@ -65,7 +65,7 @@ assignment-cause-spec =
     allowed-names-requires
     operand-names-requires
     operand-names-requires-2
-    wide-requires
+    usize-of-u16-requires
     is-owned-by-requires
     operand-owned-requires
     operand-owned-requires-2

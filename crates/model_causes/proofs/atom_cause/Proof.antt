@@ -14,8 +14,8 @@ allowed-names-requires c κs = search needs
 operand-names-requires : tie.Need-operand-names-requires
 operand-names-requires c κs = search needs
 
-wide-requires : tie.Need-wide-requires
-wide-requires c κs = search needs
+usize-of-u16-requires : tie.Need-usize-of-u16-requires
+usize-of-u16-requires c κs = search needs
 
 is-owned-by-requires : tie.Need-is-owned-by-requires
 is-owned-by-requires c κs = search needs
@@ -32,7 +32,7 @@ returns c =
       c .judged .ensures,
       c .before .operand-owned .ensures,
       c .before .before .is-owned-by .ensures,
-      c .before .before .before .wide .ensures,
+      c .before .before .before .usize-of-u16 .ensures .0,
       c .before .before .before .before .operand-names .ensures,
       c .before .before .before .before .before .allowed-names .ensures,
       c .before .before .before .before .before .before .operand-tag .ensures,
@@ -47,7 +47,7 @@ atom-cause-spec =
     operand-tag-requires
     allowed-names-requires
     operand-names-requires
-    wide-requires
+    usize-of-u16-requires
     is-owned-by-requires
     operand-owned-requires
     judged-requires

@@ -2,8 +2,8 @@ use borrow.Author.Needs.{needs}
 use Rattle.model_causes.proofs.port_cause.Statement.{statement}
 use Rattle.model_causes.proofs.port_cause.Tie as tie
 
-small-requires : tie.Need-small-requires
-small-requires c κs = search needs
+usize-of-u8-requires : tie.Need-usize-of-u8-requires
+usize-of-u8-requires c κs = search needs
 
 judged-requires : tie.Need-judged-requires
 judged-requires c κs = search needs
@@ -12,8 +12,8 @@ returns : tie.Need-returns
 returns c =
     rw (
       c .judged .ensures,
-      c .before .small .ensures,
+      c .before .usize-of-u8 .ensures .0,
     )
 
 pub port-cause-spec : {M : Type 1} → statement M
-port-cause-spec = tie.close (tie.spec small-requires judged-requires returns)
+port-cause-spec = tie.close (tie.spec usize-of-u8-requires judged-requires returns)

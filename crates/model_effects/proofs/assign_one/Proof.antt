@@ -6,27 +6,27 @@ use Rattle.model_effects.proofs.assign_one.Tie as tie
 assigned-value-requires : tie.Need-assigned-value-requires
 assigned-value-requires c κs = search needs
 
-wide16-requires : tie.Need-wide16-requires
-wide16-requires c κs = search needs
+usize-of-u16-requires : tie.Need-usize-of-u16-requires
+usize-of-u16-requires c κs = search needs
 
 put-output-requires : tie.Need-put-output-requires
 put-output-requires c κs = search needs
 
 returns : tie.Need-returns
-returns c = assign-output _ _ _ _ _ _ (c .before .before .before .assigned-value .ensures) (c .before .before .wide16 .ensures) (c .before .if1 .taken) (c .put-output .ensures)
+returns c = assign-output _ _ _ _ _ _ (c .before .before .before .assigned-value .ensures) (c .before .before .usize-of-u16 .ensures .0) (c .before .if1 .taken) (c .put-output .ensures)
 
 put-local-requires : tie.Need-put-local-requires
 put-local-requires c κs = search needs
 
 returns-2 : tie.Need-returns-2
-returns-2 c = assign-local _ _ _ _ _ _ (c .before .before .before .assigned-value .ensures) (c .before .before .wide16 .ensures) (c .before .if1 .left) (c .put-local .ensures)
+returns-2 c = assign-local _ _ _ _ _ _ (c .before .before .before .assigned-value .ensures) (c .before .before .usize-of-u16 .ensures .0) (c .before .if1 .left) (c .put-local .ensures)
 
 pub assign-one-spec : {M : Type 1} → statement M
 assign-one-spec =
     tie.close
     (tie.spec
     assigned-value-requires
-    wide16-requires
+    usize-of-u16-requires
     put-output-requires
     returns
     put-local-requires

@@ -13,8 +13,8 @@ first-open-requires c κs = search needs
 taken-transition-requires : tie.Need-taken-transition-requires
 taken-transition-requires c κs = search needs
 
-wide-requires : tie.Need-wide-requires
-wide-requires c κs = search needs
+usize-of-u8-requires : tie.Need-usize-of-u8-requires
+usize-of-u8-requires c κs = search needs
 
 assign-requires : tie.Need-assign-requires
 assign-requires c κs = search needs
@@ -30,7 +30,7 @@ with-behavior-requires c κs = search needs
 
 returns : tie.Need-returns
 unfolding withPorts
-returns c = complete-is (c .before .before .before .before .before .before .before .before .before .before .before .before .before .before .before .before .args .m) (c .before .before .before .before .before .before .before .before .before .before .before .before .before .before .before .before .args .s) (c .before .before .before .before .before .before .before .before .before .before .before .before .before .before .before .before .args .t) _ _ _ _ _ _ _ _ (c .before .before .before .before .before .before .before .first-open .ensures) (c .before .before .before .before .before .before .before .before .before .before .before .before .behavior-of .ensures) (c .before .before .before .before .before .before .taken-transition .ensures) (c .before .before .before .before .before .wide .ensures) (c .before .before .before .before .assign .ensures) (c .before .before .before .send .ensures) (c .before .before .end-job .ensures) (c .with-behavior .ensures)
+returns c = complete-is (c .before .before .before .before .before .before .before .before .before .before .before .before .before .before .before .before .args .m) (c .before .before .before .before .before .before .before .before .before .before .before .before .before .before .before .before .args .s) (c .before .before .before .before .before .before .before .before .before .before .before .before .before .before .before .before .args .t) _ _ _ _ _ _ _ _ (c .before .before .before .before .before .before .before .first-open .ensures) (c .before .before .before .before .before .before .before .before .before .before .before .before .behavior-of .ensures) (c .before .before .before .before .before .before .taken-transition .ensures) (c .before .before .before .before .before .usize-of-u8 .ensures .0) (c .before .before .before .before .assign .ensures) (c .before .before .before .send .ensures) (c .before .before .end-job .ensures) (c .with-behavior .ensures)
 
 pub complete-spec : {M : Type 1} → statement M
 complete-spec =
@@ -39,7 +39,7 @@ complete-spec =
     behavior-of-requires
     first-open-requires
     taken-transition-requires
-    wide-requires
+    usize-of-u8-requires
     assign-requires
     send-requires
     end-job-requires

@@ -4,14 +4,14 @@ use borrow.Author.Needs.{needs}
 use Rattle.model_effects.proofs.effect.Statement.{statement}
 use Rattle.model_effects.proofs.effect.Tie as tie
 
-wide-requires : tie.Need-wide-requires
-wide-requires c κs = search needs
+usize-of-u8-requires : tie.Need-usize-of-u8-requires
+usize-of-u8-requires c κs = search needs
 
 complete-requires : tie.Need-complete-requires
 complete-requires c κs = search needs
 
 returns : tie.Need-returns
-returns c = effect-complete _ _ _ _ _ (c .before .before .if1 .taken) (c .before .wide .ensures) (c .complete .ensures)
+returns c = effect-complete _ _ _ _ _ (c .before .before .if1 .taken) (c .before .usize-of-u8 .ensures .0) (c .complete .ensures)
 
 timed-effect-requires : tie.Need-timed-effect-requires
 timed-effect-requires c κs = search needs
@@ -21,4 +21,4 @@ returns-2 c = c .timed-effect .ensures ∙ effect-timed _ _ _ (c .before .before
 
 pub effect-spec : {M : Type 1} → statement M
 effect-spec =
-    tie.close (tie.spec wide-requires complete-requires returns timed-effect-requires returns-2)
+    tie.close (tie.spec usize-of-u8-requires complete-requires returns timed-effect-requires returns-2)

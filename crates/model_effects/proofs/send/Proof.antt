@@ -27,8 +27,8 @@ element-copy-out-x c = search needs
 element-copy-out-live : tie.Need-element-copy-out-live Inv-loop μ-loop
 element-copy-out-live c = search needs
 
-wide16-requires : tie.Need-wide16-requires Inv-loop μ-loop
-wide16-requires c κs = search needs
+usize-of-u16-requires : tie.Need-usize-of-u16-requires Inv-loop μ-loop
+usize-of-u16-requires c κs = search needs
 
 owner-at-requires : tie.Need-owner-at-requires Inv-loop μ-loop
 owner-at-requires c κs = search needs
@@ -46,7 +46,7 @@ loop-less : tie.Need-loop-less Inv-loop μ-loop
 loop-less c = search needs
 
 loop-again : tie.Need-loop-again Inv-loop μ-loop
-loop-again c = (omega arith, sent-next (c .before .before .before .before .before .before .before .before .before .before .args .t1) (c .before .before .before .before .before .before .before .before .before .before .args .t2) (c .before .before .before .before .before .before .before .before .before .before .args .kind) (c .before .before .before .before .before .before .before .before .before .before .args .t) _ _ (c .before .before .before .before .before .before .before .before .within .ensures) _ _ (c .before .before .before .before .before .before .before .loop .inv .1) _ _ _ _ _ (c .before .before .before .before .before .before .loop-test .taken) refl (c .before .before .before .wide16 .ensures) (c .before .before .owner-at .ensures) (c .before .carries .ensures) (c .send-one .ensures))
+loop-again c = (omega arith, sent-next (c .before .before .before .before .before .before .before .before .before .before .args .t1) (c .before .before .before .before .before .before .before .before .before .before .args .t2) (c .before .before .before .before .before .before .before .before .before .before .args .kind) (c .before .before .before .before .before .before .before .before .before .before .args .t) _ _ (c .before .before .before .before .before .before .before .before .within .ensures) _ _ (c .before .before .before .before .before .before .before .loop .inv .1) _ _ _ _ _ (c .before .before .before .before .before .before .loop-test .taken) refl (c .before .before .before .usize-of-u16 .ensures .0) (c .before .before .owner-at .ensures) (c .before .carries .ensures) (c .send-one .ensures))
 
 returns : tie.Need-returns Inv-loop μ-loop
 returns c = sent-all (c .before .before .before .before .args .t1) (c .before .before .before .before .args .t2) (c .before .before .before .before .args .kind) (c .before .before .before .before .args .t) _ _ (c .before .before .within .ensures) _ _ (c .before .loop .inv .1) (c .before .loop .inv .0) (c .loop-test .left)
@@ -62,7 +62,7 @@ send-spec =
     mul-x
     element-copy-out-x
     element-copy-out-live
-    wide16-requires
+    usize-of-u16-requires
     owner-at-requires
     carries-requires
     send-one-requires

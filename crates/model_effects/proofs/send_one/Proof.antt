@@ -4,11 +4,11 @@ use borrow.Author.Needs.{needs}
 use Rattle.model_effects.proofs.send_one.Statement.{statement}
 use Rattle.model_effects.proofs.send_one.Tie as tie
 
-wide16-requires : tie.Need-wide16-requires
-wide16-requires c κs = search needs
+usize-of-u16-requires : tie.Need-usize-of-u16-requires
+usize-of-u16-requires c κs = search needs
 
-wide16-requires-2 : tie.Need-wide16-requires-2
-wide16-requires-2 c κs = search needs
+usize-of-u16-requires-2 : tie.Need-usize-of-u16-requires-2
+usize-of-u16-requires-2 c κs = search needs
 
 value-at-requires : tie.Need-value-at-requires
 value-at-requires c κs = search needs
@@ -18,7 +18,7 @@ put-buffer-requires c κs = search needs
 
 returns : tie.Need-returns
 unfolding sendOne outputOf
-returns c = rw (c .before .before .before .before .before .if1 .taken, ← c .before .before .before .wide162 .ensures, ← c .before .before .before .before .wide16 .ensures, ← c .before .value-at .ensures) (c .put-buffer .ensures)
+returns c = rw (c .before .before .before .before .before .if1 .taken, ← c .before .before .before .usize-of-u162 .ensures .0, ← c .before .before .before .before .usize-of-u16 .ensures .0, ← c .before .value-at .ensures) (c .put-buffer .ensures)
 
 returns-2 : tie.Need-returns-2
 unfolding sendOne
@@ -28,8 +28,8 @@ pub send-one-spec : {M : Type 1} → statement M
 send-one-spec =
     tie.close
     (tie.spec
-    wide16-requires
-    wide16-requires-2
+    usize-of-u16-requires
+    usize-of-u16-requires-2
     value-at-requires
     put-buffer-requires
     returns

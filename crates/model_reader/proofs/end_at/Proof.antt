@@ -4,16 +4,16 @@ use borrow.Author.Needs.{needs}
 use Rattle.model_reader.proofs.end_at.Statement.{statement}
 use Rattle.model_reader.proofs.end_at.Tie as tie
 
-part-at-requires : tie.Need-part-at-requires
-part-at-requires c κs = search needs
+part-length-at-requires : tie.Need-part-length-at-requires
+part-length-at-requires c κs = search needs
 
 add-result : tie.Need-add-result
 add-result c =
-    let n = next-place _ _ _ _ (c .before .before .pre) (c .part-at .ensures) in
+    let n = next-place _ _ _ _ (c .before .before .pre) (c .part-length-at .ensures) in
     record { fits = omega arith }
 
 returns : tie.Need-returns
 returns c = search needs
 
 pub end-at-spec : {M : Type 1} → statement M
-end-at-spec = tie.close (tie.spec part-at-requires add-result returns)
+end-at-spec = tie.close (tie.spec part-length-at-requires add-result returns)

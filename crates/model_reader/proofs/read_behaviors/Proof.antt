@@ -23,7 +23,7 @@ use Rattle.model_reader.proofs.read_behaviors.Reads as reads
 use Rattle.model_reader.proofs.read_behaviors.Lts as lts
 use Rattle.model_causes.proofs.behavior_cause.Reads as behavior-cause-reads
 use Rattle.model_causes.proofs.owners_of.Reads as owners-of-reads
-use Rattle.model_causes.proofs.small.Reads as small-reads
+use Rattle.model_causes.proofs.usize-of-u8.Reads as small-reads
 use Rattle.model_format.proofs.kind_of.Reads as kind-of-reads
 use Rattle.model_reader.proofs.counted.Reads as counted-reads
 use Rattle.model_reader.proofs.end_at.Reads as end-at-reads
@@ -206,17 +206,17 @@ mul-t50 c = let l = c .before .before .before .before .before .before .before .b
 element-set-from-b : tie.Need-element-set-from-b Inv-loop μ-loop
 element-set-from-b c = let l = c .before .before .before .before .before .before .before .before .before .before .before .before .before .before .before .before .before .before .before .before .last-of .ensures in let m = c .before .before .before .before .before .before .before .before .before .before .before .before .before .before .before .before .before .before .before .before .before .before .before .loop .inv .0 in search needs
 
-small-requires : tie.Need-small-requires Inv-loop μ-loop
-small-requires c κs = search needs
+usize-of-u8-requires : tie.Need-usize-of-u8-requires Inv-loop μ-loop
+usize-of-u8-requires c κs = search needs
 
 add-a : tie.Need-add-a Inv-loop μ-loop
-add-a c = let h = atom-room _ _ _ _ _ _ _ (c .before .before .before .before .before .before .before .before .before .before .before .behavior-cause .ensures) (passes (c .before .before .before .before .before .before .before .before .before)) _ (c .before .before .before .before .r2 .given .1) in let l = c .before .before .before .before .before .before .before .before .before .before .before .before .before .before .before .before .before .before .before .before .before .last-of .ensures in let m = c .before .before .before .before .before .before .before .before .before .before .before .before .before .before .before .before .before .before .before .before .before .before .before .before .loop .inv .0 in let j = c .small .ensures in search needs
+add-a c = let h = atom-room _ _ _ _ _ _ _ (c .before .before .before .before .before .before .before .before .before .before .before .behavior-cause .ensures) (passes (c .before .before .before .before .before .before .before .before .before)) _ (c .before .before .before .before .r2 .given .1) in let l = c .before .before .before .before .before .before .before .before .before .before .before .before .before .before .before .before .before .before .before .before .before .last-of .ensures in let m = c .before .before .before .before .before .before .before .before .before .before .before .before .before .before .before .before .before .before .before .before .before .before .before .before .loop .inv .0 in let j = c .usize-of-u8 .ensures .0 in search needs
 
 mul-a : tie.Need-mul-a Inv-loop μ-loop
-mul-a c = let h = atom-room _ _ _ _ _ _ _ (c .before .before .before .before .before .before .before .before .before .before .before .behavior-cause .ensures) (passes (c .before .before .before .before .before .before .before .before .before)) _ (c .before .before .before .before .r2 .given .1) in let l = c .before .before .before .before .before .before .before .before .before .before .before .before .before .before .before .before .before .before .before .before .before .last-of .ensures in let m = c .before .before .before .before .before .before .before .before .before .before .before .before .before .before .before .before .before .before .before .before .before .before .before .before .loop .inv .0 in let j = c .small .ensures in search needs
+mul-a c = let h = atom-room _ _ _ _ _ _ _ (c .before .before .before .before .before .before .before .before .before .before .before .behavior-cause .ensures) (passes (c .before .before .before .before .before .before .before .before .before)) _ (c .before .before .before .before .r2 .given .1) in let l = c .before .before .before .before .before .before .before .before .before .before .before .before .before .before .before .before .before .before .before .before .before .last-of .ensures in let m = c .before .before .before .before .before .before .before .before .before .before .before .before .before .before .before .before .before .before .before .before .before .before .before .before .loop .inv .0 in let j = c .usize-of-u8 .ensures .0 in search needs
 
 element-set-from-a : tie.Need-element-set-from-a Inv-loop μ-loop
-element-set-from-a c = let h = atom-room _ _ _ _ _ _ _ (c .before .before .before .before .before .before .before .before .before .before .before .behavior-cause .ensures) (passes (c .before .before .before .before .before .before .before .before .before)) _ (c .before .before .before .before .r2 .given .1) in let l = c .before .before .before .before .before .before .before .before .before .before .before .before .before .before .before .before .before .before .before .before .before .last-of .ensures in let m = c .before .before .before .before .before .before .before .before .before .before .before .before .before .before .before .before .before .before .before .before .before .before .before .before .loop .inv .0 in let j = c .small .ensures in search needs
+element-set-from-a c = let h = atom-room _ _ _ _ _ _ _ (c .before .before .before .before .before .before .before .before .before .before .before .behavior-cause .ensures) (passes (c .before .before .before .before .before .before .before .before .before)) _ (c .before .before .before .before .r2 .given .1) in let l = c .before .before .before .before .before .before .before .before .before .before .before .before .before .before .before .before .before .before .before .before .before .last-of .ensures in let m = c .before .before .before .before .before .before .before .before .before .before .before .before .before .before .before .before .before .before .before .before .before .before .before .before .loop .inv .0 in let j = c .usize-of-u8 .ensures .0 in search needs
 
 enum-known-r-3 : tie.Need-enum-known-r-3 Inv-loop μ-loop
 enum-known-r-3 c = search needs
@@ -233,17 +233,17 @@ mul-t59 c = let l = c .before .before .before .before .before .before .before .b
 element-set-from-b-2 : tie.Need-element-set-from-b-2 Inv-loop μ-loop
 element-set-from-b-2 c = let l = c .before .before .before .before .before .before .before .before .before .before .before .before .before .before .before .before .before .before .before .before .last-of .ensures in let m = c .before .before .before .before .before .before .before .before .before .before .before .before .before .before .before .before .before .before .before .before .before .before .before .loop .inv .0 in search needs
 
-small-requires-2 : tie.Need-small-requires-2 Inv-loop μ-loop
-small-requires-2 c κs = search needs
+usize-of-u8-requires-2 : tie.Need-usize-of-u8-requires-2 Inv-loop μ-loop
+usize-of-u8-requires-2 c κs = search needs
 
 add-a-2 : tie.Need-add-a-2 Inv-loop μ-loop
-add-a-2 c = let h = assignment-room _ _ _ _ _ _ _ (c .before .before .before .before .before .before .before .before .before .before .before .behavior-cause .ensures) (passes (c .before .before .before .before .before .before .before .before .before)) _ (c .before .before .before .before .r3 .given .1) in let l = c .before .before .before .before .before .before .before .before .before .before .before .before .before .before .before .before .before .before .before .before .before .last-of .ensures in let m = c .before .before .before .before .before .before .before .before .before .before .before .before .before .before .before .before .before .before .before .before .before .before .before .before .loop .inv .0 in let j = c .small2 .ensures in search needs
+add-a-2 c = let h = assignment-room _ _ _ _ _ _ _ (c .before .before .before .before .before .before .before .before .before .before .before .behavior-cause .ensures) (passes (c .before .before .before .before .before .before .before .before .before)) _ (c .before .before .before .before .r3 .given .1) in let l = c .before .before .before .before .before .before .before .before .before .before .before .before .before .before .before .before .before .before .before .before .before .last-of .ensures in let m = c .before .before .before .before .before .before .before .before .before .before .before .before .before .before .before .before .before .before .before .before .before .before .before .before .loop .inv .0 in let j = c .usize-of-u82 .ensures .0 in search needs
 
 mul-a-2 : tie.Need-mul-a-2 Inv-loop μ-loop
-mul-a-2 c = let h = assignment-room _ _ _ _ _ _ _ (c .before .before .before .before .before .before .before .before .before .before .before .behavior-cause .ensures) (passes (c .before .before .before .before .before .before .before .before .before)) _ (c .before .before .before .before .r3 .given .1) in let l = c .before .before .before .before .before .before .before .before .before .before .before .before .before .before .before .before .before .before .before .before .before .last-of .ensures in let m = c .before .before .before .before .before .before .before .before .before .before .before .before .before .before .before .before .before .before .before .before .before .before .before .before .loop .inv .0 in let j = c .small2 .ensures in search needs
+mul-a-2 c = let h = assignment-room _ _ _ _ _ _ _ (c .before .before .before .before .before .before .before .before .before .before .before .behavior-cause .ensures) (passes (c .before .before .before .before .before .before .before .before .before)) _ (c .before .before .before .before .r3 .given .1) in let l = c .before .before .before .before .before .before .before .before .before .before .before .before .before .before .before .before .before .before .before .before .before .last-of .ensures in let m = c .before .before .before .before .before .before .before .before .before .before .before .before .before .before .before .before .before .before .before .before .before .before .before .before .loop .inv .0 in let j = c .usize-of-u82 .ensures .0 in search needs
 
 element-set-from-a-2 : tie.Need-element-set-from-a-2 Inv-loop μ-loop
-element-set-from-a-2 c = let h = assignment-room _ _ _ _ _ _ _ (c .before .before .before .before .before .before .before .before .before .before .before .behavior-cause .ensures) (passes (c .before .before .before .before .before .before .before .before .before)) _ (c .before .before .before .before .r3 .given .1) in let l = c .before .before .before .before .before .before .before .before .before .before .before .before .before .before .before .before .before .before .before .before .before .last-of .ensures in let m = c .before .before .before .before .before .before .before .before .before .before .before .before .before .before .before .before .before .before .before .before .before .before .before .before .loop .inv .0 in let j = c .small2 .ensures in search needs
+element-set-from-a-2 c = let h = assignment-room _ _ _ _ _ _ _ (c .before .before .before .before .before .before .before .before .before .before .before .behavior-cause .ensures) (passes (c .before .before .before .before .before .before .before .before .before)) _ (c .before .before .before .before .r3 .given .1) in let l = c .before .before .before .before .before .before .before .before .before .before .before .before .before .before .before .before .before .before .before .before .before .last-of .ensures in let m = c .before .before .before .before .before .before .before .before .before .before .before .before .before .before .before .before .before .before .before .before .before .before .before .before .loop .inv .0 in let j = c .usize-of-u82 .ensures .0 in search needs
 
 end-at-requires-2 : tie.Need-end-at-requires-2 Inv-loop μ-loop
 end-at-requires-2 c κs = c .before .before .before .before .before .before .before .before .before .before .before .before .before .before .before .before .before .before .loop-test .taken
@@ -309,7 +309,7 @@ read-behaviors-spec =
     with-counts-requires
     mul-t50
     element-set-from-b
-    small-requires
+    usize-of-u8-requires
     add-a
     mul-a
     element-set-from-a
@@ -318,7 +318,7 @@ read-behaviors-spec =
     with-counts-requires-2
     mul-t59
     element-set-from-b-2
-    small-requires-2
+    usize-of-u8-requires-2
     add-a-2
     mul-a-2
     element-set-from-a-2

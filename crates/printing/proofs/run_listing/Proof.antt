@@ -26,11 +26,11 @@ start-state-requires c κs = search needs
 loop-holds : tie.Need-loop-holds Inv-loop μ-loop
 loop-holds c = rw (c .start-state .ensures) (run-begin _ _ _ _ _ (search needs) (search needs))
 
-part-at-requires : tie.Need-part-at-requires Inv-loop μ-loop
-part-at-requires c κs = search needs
+part-length-at-requires : tie.Need-part-length-at-requires Inv-loop μ-loop
+part-length-at-requires c κs = search needs
 
 add-q : tie.Need-add-q Inv-loop μ-loop
-add-q c = let z = next-place Script _ _ _ (c .before .loop-test .taken) (c .part-at .ensures) in search needs
+add-q c = let z = next-place Script _ _ _ (c .before .loop-test .taken) (c .part-length-at .ensures) in search needs
 
 sub-event-of : tie.Need-sub-event-of Inv-loop μ-loop
 sub-event-of c = search needs
@@ -39,7 +39,7 @@ part-event-of-start : tie.Need-part-event-of-start Inv-loop μ-loop
 part-event-of-start c = search needs
 
 part-event-of-end : tie.Need-part-event-of-end Inv-loop μ-loop
-part-event-of-end c = let z = next-place Script _ _ _ (c .before .loop-test .taken) (c .part-at .ensures) in omega arith
+part-event-of-end c = let z = next-place Script _ _ _ (c .before .loop-test .taken) (c .part-length-at .ensures) in omega arith
 
 event-of-requires : tie.Need-event-of-requires Inv-loop μ-loop
 event-of-requires c κs = search needs
@@ -60,7 +60,7 @@ same-length : tie.Need-same-length Inv-loop μ-loop
 same-length c = search needs
 
 returns : tie.Need-returns Inv-loop μ-loop
-returns c = run-refused _ _ _ (c .before .before .before .before .before .before .before .before .before .before .before .before .loop .inv) _ _ _ _ _ (c .before .before .before .before .before .before .before .before .before .before .before .loop-test .taken) (c .before .before .before .before .before .before .before .before .before .before .part-at .ensures) (c .before .before .before .before .before .before .before .before .event-of .ensures) (ap (λ (r : Stepped). r .answer) (c .before .before .before .before .before .before .before .step .ensures)) (c .before .before .before .before .before .before .is-none .ensures) (not-true _ (c .before .before .before .before .before .if1 .taken)) (c .before .before .before .clock-of .ensures) (c .before .before .put-last .ensures)
+returns c = run-refused _ _ _ (c .before .before .before .before .before .before .before .before .before .before .before .before .loop .inv) _ _ _ _ _ (c .before .before .before .before .before .before .before .before .before .before .before .loop-test .taken) (c .before .before .before .before .before .before .before .before .before .before .part-length-at .ensures) (c .before .before .before .before .before .before .before .before .event-of .ensures) (ap (λ (r : Stepped). r .answer) (c .before .before .before .before .before .before .before .step .ensures)) (c .before .before .before .before .before .before .is-none .ensures) (not-true _ (c .before .before .before .before .before .if1 .taken)) (c .before .before .before .clock-of .ensures) (c .before .before .put-last .ensures)
 
 add-taken : tie.Need-add-taken Inv-loop μ-loop
 add-taken c = let k = c .before .before .before .before .before .before .before .before .loop .inv .count in let h = c .before .before .before .before .before .before .before .loop-test .taken in let n = c .before .before .before .before .before .before .before .before .loop .inv .size in search needs
@@ -72,10 +72,10 @@ put-event-requires : tie.Need-put-event-requires Inv-loop μ-loop
 put-event-requires c κs = search needs
 
 loop-less : tie.Need-loop-less Inv-loop μ-loop
-loop-less c = let z = next-place Script _ _ _ (c .before .before .before .before .before .before .before .before .before .before .before .before .loop-test .taken) (c .before .before .before .before .before .before .before .before .before .before .before .part-at .ensures) in omega arith
+loop-less c = let z = next-place Script _ _ _ (c .before .before .before .before .before .before .before .before .before .before .before .before .loop-test .taken) (c .before .before .before .before .before .before .before .before .before .before .before .part-length-at .ensures) in omega arith
 
 loop-again : tie.Need-loop-again Inv-loop μ-loop
-loop-again c = run-on _ _ _ (c .before .before .before .before .before .before .before .before .before .before .before .before .before .loop .inv) _ _ _ _ _ (c .before .before .before .before .before .before .before .before .before .before .before .before .loop-test .taken) (c .before .before .before .before .before .before .before .before .before .before .before .part-at .ensures) (c .before .before .before .before .before .before .before .before .before .event-of .ensures) (ap (λ (r : Stepped). r .answer) (c .before .before .before .before .before .before .before .before .step .ensures)) (c .before .before .before .before .before .before .before .is-none .ensures) _ (ap (λ (r : Stepped). r .state) (c .before .before .before .before .before .before .before .before .step .ensures)) (not-false _ (c .before .before .before .before .before .before .if1 .left)) (c .before .before .before .clock-of2 .ensures) (c .before .before .put-event .ensures)
+loop-again c = run-on _ _ _ (c .before .before .before .before .before .before .before .before .before .before .before .before .before .loop .inv) _ _ _ _ _ (c .before .before .before .before .before .before .before .before .before .before .before .before .loop-test .taken) (c .before .before .before .before .before .before .before .before .before .before .before .part-length-at .ensures) (c .before .before .before .before .before .before .before .before .before .event-of .ensures) (ap (λ (r : Stepped). r .answer) (c .before .before .before .before .before .before .before .before .step .ensures)) (c .before .before .before .before .before .before .before .is-none .ensures) _ (ap (λ (r : Stepped). r .state) (c .before .before .before .before .before .before .before .before .step .ensures)) (not-false _ (c .before .before .before .before .before .before .if1 .left)) (c .before .before .before .clock-of2 .ensures) (c .before .before .put-event .ensures)
 
 clock-of-requires-3 : tie.Need-clock-of-requires-3 Inv-loop μ-loop
 clock-of-requires-3 c κs = search needs
@@ -97,7 +97,7 @@ run-listing-spec =
     μ-loop
     start-state-requires
     loop-holds
-    part-at-requires
+    part-length-at-requires
     add-q
     sub-event-of
     part-event-of-start

@@ -40,11 +40,11 @@ all-bits-requires c κs = search needs
 loop-holds : tie.Need-loop-holds Inv-loop μ-loop
 loop-holds c = (c .before .before .before .before .list-heads .ensures, rw (c .all-bits .ensures, c .before .start-variables .ensures) (run-begin _ _ _ _ _ (search needs) (search needs)))
 
-part-at-requires : tie.Need-part-at-requires Inv-loop μ-loop
-part-at-requires c κs = search needs
+part-length-at-requires : tie.Need-part-length-at-requires Inv-loop μ-loop
+part-length-at-requires c κs = search needs
 
 add-q : tie.Need-add-q Inv-loop μ-loop
-add-q c = let z = next-place Script _ _ _ (c .before .loop-test .taken) (c .part-at .ensures) in search needs
+add-q c = let z = next-place Script _ _ _ (c .before .loop-test .taken) (c .part-length-at .ensures) in search needs
 
 sub-event-of : tie.Need-sub-event-of Inv-loop μ-loop
 sub-event-of c = search needs
@@ -53,7 +53,7 @@ part-event-of-start : tie.Need-part-event-of-start Inv-loop μ-loop
 part-event-of-start c = search needs
 
 part-event-of-end : tie.Need-part-event-of-end Inv-loop μ-loop
-part-event-of-end c = let z = next-place Script _ _ _ (c .before .loop-test .taken) (c .part-at .ensures) in omega arith
+part-event-of-end c = let z = next-place Script _ _ _ (c .before .loop-test .taken) (c .part-length-at .ensures) in omega arith
 
 event-of-requires : tie.Need-event-of-requires Inv-loop μ-loop
 event-of-requires c κs = search needs
@@ -80,7 +80,7 @@ same-length : tie.Need-same-length Inv-loop μ-loop
 same-length c = search needs
 
 returns : tie.Need-returns Inv-loop μ-loop
-returns c = run-refused _ _ _ (c .before .before .before .before .before .before .before .before .before .before .before .before .before .before .before .before .loop .inv .1) _ _ _ _ _ (c .before .before .before .before .before .before .before .before .before .before .before .before .before .before .before .loop-test .taken) (c .before .before .before .before .before .before .before .before .before .before .before .before .before .before .part-at .ensures) (c .before .before .before .before .before .before .before .before .before .before .before .before .event-of .ensures) (answer-of _ _ _ _ _ (c .before .before .before .before .before .before .before .before .step-on .ensures)) (c .before .before .before .before .before .before .before .is-none .ensures) (not-true _ (c .before .before .before .before .before .before .if1 .taken)) (c .before .before .before .clock-in .ensures ∙ ap clockOf (refused-same _ _ _ _ _ (c .before .before .before .before .before .before .before .before .step-on .ensures) (sym (c .before .before .before .before .before .before .before .is-none .ensures) ∙ not-true _ (c .before .before .before .before .before .before .if1 .taken)))) (c .before .before .put-last .ensures)
+returns c = run-refused _ _ _ (c .before .before .before .before .before .before .before .before .before .before .before .before .before .before .before .before .loop .inv .1) _ _ _ _ _ (c .before .before .before .before .before .before .before .before .before .before .before .before .before .before .before .loop-test .taken) (c .before .before .before .before .before .before .before .before .before .before .before .before .before .before .part-length-at .ensures) (c .before .before .before .before .before .before .before .before .before .before .before .before .event-of .ensures) (answer-of _ _ _ _ _ (c .before .before .before .before .before .before .before .before .step-on .ensures)) (c .before .before .before .before .before .before .before .is-none .ensures) (not-true _ (c .before .before .before .before .before .before .if1 .taken)) (c .before .before .before .clock-in .ensures ∙ ap clockOf (refused-same _ _ _ _ _ (c .before .before .before .before .before .before .before .before .step-on .ensures) (sym (c .before .before .before .before .before .before .before .is-none .ensures) ∙ not-true _ (c .before .before .before .before .before .before .if1 .taken)))) (c .before .before .put-last .ensures)
 
 add-taken : tie.Need-add-taken Inv-loop μ-loop
 add-taken c = let k = c .before .before .before .before .before .before .before .before .before .before .loop .inv .1 .count in let h = c .before .before .before .before .before .before .before .before .before .loop-test .taken in let n = c .before .before .before .before .before .before .before .before .before .before .loop .inv .1 .size in search needs
@@ -92,10 +92,10 @@ put-event-requires : tie.Need-put-event-requires Inv-loop μ-loop
 put-event-requires c κs = search needs
 
 loop-less : tie.Need-loop-less Inv-loop μ-loop
-loop-less c = let z = next-place Script _ _ _ (c .before .before .before .before .before .before .before .before .before .before .before .before .before .before .before .loop-test .taken) (c .before .before .before .before .before .before .before .before .before .before .before .before .before .before .part-at .ensures) in omega arith
+loop-less c = let z = next-place Script _ _ _ (c .before .before .before .before .before .before .before .before .before .before .before .before .before .before .before .loop-test .taken) (c .before .before .before .before .before .before .before .before .before .before .before .before .before .before .part-length-at .ensures) in omega arith
 
 loop-again : tie.Need-loop-again Inv-loop μ-loop
-loop-again c = (c .before .before .before .before .before .before .before .before .before .before .before .before .before .before .before .before .loop .inv .0, run-on _ _ _ (c .before .before .before .before .before .before .before .before .before .before .before .before .before .before .before .before .loop .inv .1) _ _ _ _ _ (c .before .before .before .before .before .before .before .before .before .before .before .before .before .before .before .loop-test .taken) (c .before .before .before .before .before .before .before .before .before .before .before .before .before .before .part-at .ensures) (c .before .before .before .before .before .before .before .before .before .before .before .before .event-of .ensures) (answer-of _ _ _ _ _ (c .before .before .before .before .before .before .before .before .step-on .ensures)) (c .before .before .before .before .before .before .before .is-none .ensures) _ (state-of _ _ _ _ _ (c .before .before .before .before .before .before .before .before .step-on .ensures)) (not-false _ (c .before .before .before .before .before .before .if1 .left)) (c .before .before .before .clock-in2 .ensures) (c .before .before .put-event .ensures))
+loop-again c = (c .before .before .before .before .before .before .before .before .before .before .before .before .before .before .before .before .loop .inv .0, run-on _ _ _ (c .before .before .before .before .before .before .before .before .before .before .before .before .before .before .before .before .loop .inv .1) _ _ _ _ _ (c .before .before .before .before .before .before .before .before .before .before .before .before .before .before .before .loop-test .taken) (c .before .before .before .before .before .before .before .before .before .before .before .before .before .before .part-length-at .ensures) (c .before .before .before .before .before .before .before .before .before .before .before .before .event-of .ensures) (answer-of _ _ _ _ _ (c .before .before .before .before .before .before .before .before .step-on .ensures)) (c .before .before .before .before .before .before .before .is-none .ensures) _ (state-of _ _ _ _ _ (c .before .before .before .before .before .before .before .before .step-on .ensures)) (not-false _ (c .before .before .before .before .before .before .if1 .left)) (c .before .before .before .clock-in2 .ensures) (c .before .before .put-event .ensures))
 
 clock-in-requires-3 : tie.Need-clock-in-requires-3 Inv-loop μ-loop
 clock-in-requires-3 c κs = search needs
@@ -121,7 +121,7 @@ run-table-listing-spec =
     start-variables-requires
     all-bits-requires
     loop-holds
-    part-at-requires
+    part-length-at-requires
     add-q
     sub-event-of
     part-event-of-start

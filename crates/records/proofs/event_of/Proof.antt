@@ -17,13 +17,13 @@ byte-at-requires c κs = search needs
 u16-at-requires : tie.Need-u16-at-requires
 u16-at-requires c κs = search needs
 
-wide16-requires : tie.Need-wide16-requires
-wide16-requires c κs = search needs
+u32-of-u16-requires : tie.Need-u32-of-u16-requires
+u32-of-u16-requires c κs = search needs
 
 returns-2 : tie.Need-returns-2
 returns-2 c =
     event-tick (c .before .before .before .before .before .before .before .args .x .now) _ (c .before .before .before .before .before .is-whole .ensures) _ _ (not-false _ (c .before .before .before .before .if1 .left)) (c .before .before .before .byte-at .ensures)
-    (c .before .before .if2 .taken) (c .wide16 .ensures ∙ c .before .u16-at .ensures)
+    (c .before .before .if2 .taken) (c .u32-of-u16 .ensures .0 ∙ c .before .u16-at .ensures)
 
 byte-at-requires-2 : tie.Need-byte-at-requires-2
 byte-at-requires-2 c κs = search needs
@@ -49,7 +49,7 @@ event-of-spec =
     returns
     byte-at-requires
     u16-at-requires
-    wide16-requires
+    u32-of-u16-requires
     returns-2
     byte-at-requires-2
     u32-at-requires

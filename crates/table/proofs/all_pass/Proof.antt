@@ -79,17 +79,17 @@ loop-again-3 c = pass-atom _ _ _ (c .before .before .before .before .before .bef
 returns-3 : tie.Need-returns-3 Inv-loop μ-loop
 returns-3 c = pass-head _ _ _ (c .before .before .before .before .before .before .before .args .t .now) _ (c .before .before .before .before .loop-test .taken) (c .if6 .taken) ∙ c .before .before .before .before .before .loop .inv ∙ pass-all _ _ (c .before .before .before .before .before .before .before .args .t .now) (c .before .before .before .before .before .before .before .args .from)
 
-part-at-requires : tie.Need-part-at-requires Inv-loop μ-loop
-part-at-requires c κs = search needs
+part-length-at-requires : tie.Need-part-length-at-requires Inv-loop μ-loop
+part-length-at-requires c κs = search needs
 
 add-at-4 : tie.Need-add-at-4 Inv-loop μ-loop
-add-at-4 c = let n = next-place notations.Table (c .before .before .before .before .before .before .before .before .args .t .now) _ _ (c .before .before .before .before .before .loop-test .taken) (c .part-at .ensures) in record { fits = omega arith }
+add-at-4 c = let n = next-place notations.Table (c .before .before .before .before .before .before .before .before .args .t .now) _ _ (c .before .before .before .before .before .loop-test .taken) (c .part-length-at .ensures) in record { fits = omega arith }
 
 loop-less-4 : tie.Need-loop-less-4 Inv-loop μ-loop
-loop-less-4 c = let n = next-place notations.Table (c .before .before .before .before .before .before .before .before .args .t .now) _ _ (c .before .before .before .before .before .loop-test .taken) (c .part-at .ensures) in omega arith
+loop-less-4 c = let n = next-place notations.Table (c .before .before .before .before .before .before .before .before .args .t .now) _ _ (c .before .before .before .before .before .loop-test .taken) (c .part-length-at .ensures) in omega arith
 
 loop-again-4 : tie.Need-loop-again-4 Inv-loop μ-loop
-loop-again-4 c = pass-other _ _ _ (c .before .before .before .before .before .before .before .before .args .t .now) _ (c .before .before .before .before .before .loop-test .taken) (c .before .if6 .left) (c .before .before .before .if1 .left) (c .before .before .if3 .left) _ (c .part-at .ensures) ∙ c .before .before .before .before .before .before .loop .inv
+loop-again-4 c = pass-other _ _ _ (c .before .before .before .before .before .before .before .before .args .t .now) _ (c .before .before .before .before .before .loop-test .taken) (c .before .if6 .left) (c .before .before .before .if1 .left) (c .before .before .if3 .left) _ (c .part-length-at .ensures) ∙ c .before .before .before .before .before .before .loop .inv
 
 returns-4 : tie.Need-returns-4 Inv-loop μ-loop
 returns-4 c = pass-end _ _ _ (c .before .before .before .args .t .now) _ (c .loop-test .left) ∙ c .before .loop .inv ∙ pass-all _ _ (c .before .before .before .args .t .now) (c .before .before .before .args .from)
@@ -120,7 +120,7 @@ all-pass-spec =
     loop-less-3
     loop-again-3
     returns-3
-    part-at-requires
+    part-length-at-requires
     add-at-4
     loop-less-4
     loop-again-4

@@ -17,11 +17,11 @@ returns c = update-left _ _ (updateOf (c .before .before .before .before .args .
 u16-at-requires : tie.Need-u16-at-requires
 u16-at-requires c κs = search needs
 
-wide-requires : tie.Need-wide-requires
-wide-requires c κs = search needs
+usize-of-u16-requires : tie.Need-usize-of-u16-requires
+usize-of-u16-requires c κs = search needs
 
 returns-2 : tie.Need-returns-2
-returns-2 c = update-wide _ _ _ _ _ _ refl (c .if2 .taken) (rw (c .before .wide .ensures .0) (c .before .wide .ensures .1))
+returns-2 c = update-wide _ _ _ _ _ _ refl (c .if2 .taken) (rw (c .before .usize-of-u16 .ensures .0) (c .before .usize-of-u16 .ensures .1))
 
 new-value-requires : tie.Need-new-value-requires
 new-value-requires c κs = search needs
@@ -40,14 +40,14 @@ same-length c = search needs
 
 returns-3 : tie.Need-returns-3
 unfolding updateOf
-returns-3 c = update-applied _ _ (updateOf (c .before .before .before .before .before .before .before .before .before .before .before .before .before .before .before .before .args .x .now)) _ (c .before .before .before .before .before .before .before .before .before .before .before .before .before .applies .ensures) _ _ _ _ (not-false _ (c .before .before .before .before .before .before .before .before .before .before .before .before .if1 .left)) _ _ _ _ _ (c .before .before .before .before .before .before .before .before .new-value .ensures) (c .before .before .before .before .before .before .bits-of .ensures) (c .before .before .before .before .before .before .before .before .before .before .wide .ensures .0 ∙ c .before .before .before .before .before .before .before .before .before .before .before .u16-at .ensures) (c .before .before .before .before .before .put .ensures) (c .before .before .before .mark .ensures .0) (c .before .before .before .mark .ensures .1) (omega arith) (rw (c .if3 .taken))
+returns-3 c = update-applied _ _ (updateOf (c .before .before .before .before .before .before .before .before .before .before .before .before .before .before .before .before .args .x .now)) _ (c .before .before .before .before .before .before .before .before .before .before .before .before .before .applies .ensures) _ _ _ _ (not-false _ (c .before .before .before .before .before .before .before .before .before .before .before .before .if1 .left)) _ _ _ _ _ (c .before .before .before .before .before .before .before .before .new-value .ensures) (c .before .before .before .before .before .before .bits-of .ensures) (c .before .before .before .before .before .before .before .before .before .before .usize-of-u16 .ensures .0 ∙ c .before .before .before .before .before .before .before .before .before .before .before .u16-at .ensures) (c .before .before .before .before .before .put .ensures) (c .before .before .before .mark .ensures .0) (c .before .before .before .mark .ensures .1) (omega arith) (rw (c .if3 .taken))
 
 same-length-2 : tie.Need-same-length-2
 same-length-2 c = search needs
 
 returns-4 : tie.Need-returns-4
 unfolding updateOf
-returns-4 c = update-applied _ _ (updateOf (c .before .before .before .before .before .before .before .before .before .before .before .before .before .before .before .before .args .x .now)) _ (c .before .before .before .before .before .before .before .before .before .before .before .before .before .applies .ensures) _ _ _ _ (not-false _ (c .before .before .before .before .before .before .before .before .before .before .before .before .if1 .left)) _ _ _ _ _ (c .before .before .before .before .before .before .before .before .new-value .ensures) (c .before .before .before .before .before .before .bits-of .ensures) (c .before .before .before .before .before .before .before .before .before .before .wide .ensures .0 ∙ c .before .before .before .before .before .before .before .before .before .before .before .u16-at .ensures) (c .before .before .before .before .before .put .ensures) (c .before .before .before .mark .ensures .0) (c .before .before .before .mark .ensures .1) (omega arith) (rw (c .if3 .left))
+returns-4 c = update-applied _ _ (updateOf (c .before .before .before .before .before .before .before .before .before .before .before .before .before .before .before .before .args .x .now)) _ (c .before .before .before .before .before .before .before .before .before .before .before .before .before .applies .ensures) _ _ _ _ (not-false _ (c .before .before .before .before .before .before .before .before .before .before .before .before .if1 .left)) _ _ _ _ _ (c .before .before .before .before .before .before .before .before .new-value .ensures) (c .before .before .before .before .before .before .bits-of .ensures) (c .before .before .before .before .before .before .before .before .before .before .usize-of-u16 .ensures .0 ∙ c .before .before .before .before .before .before .before .before .before .before .before .u16-at .ensures) (c .before .before .before .before .before .put .ensures) (c .before .before .before .mark .ensures .0) (c .before .before .before .mark .ensures .1) (omega arith) (rw (c .if3 .left))
 
 pub apply-update-spec : {M : Type 1} → statement M
 apply-update-spec =
@@ -56,7 +56,7 @@ apply-update-spec =
     applies-requires
     returns
     u16-at-requires
-    wide-requires
+    usize-of-u16-requires
     returns-2
     new-value-requires
     bits-of-requires

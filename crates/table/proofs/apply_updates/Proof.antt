@@ -67,17 +67,17 @@ loop-less c = search needs
 loop-again : tie.Need-loop-again Inv-loop μ-loop
 loop-again c = writing-on _ _ _ _ _ _ (c .before .before .before .before .before .before .before .before .before .before .before .before .before .before .before .args .t .now) _ _ (c .before .before .before .before .before .before .before .before .before .before .before .before .loop .inv) (c .before .before .before .before .before .before .before .before .before .before .before .loop-test .taken) (c .before .before .before .before .before .before .before .before .if2 .taken) (c .before .before .before .before .before .before .before .if3 .left) _ _ _ (rw slice-part at (c .before .before .before .apply-update .ensures)) (c .if4 .left)
 
-part-at-requires : tie.Need-part-at-requires Inv-loop μ-loop
-part-at-requires c κs = search needs
+part-length-at-requires : tie.Need-part-length-at-requires Inv-loop μ-loop
+part-length-at-requires c κs = search needs
 
 add-at-2 : tie.Need-add-at-2 Inv-loop μ-loop
-add-at-2 c = let n = next-place notations.Table (c .before .before .before .before .before .before .before .before .args .t .now) _ _ (c .before .before .before .before .loop-test .taken) (c .part-at .ensures) in record { fits = omega arith }
+add-at-2 c = let n = next-place notations.Table (c .before .before .before .before .before .before .before .before .args .t .now) _ _ (c .before .before .before .before .loop-test .taken) (c .part-length-at .ensures) in record { fits = omega arith }
 
 loop-less-2 : tie.Need-loop-less-2 Inv-loop μ-loop
-loop-less-2 c = let n = next-place notations.Table (c .before .before .before .before .before .before .before .before .args .t .now) _ _ (c .before .before .before .before .loop-test .taken) (c .part-at .ensures) in omega arith
+loop-less-2 c = let n = next-place notations.Table (c .before .before .before .before .before .before .before .before .args .t .now) _ _ (c .before .before .before .before .loop-test .taken) (c .part-length-at .ensures) in omega arith
 
 loop-again-2 : tie.Need-loop-again-2 Inv-loop μ-loop
-loop-again-2 c = writing-other _ _ _ _ _ _ (c .before .before .before .before .before .before .before .before .args .t .now) _ _ (c .before .before .before .before .before .loop .inv) (c .before .before .before .before .loop-test .taken) _ (c .part-at .ensures) (c .before .before .if1 .left) (c .before .if2 .left)
+loop-again-2 c = writing-other _ _ _ _ _ _ (c .before .before .before .before .before .before .before .before .args .t .now) _ _ (c .before .before .before .before .before .loop .inv) (c .before .before .before .before .loop-test .taken) _ (c .part-length-at .ensures) (c .before .before .if1 .left) (c .before .if2 .left)
 
 same-length-4 : tie.Need-same-length-4 Inv-loop μ-loop
 same-length-4 c = c .before .loop .inv .room
@@ -108,7 +108,7 @@ apply-updates-spec =
     add-at
     loop-less
     loop-again
-    part-at-requires
+    part-length-at-requires
     add-at-2
     loop-less-2
     loop-again-2

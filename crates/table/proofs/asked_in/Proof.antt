@@ -20,23 +20,23 @@ returns-2 c = asks-none (c .before .before .before .before .before .args .x .now
 u16-at-requires : tie.Need-u16-at-requires
 u16-at-requires c κs = search needs
 
-wide-requires : tie.Need-wide-requires
-wide-requires c κs = search needs
+usize-of-u16-requires : tie.Need-usize-of-u16-requires
+usize-of-u16-requires c κs = search needs
 
 u32-at-requires : tie.Need-u32-at-requires
 u32-at-requires c κs = search needs
 
-wide32-requires : tie.Need-wide32-requires
-wide32-requires c κs = search needs
+usize-of-u32-requires : tie.Need-usize-of-u32-requires
+usize-of-u32-requires c κs = search needs
 
 mul-result : tie.Need-mul-result
-mul-result c = let a = c .before .before .wide .ensures in record { fits = omega arith }
+mul-result c = let a = c .before .before .usize-of-u16 .ensures in record { fits = omega arith }
 
 add-result : tie.Need-add-result
-add-result c = let a = c .before .before .wide .ensures in let b = c .wide32 .ensures in record { fits = omega arith }
+add-result c = let a = c .before .before .usize-of-u16 .ensures in let b = c .usize-of-u32 .ensures in record { fits = omega arith }
 
 returns-3 : tie.Need-returns-3
-returns-3 c = asks-equal (c .before .before .before .before .before .before .before .before .before .args .x .now) _ _ _ _ (c .before .before .before .before .before .before .before .byte-at .ensures) (c .before .before .before .before .before .before .if1 .left) (c .before .before .before .before .before .byte-at2 .ensures) (c .before .before .before .before .if2 .left) (c .before .before .wide .ensures .0 ∙ c .before .before .before .u16-at .ensures) (c .wide32 .ensures .0 ∙ c .before .u32-at .ensures) (rw (c .wide32 .ensures .0) (c .wide32 .ensures .1))
+returns-3 c = asks-equal (c .before .before .before .before .before .before .before .before .before .args .x .now) _ _ _ _ (c .before .before .before .before .before .before .before .byte-at .ensures) (c .before .before .before .before .before .before .if1 .left) (c .before .before .before .before .before .byte-at2 .ensures) (c .before .before .before .before .if2 .left) (c .before .before .usize-of-u16 .ensures .0 ∙ c .before .before .before .u16-at .ensures) (c .usize-of-u32 .ensures .0 ∙ c .before .u32-at .ensures) (rw (c .usize-of-u32 .ensures .0) (c .usize-of-u32 .ensures .1))
 
 pub asked-in-spec : {M : Type 1} → statement M
 asked-in-spec =
@@ -47,9 +47,9 @@ asked-in-spec =
     byte-at-requires-2
     returns-2
     u16-at-requires
-    wide-requires
+    usize-of-u16-requires
     u32-at-requires
-    wide32-requires
+    usize-of-u32-requires
     mul-result
     add-result
     returns-3)

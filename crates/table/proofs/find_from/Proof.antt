@@ -19,11 +19,11 @@ abbrev μ-loop : tie.MeasureT-loop
 loop-holds : tie.Need-loop-holds Inv-loop μ-loop
 loop-holds c = refl
 
-part-at-requires : tie.Need-part-at-requires Inv-loop μ-loop
-part-at-requires c κs = search needs
+part-length-at-requires : tie.Need-part-length-at-requires Inv-loop μ-loop
+part-length-at-requires c κs = search needs
 
 add-next : tie.Need-add-next Inv-loop μ-loop
-add-next c = let n = next-place notations.Table (c .before .before .before .before .args .t .now) _ _ (c .before .loop-test .taken) (c .part-at .ensures) in
+add-next c = let n = next-place notations.Table (c .before .before .before .before .args .t .now) _ _ (c .before .loop-test .taken) (c .part-length-at .ensures) in
     record { fits = omega arith }
 
 sub-found-after : tie.Need-sub-found-after Inv-loop μ-loop
@@ -33,18 +33,18 @@ part-found-after-start : tie.Need-part-found-after-start Inv-loop μ-loop
 part-found-after-start c = search needs
 
 part-found-after-end : tie.Need-part-found-after-end Inv-loop μ-loop
-part-found-after-end c = let n = next-place notations.Table (c .before .before .before .before .args .t .now) _ _ (c .before .loop-test .taken) (c .part-at .ensures) in
+part-found-after-end c = let n = next-place notations.Table (c .before .before .before .before .args .t .now) _ _ (c .before .loop-test .taken) (c .part-length-at .ensures) in
     omega arith
 
 found-after-requires : tie.Need-found-after-requires Inv-loop μ-loop
 found-after-requires c κs = search needs
 
 loop-less : tie.Need-loop-less Inv-loop μ-loop
-loop-less c = let n = next-place notations.Table (c .before .before .before .before .before .before .args .t .now) _ _ (c .before .before .before .loop-test .taken) (c .before .before .part-at .ensures) in
+loop-less c = let n = next-place notations.Table (c .before .before .before .before .before .before .args .t .now) _ _ (c .before .before .before .loop-test .taken) (c .before .before .part-length-at .ensures) in
     omega arith
 
 loop-again : tie.Need-loop-again Inv-loop μ-loop
-loop-again c = find-on (c .before .before .before .before .before .before .args .t .now) _ _ _ (c .before .before .before .loop-test .taken) (c .before .before .part-at .ensures) refl _ (c .before .before .before .before .before .before .args .e) _ _ (c .found-after .ensures) ∙ c .before .before .before .before .loop .inv
+loop-again c = find-on (c .before .before .before .before .before .before .args .t .now) _ _ _ (c .before .before .before .loop-test .taken) (c .before .before .part-length-at .ensures) refl _ (c .before .before .before .before .before .before .args .e) _ _ (c .found-after .ensures) ∙ c .before .before .before .before .loop .inv
 
 returns : tie.Need-returns Inv-loop μ-loop
 returns c = find-end (c .before .before .before .args .t .now) _ (c .before .before .before .args .e) _ _ (c .loop-test .left) ∙ c .before .loop .inv
@@ -56,7 +56,7 @@ find-from-spec =
     Inv-loop
     μ-loop
     loop-holds
-    part-at-requires
+    part-length-at-requires
     add-next
     sub-found-after
     part-found-after-start

@@ -91,17 +91,17 @@ loop-less c = search needs
 loop-again : tie.Need-loop-again Inv-loop μ-loop
 loop-again c = (length-set (c .before .before .before .before .before .before .before .loop .place) (c .before .before .before .before .before .before .before .loop .n) (c .before .before .before .before .before .before .before .loop .at) ∙ c .before .before .before .before .before .before .before .loop .inv .0, length-set (c .before .before .before .before .before .before .before .loop .guard) (c .before .before .before .before .before .before .before .loop .n) _ ∙ c .before .before .before .before .before .before .before .loop .inv .1, listed-head (c .before .before .before .before .before .before .before .before .before .before .before .args .t .now) _ _ _ (c .before .before .before .before .before .before .before .loop .inv .2) (c .before .before .before .before .if1 .taken) (c .before .before .before .before .before .before .loop-test .taken) (c .before .if4 .left) (c .before .before .before .if2 .left), guarded-more (c .before .before .before .before .before .before .before .before .before .before .before .args .t .now) _ _ _ _ _ (c .before .before .before .before .before .before .before .loop .inv .3) (c .before .before .before .if2 .left) (c .before .before .if3 .left) (c .guard-of .ensures))
 
-part-at-requires : tie.Need-part-at-requires Inv-loop μ-loop
-part-at-requires c κs = search needs
+part-length-at-requires : tie.Need-part-length-at-requires Inv-loop μ-loop
+part-length-at-requires c κs = search needs
 
 add-at-2 : tie.Need-add-at-2 Inv-loop μ-loop
-add-at-2 c = let n = next-place notations.Table (c .before .before .before .before .before .before .before .before .args .t .now) _ _ (c .before .before .before .loop-test .taken) (c .part-at .ensures) in record { fits = omega arith }
+add-at-2 c = let n = next-place notations.Table (c .before .before .before .before .before .before .before .before .args .t .now) _ _ (c .before .before .before .loop-test .taken) (c .part-length-at .ensures) in record { fits = omega arith }
 
 loop-less-2 : tie.Need-loop-less-2 Inv-loop μ-loop
-loop-less-2 c = let n = next-place notations.Table (c .before .before .before .before .before .before .before .before .args .t .now) _ _ (c .before .before .before .loop-test .taken) (c .part-at .ensures) in omega arith
+loop-less-2 c = let n = next-place notations.Table (c .before .before .before .before .before .before .before .before .args .t .now) _ _ (c .before .before .before .loop-test .taken) (c .part-length-at .ensures) in omega arith
 
 loop-again-2 : tie.Need-loop-again-2 Inv-loop μ-loop
-loop-again-2 c = (c .before .before .before .before .loop .inv .0, c .before .before .before .before .loop .inv .1, listed-other (c .before .before .before .before .before .before .before .before .args .t .now) _ _ _ (c .before .before .before .before .loop .inv .2) (c .before .before .before .loop-test .taken) _ (c .part-at .ensures) (c .before .if1 .left), c .before .before .before .before .loop .inv .3)
+loop-again-2 c = (c .before .before .before .before .loop .inv .0, c .before .before .before .before .loop .inv .1, listed-other (c .before .before .before .before .before .before .before .before .args .t .now) _ _ _ (c .before .before .before .before .loop .inv .2) (c .before .before .before .loop-test .taken) _ (c .part-length-at .ensures) (c .before .if1 .left), c .before .before .before .before .loop .inv .3)
 
 listed-requires-4 : tie.Need-listed-requires-4 Inv-loop μ-loop
 listed-requires-4 c κs = search needs
@@ -146,7 +146,7 @@ list-heads-spec =
     add-at
     loop-less
     loop-again
-    part-at-requires
+    part-length-at-requires
     add-at-2
     loop-less-2
     loop-again-2

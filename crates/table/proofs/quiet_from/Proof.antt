@@ -19,11 +19,11 @@ abbrev μ-loop : tie.MeasureT-loop
 loop-holds : tie.Need-loop-holds Inv-loop μ-loop
 loop-holds c = refl
 
-part-at-requires : tie.Need-part-at-requires Inv-loop μ-loop
-part-at-requires c κs = search needs
+part-length-at-requires : tie.Need-part-length-at-requires Inv-loop μ-loop
+part-length-at-requires c κs = search needs
 
 add-next : tie.Need-add-next Inv-loop μ-loop
-add-next c = let n = next-place notations.Table (c .before .before .before .before .args .t .now) _ _ (c .before .loop-test .taken) (c .part-at .ensures) in
+add-next c = let n = next-place notations.Table (c .before .before .before .before .args .t .now) _ _ (c .before .loop-test .taken) (c .part-length-at .ensures) in
     record { fits = omega arith }
 
 sub-ticks-to-record : tie.Need-sub-ticks-to-record Inv-loop μ-loop
@@ -33,18 +33,18 @@ part-ticks-to-record-start : tie.Need-part-ticks-to-record-start Inv-loop μ-loo
 part-ticks-to-record-start c = search needs
 
 part-ticks-to-record-end : tie.Need-part-ticks-to-record-end Inv-loop μ-loop
-part-ticks-to-record-end c = let n = next-place notations.Table (c .before .before .before .before .args .t .now) _ _ (c .before .loop-test .taken) (c .part-at .ensures) in
+part-ticks-to-record-end c = let n = next-place notations.Table (c .before .before .before .before .args .t .now) _ _ (c .before .loop-test .taken) (c .part-length-at .ensures) in
     omega arith
 
 ticks-to-record-requires : tie.Need-ticks-to-record-requires Inv-loop μ-loop
 ticks-to-record-requires c κs = search needs
 
 loop-less : tie.Need-loop-less Inv-loop μ-loop
-loop-less c = let n = next-place notations.Table (c .before .before .before .before .before .before .args .t .now) _ _ (c .before .before .before .loop-test .taken) (c .before .before .part-at .ensures) in
+loop-less c = let n = next-place notations.Table (c .before .before .before .before .before .before .args .t .now) _ _ (c .before .before .before .loop-test .taken) (c .before .before .part-length-at .ensures) in
     omega arith
 
 loop-again : tie.Need-loop-again Inv-loop μ-loop
-loop-again c = quiet-on (c .before .before .before .before .before .before .args .t .now) _ _ _ (c .before .before .before .loop-test .taken) (c .before .before .part-at .ensures) refl _ _ _ (c .ticks-to-record .ensures) ∙ c .before .before .before .before .loop .inv
+loop-again c = quiet-on (c .before .before .before .before .before .before .args .t .now) _ _ _ (c .before .before .before .loop-test .taken) (c .before .before .part-length-at .ensures) refl _ _ _ (c .ticks-to-record .ensures) ∙ c .before .before .before .before .loop .inv
 
 returns : tie.Need-returns Inv-loop μ-loop
 returns c = quiet-end (c .before .before .before .args .t .now) _ _ _ (c .loop-test .left) ∙ c .before .loop .inv
@@ -56,7 +56,7 @@ quiet-from-spec =
     Inv-loop
     μ-loop
     loop-holds
-    part-at-requires
+    part-length-at-requires
     add-next
     sub-ticks-to-record
     part-ticks-to-record-start

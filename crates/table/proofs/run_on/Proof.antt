@@ -40,11 +40,11 @@ loop-holds : tie.Need-loop-holds Inv-loop μ-loop
 unfolding tallyTable
 loop-holds c = (omega arith, omega arith, c .before .before .before .before .list-heads .ensures, rw (c .all-bits .ensures, c .before .start-variables .ensures))
 
-part-at-requires : tie.Need-part-at-requires Inv-loop μ-loop
-part-at-requires c κs = search needs
+part-length-at-requires : tie.Need-part-length-at-requires Inv-loop μ-loop
+part-length-at-requires c κs = search needs
 
 add-next : tie.Need-add-next Inv-loop μ-loop
-add-next c = let n = next-place notations.Script (c .before .before .before .before .before .before .before .before .before .before .before .before .args .script .now) _ _ (c .before .loop-test .taken) (c .part-at .ensures) in record { fits = omega arith }
+add-next c = let n = next-place notations.Script (c .before .before .before .before .before .before .before .before .before .before .before .before .args .script .now) _ _ (c .before .loop-test .taken) (c .part-length-at .ensures) in record { fits = omega arith }
 
 sub-event-of : tie.Need-sub-event-of Inv-loop μ-loop
 sub-event-of c = search needs
@@ -53,7 +53,7 @@ part-event-of-start : tie.Need-part-event-of-start Inv-loop μ-loop
 part-event-of-start c = search needs
 
 part-event-of-end : tie.Need-part-event-of-end Inv-loop μ-loop
-part-event-of-end c = let n = next-place notations.Script (c .before .before .before .before .before .before .before .before .before .before .before .before .args .script .now) _ _ (c .before .loop-test .taken) (c .part-at .ensures) in omega arith
+part-event-of-end c = let n = next-place notations.Script (c .before .before .before .before .before .before .before .before .before .before .before .before .args .script .now) _ _ (c .before .loop-test .taken) (c .part-length-at .ensures) in omega arith
 
 event-of-requires : tie.Need-event-of-requires Inv-loop μ-loop
 event-of-requires c κs = search needs
@@ -74,19 +74,19 @@ add-k : tie.Need-add-k Inv-loop μ-loop
 add-k c = let a = c .before .before .before .before .before .before .before .before .before .before .loop .inv .0 in let b = c .before .before .before .before .before .before .before .before .before .before .loop .inv .1 in let l = c .before .before .before .before .before .before .before .before .before .loop-test .taken in let q = c .before .before .before .before .before .before .before .before .before .before .before .before .before .before .before .before .before .before .before .before .good .1 .0 in record { fits = omega arith }
 
 loop-less : tie.Need-loop-less Inv-loop μ-loop
-loop-less c = let n = next-place notations.Script (c .before .before .before .before .before .before .before .before .before .before .before .before .before .before .before .before .before .before .before .before .args .script .now) _ _ (c .before .before .before .before .before .before .before .before .before .loop-test .taken) (c .before .before .before .before .before .before .before .before .part-at .ensures) in omega arith
+loop-less c = let n = next-place notations.Script (c .before .before .before .before .before .before .before .before .before .before .before .before .before .before .before .before .before .before .before .before .args .script .now) _ _ (c .before .before .before .before .before .before .before .before .before .loop-test .taken) (c .before .before .before .before .before .before .before .before .part-length-at .ensures) in omega arith
 
 loop-again : tie.Need-loop-again Inv-loop μ-loop
-loop-again c = let n = next-place notations.Script (c .before .before .before .before .before .before .before .before .before .before .before .before .before .before .before .before .before .before .before .before .args .script .now) _ _ (c .before .before .before .before .before .before .before .before .before .loop-test .taken) (c .before .before .before .before .before .before .before .before .part-at .ensures) in (omega arith, omega arith, c .before .before .before .before .before .before .before .before .before .before .loop .inv .2, tally-taken (machineOf (tableOf (c .before .before .before .before .before .before .before .before .before .before .before .before .before .before .before .before .before .before .before .before .args .t .now) .rules)) (c .before .before .before .before .before .before .before .before .before .before .before .before .before .before .before .before .before .before .before .before .args .script .now) _ (variablesOf (c .before .before .before .before .before .before .before .before .before .before .loop .v)) _ _ (c .before .before .before .before .before .before .before .before .before .loop-test .taken) (c .before .before .before .before .before .before .before .before .part-at .ensures) (rw slice-part at (c .before .before .before .before .before .before .event-of .ensures)) _ _ _ _ (answer-of _ _ _ _ _ (c .before .before .step-on .ensures)) (state-of _ _ _ _ _ (c .before .before .step-on .ensures)) (sym (c .before .is-none .ensures) ∙ c .if1 .taken) ∙ c .before .before .before .before .before .before .before .before .before .before .loop .inv .3)
+loop-again c = let n = next-place notations.Script (c .before .before .before .before .before .before .before .before .before .before .before .before .before .before .before .before .before .before .before .before .args .script .now) _ _ (c .before .before .before .before .before .before .before .before .before .loop-test .taken) (c .before .before .before .before .before .before .before .before .part-length-at .ensures) in (omega arith, omega arith, c .before .before .before .before .before .before .before .before .before .before .loop .inv .2, tally-taken (machineOf (tableOf (c .before .before .before .before .before .before .before .before .before .before .before .before .before .before .before .before .before .before .before .before .args .t .now) .rules)) (c .before .before .before .before .before .before .before .before .before .before .before .before .before .before .before .before .before .before .before .before .args .script .now) _ (variablesOf (c .before .before .before .before .before .before .before .before .before .before .loop .v)) _ _ (c .before .before .before .before .before .before .before .before .before .loop-test .taken) (c .before .before .before .before .before .before .before .before .part-length-at .ensures) (rw slice-part at (c .before .before .before .before .before .before .event-of .ensures)) _ _ _ _ (answer-of _ _ _ _ _ (c .before .before .step-on .ensures)) (state-of _ _ _ _ _ (c .before .before .step-on .ensures)) (sym (c .before .is-none .ensures) ∙ c .if1 .taken) ∙ c .before .before .before .before .before .before .before .before .before .before .loop .inv .3)
 
 add-r : tie.Need-add-r Inv-loop μ-loop
 add-r c = let a = c .before .before .before .before .before .before .before .before .before .before .loop .inv .0 in let b = c .before .before .before .before .before .before .before .before .before .before .loop .inv .1 in let l = c .before .before .before .before .before .before .before .before .before .loop-test .taken in let q = c .before .before .before .before .before .before .before .before .before .before .before .before .before .before .before .before .before .before .before .before .good .1 .0 in record { fits = omega arith }
 
 loop-less-2 : tie.Need-loop-less-2 Inv-loop μ-loop
-loop-less-2 c = let n = next-place notations.Script (c .before .before .before .before .before .before .before .before .before .before .before .before .before .before .before .before .before .before .before .before .args .script .now) _ _ (c .before .before .before .before .before .before .before .before .before .loop-test .taken) (c .before .before .before .before .before .before .before .before .part-at .ensures) in omega arith
+loop-less-2 c = let n = next-place notations.Script (c .before .before .before .before .before .before .before .before .before .before .before .before .before .before .before .before .before .before .before .before .args .script .now) _ _ (c .before .before .before .before .before .before .before .before .before .loop-test .taken) (c .before .before .before .before .before .before .before .before .part-length-at .ensures) in omega arith
 
 loop-again-2 : tie.Need-loop-again-2 Inv-loop μ-loop
-loop-again-2 c = let n = next-place notations.Script (c .before .before .before .before .before .before .before .before .before .before .before .before .before .before .before .before .before .before .before .before .args .script .now) _ _ (c .before .before .before .before .before .before .before .before .before .loop-test .taken) (c .before .before .before .before .before .before .before .before .part-at .ensures) in (omega arith, omega arith, c .before .before .before .before .before .before .before .before .before .before .loop .inv .2, tally-refused (machineOf (tableOf (c .before .before .before .before .before .before .before .before .before .before .before .before .before .before .before .before .before .before .before .before .args .t .now) .rules)) (c .before .before .before .before .before .before .before .before .before .before .before .before .before .before .before .before .before .before .before .before .args .script .now) _ (variablesOf (c .before .before .before .before .before .before .before .before .before .before .loop .v)) _ _ (c .before .before .before .before .before .before .before .before .before .loop-test .taken) (c .before .before .before .before .before .before .before .before .part-at .ensures) (rw slice-part at (c .before .before .before .before .before .before .event-of .ensures)) _ _ _ _ (answer-of _ _ _ _ _ (c .before .before .step-on .ensures)) (state-of _ _ _ _ _ (c .before .before .step-on .ensures)) (sym (c .before .is-none .ensures) ∙ c .if1 .left) ∙ c .before .before .before .before .before .before .before .before .before .before .loop .inv .3)
+loop-again-2 c = let n = next-place notations.Script (c .before .before .before .before .before .before .before .before .before .before .before .before .before .before .before .before .before .before .before .before .args .script .now) _ _ (c .before .before .before .before .before .before .before .before .before .loop-test .taken) (c .before .before .before .before .before .before .before .before .part-length-at .ensures) in (omega arith, omega arith, c .before .before .before .before .before .before .before .before .before .before .loop .inv .2, tally-refused (machineOf (tableOf (c .before .before .before .before .before .before .before .before .before .before .before .before .before .before .before .before .before .before .before .before .args .t .now) .rules)) (c .before .before .before .before .before .before .before .before .before .before .before .before .before .before .before .before .before .before .before .before .args .script .now) _ (variablesOf (c .before .before .before .before .before .before .before .before .before .before .loop .v)) _ _ (c .before .before .before .before .before .before .before .before .before .loop-test .taken) (c .before .before .before .before .before .before .before .before .part-length-at .ensures) (rw slice-part at (c .before .before .before .before .before .before .event-of .ensures)) _ _ _ _ (answer-of _ _ _ _ _ (c .before .before .step-on .ensures)) (state-of _ _ _ _ _ (c .before .before .step-on .ensures)) (sym (c .before .is-none .ensures) ∙ c .if1 .left) ∙ c .before .before .before .before .before .before .before .before .before .before .loop .inv .3)
 
 variables-of-requires : tie.Need-variables-of-requires Inv-loop μ-loop
 variables-of-requires c κs = search needs
@@ -106,7 +106,7 @@ run-on-spec =
     start-variables-requires
     all-bits-requires
     loop-holds
-    part-at-requires
+    part-length-at-requires
     add-next
     sub-event-of
     part-event-of-start

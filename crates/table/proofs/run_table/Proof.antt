@@ -41,11 +41,11 @@ loop-holds : tie.Need-loop-holds Inv-loop μ-loop
 unfolding runTable
 loop-holds c = (omega arith, omega arith, c .before .before .before .before .list-heads .ensures, rw (c .all-bits .ensures, c .before .start-variables .ensures))
 
-part-at-requires : tie.Need-part-at-requires Inv-loop μ-loop
-part-at-requires c κs = search needs
+part-length-at-requires : tie.Need-part-length-at-requires Inv-loop μ-loop
+part-length-at-requires c κs = search needs
 
 add-next : tie.Need-add-next Inv-loop μ-loop
-add-next c = let n = next-place notations.Script (c .before .before .before .before .before .before .before .before .before .before .before .before .args .script .now) _ _ (c .before .loop-test .taken) (c .part-at .ensures) in record { fits = omega arith }
+add-next c = let n = next-place notations.Script (c .before .before .before .before .before .before .before .before .before .before .before .before .args .script .now) _ _ (c .before .loop-test .taken) (c .part-length-at .ensures) in record { fits = omega arith }
 
 sub-event-of : tie.Need-sub-event-of Inv-loop μ-loop
 sub-event-of c = search needs
@@ -54,7 +54,7 @@ part-event-of-start : tie.Need-part-event-of-start Inv-loop μ-loop
 part-event-of-start c = search needs
 
 part-event-of-end : tie.Need-part-event-of-end Inv-loop μ-loop
-part-event-of-end c = let n = next-place notations.Script (c .before .before .before .before .before .before .before .before .before .before .before .before .args .script .now) _ _ (c .before .loop-test .taken) (c .part-at .ensures) in omega arith
+part-event-of-end c = let n = next-place notations.Script (c .before .before .before .before .before .before .before .before .before .before .before .before .args .script .now) _ _ (c .before .loop-test .taken) (c .part-length-at .ensures) in omega arith
 
 event-of-requires : tie.Need-event-of-requires Inv-loop μ-loop
 event-of-requires c κs = search needs
@@ -78,16 +78,16 @@ ended-requires : tie.Need-ended-requires Inv-loop μ-loop
 ended-requires c κs = search needs
 
 returns : tie.Need-returns Inv-loop μ-loop
-returns c = rw (c .ended .ensures, c .before .variables-of .ensures, refused-same _ _ _ _ _ (c .before .before .before .before .step-on .ensures) (sym (c .before .before .before .is-none .ensures) ∙ not-true _ (c .before .before .if1 .taken))) (run-refused (machineOf (tableOf (c .before .before .before .before .before .before .before .before .before .before .before .before .before .before .before .before .before .before .before .before .before .before .args .t .now) .rules)) (c .before .before .before .before .before .before .before .before .before .before .before .before .before .before .before .before .before .before .before .before .before .before .args .script .now) _ (variablesOf (c .before .before .before .before .before .before .before .before .before .before .before .before .loop .v)) _ _ (c .before .before .before .before .before .before .before .before .before .before .before .loop-test .taken) (c .before .before .before .before .before .before .before .before .before .before .part-at .ensures) (rw slice-part at (c .before .before .before .before .before .before .before .before .event-of .ensures)) _ _ (answer-of _ _ _ _ _ (c .before .before .before .before .step-on .ensures)) (sym (c .before .before .before .is-none .ensures) ∙ not-true _ (c .before .before .if1 .taken)) ∙ c .before .before .before .before .before .before .before .before .before .before .before .before .loop .inv .3)
+returns c = rw (c .ended .ensures, c .before .variables-of .ensures, refused-same _ _ _ _ _ (c .before .before .before .before .step-on .ensures) (sym (c .before .before .before .is-none .ensures) ∙ not-true _ (c .before .before .if1 .taken))) (run-refused (machineOf (tableOf (c .before .before .before .before .before .before .before .before .before .before .before .before .before .before .before .before .before .before .before .before .before .before .args .t .now) .rules)) (c .before .before .before .before .before .before .before .before .before .before .before .before .before .before .before .before .before .before .before .before .before .before .args .script .now) _ (variablesOf (c .before .before .before .before .before .before .before .before .before .before .before .before .loop .v)) _ _ (c .before .before .before .before .before .before .before .before .before .before .before .loop-test .taken) (c .before .before .before .before .before .before .before .before .before .before .part-length-at .ensures) (rw slice-part at (c .before .before .before .before .before .before .before .before .event-of .ensures)) _ _ (answer-of _ _ _ _ _ (c .before .before .before .before .step-on .ensures)) (sym (c .before .before .before .is-none .ensures) ∙ not-true _ (c .before .before .if1 .taken)) ∙ c .before .before .before .before .before .before .before .before .before .before .before .before .loop .inv .3)
 
 add-k : tie.Need-add-k Inv-loop μ-loop
 add-k c = let a = c .before .before .before .before .before .before .before .before .before .before .loop .inv .0 in let b = c .before .before .before .before .before .before .before .before .before .before .loop .inv .1 in let l = c .before .before .before .before .before .before .before .before .before .loop-test .taken in let q = c .before .before .before .before .before .before .before .before .before .before .before .before .before .before .before .before .before .before .before .before .good .1 .0 in record { fits = omega arith }
 
 loop-less : tie.Need-loop-less Inv-loop μ-loop
-loop-less c = let n = next-place notations.Script (c .before .before .before .before .before .before .before .before .before .before .before .before .before .before .before .before .before .before .before .before .args .script .now) _ _ (c .before .before .before .before .before .before .before .before .before .loop-test .taken) (c .before .before .before .before .before .before .before .before .part-at .ensures) in omega arith
+loop-less c = let n = next-place notations.Script (c .before .before .before .before .before .before .before .before .before .before .before .before .before .before .before .before .before .before .before .before .args .script .now) _ _ (c .before .before .before .before .before .before .before .before .before .loop-test .taken) (c .before .before .before .before .before .before .before .before .part-length-at .ensures) in omega arith
 
 loop-again : tie.Need-loop-again Inv-loop μ-loop
-loop-again c = let n = next-place notations.Script (c .before .before .before .before .before .before .before .before .before .before .before .before .before .before .before .before .before .before .before .before .args .script .now) _ _ (c .before .before .before .before .before .before .before .before .before .loop-test .taken) (c .before .before .before .before .before .before .before .before .part-at .ensures) in (omega arith, n .1, c .before .before .before .before .before .before .before .before .before .before .loop .inv .2, run-on (machineOf (tableOf (c .before .before .before .before .before .before .before .before .before .before .before .before .before .before .before .before .before .before .before .before .args .t .now) .rules)) (c .before .before .before .before .before .before .before .before .before .before .before .before .before .before .before .before .before .before .before .before .args .script .now) _ (variablesOf (c .before .before .before .before .before .before .before .before .before .before .loop .v)) _ _ (c .before .before .before .before .before .before .before .before .before .loop-test .taken) (c .before .before .before .before .before .before .before .before .part-at .ensures) (rw slice-part at (c .before .before .before .before .before .before .event-of .ensures)) _ _ _ (answer-of _ _ _ _ _ (c .before .before .step-on .ensures)) (state-of _ _ _ _ _ (c .before .before .step-on .ensures)) (sym (c .before .is-none .ensures) ∙ not-false _ (c .if1 .left)) ∙ c .before .before .before .before .before .before .before .before .before .before .loop .inv .3)
+loop-again c = let n = next-place notations.Script (c .before .before .before .before .before .before .before .before .before .before .before .before .before .before .before .before .before .before .before .before .args .script .now) _ _ (c .before .before .before .before .before .before .before .before .before .loop-test .taken) (c .before .before .before .before .before .before .before .before .part-length-at .ensures) in (omega arith, n .1, c .before .before .before .before .before .before .before .before .before .before .loop .inv .2, run-on (machineOf (tableOf (c .before .before .before .before .before .before .before .before .before .before .before .before .before .before .before .before .before .before .before .before .args .t .now) .rules)) (c .before .before .before .before .before .before .before .before .before .before .before .before .before .before .before .before .before .before .before .before .args .script .now) _ (variablesOf (c .before .before .before .before .before .before .before .before .before .before .loop .v)) _ _ (c .before .before .before .before .before .before .before .before .before .loop-test .taken) (c .before .before .before .before .before .before .before .before .part-length-at .ensures) (rw slice-part at (c .before .before .before .before .before .before .event-of .ensures)) _ _ _ (answer-of _ _ _ _ _ (c .before .before .step-on .ensures)) (state-of _ _ _ _ _ (c .before .before .step-on .ensures)) (sym (c .before .is-none .ensures) ∙ not-false _ (c .if1 .left)) ∙ c .before .before .before .before .before .before .before .before .before .before .loop .inv .3)
 
 variables-of-requires-2 : tie.Need-variables-of-requires-2 Inv-loop μ-loop
 variables-of-requires-2 c κs = search needs
@@ -110,7 +110,7 @@ run-table-spec =
     start-variables-requires
     all-bits-requires
     loop-holds
-    part-at-requires
+    part-length-at-requires
     add-next
     sub-event-of
     part-event-of-start

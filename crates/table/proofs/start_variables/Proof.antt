@@ -23,12 +23,12 @@ abbrev μ-loop : tie.MeasureT-loop
 loop-holds : tie.Need-loop-holds Inv-loop μ-loop
 loop-holds c = start-begin (c .before .args .t .now)
 
-part-at-requires : tie.Need-part-at-requires Inv-loop μ-loop
-part-at-requires c κs = search needs
+part-length-at-requires : tie.Need-part-length-at-requires Inv-loop μ-loop
+part-length-at-requires c κs = search needs
 
 add-next : tie.Need-add-next Inv-loop μ-loop
 add-next c =
-    let n = next-place notations.Table (c .before .before .before .before .args .t .now) _ _ (c .before .loop-test .taken) (c .part-at .ensures) in
+    let n = next-place notations.Table (c .before .before .before .before .args .t .now) _ _ (c .before .loop-test .taken) (c .part-length-at .ensures) in
     record { fits = omega arith }
 
 sub-begin-with : tie.Need-sub-begin-with Inv-loop μ-loop
@@ -39,7 +39,7 @@ part-begin-with-start c = search needs
 
 part-begin-with-end : tie.Need-part-begin-with-end Inv-loop μ-loop
 part-begin-with-end c =
-    let n = next-place notations.Table (c .before .before .before .before .before .args .t .now) _ _ (c .before .before .loop-test .taken) (c .before .part-at .ensures) in
+    let n = next-place notations.Table (c .before .before .before .before .before .args .t .now) _ _ (c .before .before .loop-test .taken) (c .before .part-length-at .ensures) in
     omega arith
 
 begin-with-requires : tie.Need-begin-with-requires Inv-loop μ-loop
@@ -47,12 +47,12 @@ begin-with-requires c κs = search needs
 
 loop-less : tie.Need-loop-less Inv-loop μ-loop
 loop-less c =
-    let n = next-place notations.Table (c .before .before .before .before .before .before .before .args .t .now) _ _ (c .before .before .before .before .loop-test .taken) (c .before .before .before .part-at .ensures) in
+    let n = next-place notations.Table (c .before .before .before .before .before .before .before .args .t .now) _ _ (c .before .before .before .before .loop-test .taken) (c .before .before .before .part-length-at .ensures) in
     omega arith
 
 loop-again : tie.Need-loop-again Inv-loop μ-loop
 loop-again c =
-    rw (start-on (c .before .before .before .before .before .before .before .args .t .now) _ _ _ (c .before .before .before .before .loop-test .taken) (c .before .before .before .part-at .ensures) refl _ _ (c .begin-with .ensures)) (c .before .before .before .before .before .loop .inv)
+    rw (start-on (c .before .before .before .before .before .before .before .args .t .now) _ _ _ (c .before .before .before .before .loop-test .taken) (c .before .before .before .part-length-at .ensures) refl _ _ (c .begin-with .ensures)) (c .before .before .before .before .before .loop .inv)
 
 variables-of-requires : tie.Need-variables-of-requires Inv-loop μ-loop
 variables-of-requires c κs = search needs
@@ -67,7 +67,7 @@ start-variables-spec =
     Inv-loop
     μ-loop
     loop-holds
-    part-at-requires
+    part-length-at-requires
     add-next
     sub-begin-with
     part-begin-with-start

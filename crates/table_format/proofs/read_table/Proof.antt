@@ -30,12 +30,12 @@ placed-requires c κs = search needs
 loop-holds : tie.Need-loop-holds Inv-loop μ-loop
 loop-holds c = (omega arith, rw (c .placed .ensures) (table-reads (c .before .before .before .args .s .now) (c .before .if1 .left)))
 
-part-at-requires : tie.Need-part-at-requires Inv-loop μ-loop
-part-at-requires c κs = search needs
+part-length-at-requires : tie.Need-part-length-at-requires Inv-loop μ-loop
+part-length-at-requires c κs = search needs
 
 add-next : tie.Need-add-next Inv-loop μ-loop
 add-next c =
-    let n = next-place notations.Table (c .before .before .before .before .before .before .args .s .now) _ _ (c .before .loop-test .taken) (c .part-at .ensures) in
+    let n = next-place notations.Table (c .before .before .before .before .before .before .args .s .now) _ _ (c .before .loop-test .taken) (c .part-length-at .ensures) in
     record { fits = omega arith }
 
 sub-record-of : tie.Need-sub-record-of Inv-loop μ-loop
@@ -46,7 +46,7 @@ part-record-of-start c = omega arith
 
 part-record-of-end : tie.Need-part-record-of-end Inv-loop μ-loop
 part-record-of-end c =
-    let n = next-place notations.Table (c .before .before .before .before .before .before .args .s .now) _ _ (c .before .loop-test .taken) (c .part-at .ensures) in
+    let n = next-place notations.Table (c .before .before .before .before .before .before .args .s .now) _ _ (c .before .loop-test .taken) (c .part-length-at .ensures) in
     omega arith
 
 record-of-requires : tie.Need-record-of-requires Inv-loop μ-loop
@@ -64,7 +64,7 @@ refusal-requires-2 c κs = search needs
 returns-2 : tie.Need-returns-2 Inv-loop μ-loop
 returns-2 c =
     c .refusal2 .ensures ∙
-    read-refused (c .before .before .before .before .before .before .before .before .before .before .before .before .args .s .now) _ _ _ (c .before .before .before .before .before .before .before .loop-test .taken) (c .before .before .before .before .before .before .part-at .ensures) (c .before .before .before .before .record-of .ensures)
+    read-refused (c .before .before .before .before .before .before .before .before .before .before .before .before .args .s .now) _ _ _ (c .before .before .before .before .before .before .before .loop-test .taken) (c .before .before .before .before .before .before .part-length-at .ensures) (c .before .before .before .before .record-of .ensures)
     (c .before .before .before .before .before .before .before .before .loop .c) _ (c .before .before .before .cause-of .ensures) (sym (c .before .before .is-none .ensures) ∙ not-true _ (c .before .if2 .taken)) ∙
     c .before .before .before .before .before .before .before .before .loop .inv .1
 
@@ -73,15 +73,15 @@ next-context-requires c κs = search needs
 
 loop-less : tie.Need-loop-less Inv-loop μ-loop
 loop-less c =
-    let n = next-place notations.Table (c .before .before .before .before .before .before .before .before .before .before .before .before .args .s .now) _ _ (c .before .before .before .before .before .before .before .loop-test .taken) (c .before .before .before .before .before .before .part-at .ensures) in
+    let n = next-place notations.Table (c .before .before .before .before .before .before .before .before .before .before .before .before .args .s .now) _ _ (c .before .before .before .before .before .before .before .loop-test .taken) (c .before .before .before .before .before .before .part-length-at .ensures) in
     omega arith
 
 loop-again : tie.Need-loop-again Inv-loop μ-loop
 loop-again c =
-    let n = next-place notations.Table (c .before .before .before .before .before .before .before .before .before .before .before .before .args .s .now) _ _ (c .before .before .before .before .before .before .before .loop-test .taken) (c .before .before .before .before .before .before .part-at .ensures) in (
+    let n = next-place notations.Table (c .before .before .before .before .before .before .before .before .before .before .before .before .args .s .now) _ _ (c .before .before .before .before .before .before .before .loop-test .taken) (c .before .before .before .before .before .before .part-length-at .ensures) in (
       n .1,
       rw (c .next-context .ensures)
-          (read-on (c .before .before .before .before .before .before .before .before .before .before .before .before .args .s .now) _ _ _ (c .before .before .before .before .before .before .before .loop-test .taken) (c .before .before .before .before .before .before .part-at .ensures) (c .before .before .before .before .record-of .ensures)
+          (read-on (c .before .before .before .before .before .before .before .before .before .before .before .before .args .s .now) _ _ _ (c .before .before .before .before .before .before .before .loop-test .taken) (c .before .before .before .before .before .before .part-length-at .ensures) (c .before .before .before .before .record-of .ensures)
           (c .before .before .before .before .before .before .before .before .loop .c) _ (c .before .before .before .cause-of .ensures) (sym (c .before .before .is-none .ensures) ∙ not-false _ (c .before .if2 .left)) ∙
           c .before .before .before .before .before .before .before .before .loop .inv .1),
     )
@@ -102,7 +102,7 @@ read-table-spec =
     returns
     placed-requires
     loop-holds
-    part-at-requires
+    part-length-at-requires
     add-next
     sub-record-of
     part-record-of-start

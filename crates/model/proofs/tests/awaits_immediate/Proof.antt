@@ -34,8 +34,8 @@ element-copy-out-x c = search needs
 element-copy-out-live : tie.Need-element-copy-out-live Inv-loop μ-loop
 element-copy-out-live c = search needs
 
-wide16-requires : tie.Need-wide16-requires Inv-loop μ-loop
-wide16-requires c κs = search needs
+usize-of-u16-requires : tie.Need-usize-of-u16-requires Inv-loop μ-loop
+usize-of-u16-requires c κs = search needs
 
 owner-at-requires : tie.Need-owner-at-requires Inv-loop μ-loop
 owner-at-requires c κs = search needs
@@ -53,7 +53,7 @@ beside-comes-requires : tie.Need-beside-comes-requires Inv-loop μ-loop
 beside-comes-requires c κs = search needs
 
 returns : tie.Need-returns Inv-loop μ-loop
-returns c = immediate-some _ _ _ _ _ (c .before .before .before .before .before .before .before .before .before .before .before .before .within .ensures) _ (c .before .before .before .before .before .before .before .before .before .before .loop-test .taken) (rw (c .before .before .beside-runs .ensures, c .before .beside-comes .ensures) (immediate-fed (c .before .before .before .before .before .before .before .before .before .before .before .before .before .before .before .args .t1) (c .before .before .before .before .before .before .before .before .before .before .before .before .before .before .before .args .t2) (c .before .before .before .before .before .before .before .before .before .before .before .before .before .before .before .args .t) _ _ (c .before .before .before .before .before .before .before .before .before .before .before .before .within .ensures) 0 _ _ _ (c .before .before .before .before .before .before .before .before .before .before .loop-test .taken) (c .before .before .before .before .before .before .before .wide16 .ensures) (c .before .before .before .before .before .before .owner-at .ensures) (c .before .before .before .before .before .leads-to .ensures) _ _ (c .before .before .before .source-of .ensures) (c .before .before .before .before .before .before .before .before .before .before .before .before .before .before .job-at .ensures) refl (c .before .before .before .before .if1 .taken))) (c .if2 .taken)
+returns c = immediate-some _ _ _ _ _ (c .before .before .before .before .before .before .before .before .before .before .before .before .within .ensures) _ (c .before .before .before .before .before .before .before .before .before .before .loop-test .taken) (rw (c .before .before .beside-runs .ensures, c .before .beside-comes .ensures) (immediate-fed (c .before .before .before .before .before .before .before .before .before .before .before .before .before .before .before .args .t1) (c .before .before .before .before .before .before .before .before .before .before .before .before .before .before .before .args .t2) (c .before .before .before .before .before .before .before .before .before .before .before .before .before .before .before .args .t) _ _ (c .before .before .before .before .before .before .before .before .before .before .before .before .within .ensures) 0 _ _ _ (c .before .before .before .before .before .before .before .before .before .before .loop-test .taken) (c .before .before .before .before .before .before .before .usize-of-u16 .ensures .0) (c .before .before .before .before .before .before .owner-at .ensures) (c .before .before .before .before .before .leads-to .ensures) _ _ (c .before .before .before .source-of .ensures) (c .before .before .before .before .before .before .before .before .before .before .before .before .before .before .job-at .ensures) refl (c .before .before .before .before .if1 .taken))) (c .if2 .taken)
 
 add-c : tie.Need-add-c Inv-loop μ-loop
 add-c c = search needs
@@ -62,7 +62,7 @@ loop-less : tie.Need-loop-less Inv-loop μ-loop
 loop-less c = search needs
 
 loop-again : tie.Need-loop-again Inv-loop μ-loop
-loop-again c = (omega arith, below-more _ _ (c .before .before .before .before .before .before .before .loop .inv .1) (⊎-elim (λ w. sym (rw (w .2 .ensures, w .3 .ensures) (immediate-fed (c .before .before .before .before .before .before .before .before .before .before .before .args .t1) (c .before .before .before .before .before .before .before .before .before .before .before .args .t2) (c .before .before .before .before .before .before .before .before .before .before .before .args .t) _ _ (c .before .before .before .before .before .before .before .before .within .ensures) 0 _ _ _ (c .before .before .before .before .before .before .loop-test .taken) (c .before .before .before .wide16 .ensures) (c .before .before .owner-at .ensures) (c .before .leads-to .ensures) _ _ (w .1 .ensures) (c .before .before .before .before .before .before .before .before .before .before .job-at .ensures) refl (w .0 .taken))) ∙ w .4 .left) (λ w. immediate-past (c .before .before .before .before .before .before .before .before .before .before .before .args .t1) (c .before .before .before .before .before .before .before .before .before .before .before .args .t2) (c .before .before .before .before .before .before .before .before .before .before .before .args .t) _ _ (c .before .before .before .before .before .before .before .before .within .ensures) 0 _ _ _ (c .before .before .before .before .before .before .loop-test .taken) (c .before .before .before .wide16 .ensures) (c .before .before .owner-at .ensures) (c .before .leads-to .ensures) refl (w .left)) (c .if1 .came)))
+loop-again c = (omega arith, below-more _ _ (c .before .before .before .before .before .before .before .loop .inv .1) (⊎-elim (λ w. sym (rw (w .2 .ensures, w .3 .ensures) (immediate-fed (c .before .before .before .before .before .before .before .before .before .before .before .args .t1) (c .before .before .before .before .before .before .before .before .before .before .before .args .t2) (c .before .before .before .before .before .before .before .before .before .before .before .args .t) _ _ (c .before .before .before .before .before .before .before .before .within .ensures) 0 _ _ _ (c .before .before .before .before .before .before .loop-test .taken) (c .before .before .before .usize-of-u16 .ensures .0) (c .before .before .owner-at .ensures) (c .before .leads-to .ensures) _ _ (w .1 .ensures) (c .before .before .before .before .before .before .before .before .before .before .job-at .ensures) refl (w .0 .taken))) ∙ w .4 .left) (λ w. immediate-past (c .before .before .before .before .before .before .before .before .before .before .before .args .t1) (c .before .before .before .before .before .before .before .before .before .before .before .args .t2) (c .before .before .before .before .before .before .before .before .before .before .before .args .t) _ _ (c .before .before .before .before .before .before .before .before .within .ensures) 0 _ _ _ (c .before .before .before .before .before .before .loop-test .taken) (c .before .before .before .usize-of-u16 .ensures .0) (c .before .before .owner-at .ensures) (c .before .leads-to .ensures) refl (w .left)) (c .if1 .came)))
 
 returns-2 : tie.Need-returns-2 Inv-loop μ-loop
 returns-2 c = immediate-none _ _ _ _ _ (c .before .before .within .ensures) (c .loop-test .left) (c .before .loop .inv .1)
@@ -79,7 +79,7 @@ awaits-immediate-spec =
     mul-x
     element-copy-out-x
     element-copy-out-live
-    wide16-requires
+    usize-of-u16-requires
     owner-at-requires
     leads-to-requires
     source-of-requires

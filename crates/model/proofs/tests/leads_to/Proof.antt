@@ -3,12 +3,12 @@ use borrow.Author.Needs.{needs}
 use Rattle.model.proofs.tests.leads_to.Statement.{statement}
 use Rattle.model.proofs.tests.leads_to.Tie as tie
 
-wide-requires : tie.Need-wide-requires
-wide-requires c κs = search needs
+usize-of-u8-requires : tie.Need-usize-of-u8-requires
+usize-of-u8-requires c κs = search needs
 
 returns : tie.Need-returns
 unfolding leadsTo
-returns c = rw (c .wide .ensures)
+returns c = rw (c .usize-of-u8 .ensures .0)
 
 pub leads-to-spec : {M : Type 1} → statement M
-leads-to-spec = tie.close (tie.spec wide-requires returns)
+leads-to-spec = tie.close (tie.spec usize-of-u8-requires returns)

@@ -3,21 +3,21 @@ use borrow.Author.Needs.{needs}
 use Rattle.model.proofs.tests.source_of.Statement.{statement}
 use Rattle.model.proofs.tests.source_of.Tie as tie
 
-wide16-requires : tie.Need-wide16-requires
-wide16-requires c κs = search needs
+usize-of-u16-requires : tie.Need-usize-of-u16-requires
+usize-of-u16-requires c κs = search needs
 
 owner-at-requires : tie.Need-owner-at-requires
 owner-at-requires c κs = search needs
 
-wide-requires : tie.Need-wide-requires
-wide-requires c κs = search needs
+usize-of-u8-requires : tie.Need-usize-of-u8-requires
+usize-of-u8-requires c κs = search needs
 
 view-of-requires : tie.Need-view-of-requires
 view-of-requires c κs = search needs
 
 returns : tie.Need-returns
-returns c = source-by _ _ _ _ _ _ _ (c .before .before .before .wide16 .ensures) (c .before .before .owner-at .ensures) (c .before .wide .ensures) (c .view-of .ensures)
+returns c = source-by _ _ _ _ _ _ _ (c .before .before .before .usize-of-u16 .ensures .0) (c .before .before .owner-at .ensures) (c .before .usize-of-u8 .ensures .0) (c .view-of .ensures)
 
 pub source-of-spec : {M : Type 1} → statement M
 source-of-spec =
-    tie.close (tie.spec wide16-requires owner-at-requires wide-requires view-of-requires returns)
+    tie.close (tie.spec usize-of-u16-requires owner-at-requires usize-of-u8-requires view-of-requires returns)

@@ -9,8 +9,8 @@ byte-at-requires c κs = search needs
 byte-at-requires-2 : tie.Need-byte-at-requires-2
 byte-at-requires-2 c κs = search needs
 
-wide-requires : tie.Need-wide-requires
-wide-requires c κs = search needs
+u16-of-u8-requires : tie.Need-u16-of-u8-requires
+u16-of-u8-requires c κs = search needs
 
 byte-at-requires-3 : tie.Need-byte-at-requires-3
 byte-at-requires-3 c κs = search needs
@@ -23,7 +23,7 @@ operand-at-requires-2 c κs = search needs
 
 returns : tie.Need-returns
 unfolding format.assignmentOf
-returns c = rw (c .operand-at2 .ensures, c .before .operand-at .ensures, c .before .before .byte-at3 .ensures, c .before .before .before .wide .ensures, c .before .before .before .before .byte-at2 .ensures, c .before .before .before .before .before .byte-at .ensures)
+returns c = rw (c .operand-at2 .ensures, c .before .operand-at .ensures, c .before .before .byte-at3 .ensures, c .before .before .before .u16-of-u8 .ensures .0, c .before .before .before .before .byte-at2 .ensures, c .before .before .before .before .before .byte-at .ensures)
 
 pub assignment-of-spec : {M : Type 1} → statement M
 assignment-of-spec =
@@ -31,7 +31,7 @@ assignment-of-spec =
     (tie.spec
     byte-at-requires
     byte-at-requires-2
-    wide-requires
+    u16-of-u8-requires
     byte-at-requires-3
     operand-at-requires
     operand-at-requires-2

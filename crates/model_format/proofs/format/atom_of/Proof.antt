@@ -12,15 +12,15 @@ byte-at-requires-2 c κs = search needs
 byte-at-requires-3 : tie.Need-byte-at-requires-3
 byte-at-requires-3 c κs = search needs
 
-wide-requires : tie.Need-wide-requires
-wide-requires c κs = search needs
+u16-of-u8-requires : tie.Need-u16-of-u8-requires
+u16-of-u8-requires c κs = search needs
 
 operand-at-requires : tie.Need-operand-at-requires
 operand-at-requires c κs = search needs
 
 returns : tie.Need-returns
 unfolding format.atomOf
-returns c = rw (c .operand-at .ensures, c .before .wide .ensures, c .before .before .byte-at3 .ensures, c .before .before .before .byte-at2 .ensures, c .before .before .before .before .byte-at .ensures)
+returns c = rw (c .operand-at .ensures, c .before .u16-of-u8 .ensures .0, c .before .before .byte-at3 .ensures, c .before .before .before .byte-at2 .ensures, c .before .before .before .before .byte-at .ensures)
 
 pub atom-of-spec : {M : Type 1} → statement M
 atom-of-spec =
@@ -29,6 +29,6 @@ atom-of-spec =
     byte-at-requires
     byte-at-requires-2
     byte-at-requires-3
-    wide-requires
+    u16-of-u8-requires
     operand-at-requires
     returns)

@@ -3,8 +3,8 @@ use borrow.Author.Needs.{needs}
 use Rattle.model_machine.proofs.machine.is_enabled.Statement.{statement}
 use Rattle.model_machine.proofs.machine.is_enabled.Tie as tie
 
-wide-requires : tie.Need-wide-requires
-wide-requires c κs = search needs
+usize-of-u8-requires : tie.Need-usize-of-u8-requires
+usize-of-u8-requires c κs = search needs
 
 can-activate-requires : tie.Need-can-activate-requires
 can-activate-requires c κs = search needs
@@ -34,34 +34,34 @@ can-leave-requires : tie.Need-can-leave-requires
 can-leave-requires c κs = search needs
 
 returns : tie.Need-returns
-returns c = enabled-activate _ _ _ _ (c .before .before .before .before .wide .ensures) _ (c .before .match .keys1) (c .can-activate .ensures)
+returns c = enabled-activate _ _ _ _ (c .before .before .before .before .usize-of-u8 .ensures .0) _ (c .before .match .keys1) (c .can-activate .ensures)
 
 returns-2 : tie.Need-returns-2
-returns-2 c = enabled-deactivate _ _ _ _ (c .before .before .before .before .wide .ensures) _ (c .before .match .keys2) (c .can-deactivate .ensures)
+returns-2 c = enabled-deactivate _ _ _ _ (c .before .before .before .before .usize-of-u8 .ensures .0) _ (c .before .match .keys2) (c .can-deactivate .ensures)
 
 returns-3 : tie.Need-returns-3
-returns-3 c = enabled-dispatch _ _ _ _ (c .before .before .before .before .wide .ensures) _ (c .before .match .keys3) (c .can-dispatch .ensures)
+returns-3 c = enabled-dispatch _ _ _ _ (c .before .before .before .before .usize-of-u8 .ensures .0) _ (c .before .match .keys3) (c .can-dispatch .ensures)
 
 returns-4 : tie.Need-returns-4
-returns-4 c = enabled-start _ _ _ _ (c .before .before .before .before .wide .ensures) _ (c .before .match .keys4) (c .start-fault .ensures)
+returns-4 c = enabled-start _ _ _ _ (c .before .before .before .before .usize-of-u8 .ensures .0) _ (c .before .match .keys4) (c .start-fault .ensures)
 
 returns-5 : tie.Need-returns-5
-returns-5 c = enabled-complete _ _ _ _ (c .before .before .before .before .wide .ensures) _ (c .before .match .keys5) (c .can-complete .ensures)
+returns-5 c = enabled-complete _ _ _ _ (c .before .before .before .before .usize-of-u8 .ensures .0) _ (c .before .match .keys5) (c .can-complete .ensures)
 
 returns-6 : tie.Need-returns-6
-returns-6 c = enabled-deadline _ _ _ _ (c .before .before .before .before .wide .ensures) _ (c .before .match .keys6) (c .can-meet-deadline .ensures)
+returns-6 c = enabled-deadline _ _ _ _ (c .before .before .before .before .usize-of-u8 .ensures .0) _ (c .before .match .keys6) (c .can-meet-deadline .ensures)
 
 returns-7 : tie.Need-returns-7
-returns-7 c = enabled-miss _ _ _ _ (c .before .before .before .before .wide .ensures) _ (c .before .match .keys7) (c .can-miss .ensures)
+returns-7 c = enabled-miss _ _ _ _ (c .before .before .before .before .usize-of-u8 .ensures .0) _ (c .before .match .keys7) (c .can-miss .ensures)
 
 returns-8 : tie.Need-returns-8
-returns-8 c = enabled-request _ _ _ _ (c .before .before .before .wide .ensures) (c .match .keys8)
+returns-8 c = enabled-request _ _ _ _ (c .before .before .before .usize-of-u8 .ensures .0) (c .match .keys8)
 
 returns-9 : tie.Need-returns-9
-returns-9 c = enabled-enter _ _ _ _ (c .before .before .before .before .wide .ensures) _ (c .before .match .keys9) (c .can-enter .ensures)
+returns-9 c = enabled-enter _ _ _ _ (c .before .before .before .before .usize-of-u8 .ensures .0) _ (c .before .match .keys9) (c .can-enter .ensures)
 
 returns-10 : tie.Need-returns-10
-returns-10 c = enabled-leave _ _ _ _ (c .before .before .before .before .wide .ensures) _ (c .before .match .keys10) (c .can-leave .ensures)
+returns-10 c = enabled-leave _ _ _ _ (c .before .before .before .before .usize-of-u8 .ensures .0) _ (c .before .match .keys10) (c .can-leave .ensures)
 
 returns-11 : tie.Need-returns-11
 returns-11 c = let r = c .match .rest in enabled-none _ _ _ (r .0 .0 .0 .0 .0 .0 .0 .0 .0 .1) (r .0 .0 .0 .0 .0 .0 .0 .0 .1) (r .0 .0 .0 .0 .0 .0 .0 .1) (r .0 .0 .0 .0 .0 .0 .1) (r .0 .0 .0 .0 .0 .1) (r .0 .0 .0 .0 .1) (r .0 .0 .0 .1) (r .0 .0 .1) (r .0 .1) (r .1)
@@ -70,7 +70,7 @@ pub is-enabled-spec : {M : Type 1} → statement M
 is-enabled-spec =
     tie.close
     (tie.spec
-    wide-requires
+    usize-of-u8-requires
     can-activate-requires
     can-deactivate-requires
     can-dispatch-requires

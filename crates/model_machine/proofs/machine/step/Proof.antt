@@ -14,8 +14,8 @@ answered-requires c κs = search needs
 returns : tie.Need-returns
 returns c = c .answered .ensures ∙ step-broken _ _ _ _ (c .before .before .is-broken .ensures) (c .before .if1 .taken)
 
-wide-requires : tie.Need-wide-requires
-wide-requires c κs = search needs
+usize-of-u8-requires : tie.Need-usize-of-u8-requires
+usize-of-u8-requires c κs = search needs
 
 can-complete-requires : tie.Need-can-complete-requires
 can-complete-requires c κs = search needs
@@ -27,13 +27,13 @@ answered-requires-2 : tie.Need-answered-requires-2
 answered-requires-2 c κs = search needs
 
 returns-2 : tie.Need-returns-2
-returns-2 c = c .answered2 .ensures ∙ step-complete _ _ _ _ (c .before .before .before .before .before .before .before .before .before .before .is-broken .ensures) (c .before .before .before .before .before .before .before .before .before .if1 .left) (c .before .before .before .before .before .before .if2 .taken) _ (c .before .before .before .before .before .wide .ensures) _ (c .before .before .before .can-complete .ensures) _ (c .before .before .if3 .taken) (c .before .complete .ensures)
+returns-2 c = c .answered2 .ensures ∙ step-complete _ _ _ _ (c .before .before .before .before .before .before .before .before .before .before .is-broken .ensures) (c .before .before .before .before .before .before .before .before .before .if1 .left) (c .before .before .before .before .before .before .if2 .taken) _ (c .before .before .before .before .before .usize-of-u8 .ensures .0) _ (c .before .before .before .can-complete .ensures) _ (c .before .before .if3 .taken) (c .before .complete .ensures)
 
 answered-requires-3 : tie.Need-answered-requires-3
 answered-requires-3 c κs = search needs
 
 returns-3 : tie.Need-returns-3
-returns-3 c = c .answered3 .ensures ∙ step-incomplete _ _ _ _ (c .before .before .before .before .before .before .before .before .before .is-broken .ensures) (c .before .before .before .before .before .before .before .before .if1 .left) (c .before .before .before .before .before .if2 .taken) _ (c .before .before .before .before .wide .ensures) _ (c .before .before .can-complete .ensures) (c .before .if3 .left)
+returns-3 c = c .answered3 .ensures ∙ step-incomplete _ _ _ _ (c .before .before .before .before .before .before .before .before .before .is-broken .ensures) (c .before .before .before .before .before .before .before .before .if1 .left) (c .before .before .before .before .before .if2 .taken) _ (c .before .before .before .before .usize-of-u8 .ensures .0) _ (c .before .before .can-complete .ensures) (c .before .if3 .left)
 
 ticks-requires : tie.Need-ticks-requires
 ticks-requires c κs = search needs
@@ -66,7 +66,7 @@ step-spec =
     is-broken-requires
     answered-requires
     returns
-    wide-requires
+    usize-of-u8-requires
     can-complete-requires
     complete-requires
     answered-requires-2

@@ -24,11 +24,11 @@ start-state-requires c κs = search needs
 loop-holds : tie.Need-loop-holds Inv-loop μ-loop
 loop-holds c = (omega arith, omega arith, tally-begins _ _ _ (c .start-state .ensures))
 
-part-at-requires : tie.Need-part-at-requires Inv-loop μ-loop
-part-at-requires c κs = search needs
+part-length-at-requires : tie.Need-part-length-at-requires Inv-loop μ-loop
+part-length-at-requires c κs = search needs
 
 add-next : tie.Need-add-next Inv-loop μ-loop
-add-next c = let n = next-place notations.Script (c .before .before .before .before .before .before .args .script .now) _ _ (c .before .loop-test .taken) (c .part-at .ensures) in record { fits = omega arith }
+add-next c = let n = next-place notations.Script (c .before .before .before .before .before .before .args .script .now) _ _ (c .before .loop-test .taken) (c .part-length-at .ensures) in record { fits = omega arith }
 
 sub-event-of : tie.Need-sub-event-of Inv-loop μ-loop
 sub-event-of c = search needs
@@ -37,7 +37,7 @@ part-event-of-start : tie.Need-part-event-of-start Inv-loop μ-loop
 part-event-of-start c = search needs
 
 part-event-of-end : tie.Need-part-event-of-end Inv-loop μ-loop
-part-event-of-end c = let n = next-place notations.Script (c .before .before .before .before .before .before .args .script .now) _ _ (c .before .loop-test .taken) (c .part-at .ensures) in omega arith
+part-event-of-end c = let n = next-place notations.Script (c .before .before .before .before .before .before .args .script .now) _ _ (c .before .loop-test .taken) (c .part-length-at .ensures) in omega arith
 
 event-of-requires : tie.Need-event-of-requires Inv-loop μ-loop
 event-of-requires c κs = search needs
@@ -52,19 +52,19 @@ add-taken : tie.Need-add-taken Inv-loop μ-loop
 add-taken c = search needs
 
 loop-less : tie.Need-loop-less Inv-loop μ-loop
-loop-less c = let n = next-place notations.Script (c .before .before .before .before .before .before .before .before .before .before .before .before .args .script .now) _ _ (c .before .before .before .before .before .before .before .loop-test .taken) (c .before .before .before .before .before .before .part-at .ensures) in omega arith
+loop-less c = let n = next-place notations.Script (c .before .before .before .before .before .before .before .before .before .before .before .before .args .script .now) _ _ (c .before .before .before .before .before .before .before .loop-test .taken) (c .before .before .before .before .before .before .part-length-at .ensures) in omega arith
 
 loop-again : tie.Need-loop-again Inv-loop μ-loop
-loop-again c = let n = next-place notations.Script (c .before .before .before .before .before .before .before .before .before .before .before .before .args .script .now) _ _ (c .before .before .before .before .before .before .before .loop-test .taken) (c .before .before .before .before .before .before .part-at .ensures) in (omega arith, n .1, tally-takes _ _ _ _ _ _ (c .before .before .before .before .before .before .before .before .loop .inv .2) _ _ _ (c .before .before .before .before .before .before .before .loop-test .taken) (c .before .before .before .before .before .before .part-at .ensures) (c .before .before .before .before .event-of .ensures) (c .before .before .before .step .ensures) (sym (c .before .is-none .ensures) ∙ c .if1 .taken))
+loop-again c = let n = next-place notations.Script (c .before .before .before .before .before .before .before .before .before .before .before .before .args .script .now) _ _ (c .before .before .before .before .before .before .before .loop-test .taken) (c .before .before .before .before .before .before .part-length-at .ensures) in (omega arith, n .1, tally-takes _ _ _ _ _ _ (c .before .before .before .before .before .before .before .before .loop .inv .2) _ _ _ (c .before .before .before .before .before .before .before .loop-test .taken) (c .before .before .before .before .before .before .part-length-at .ensures) (c .before .before .before .before .event-of .ensures) (c .before .before .before .step .ensures) (sym (c .before .is-none .ensures) ∙ c .if1 .taken))
 
 add-refused : tie.Need-add-refused Inv-loop μ-loop
 add-refused c = search needs
 
 loop-less-2 : tie.Need-loop-less-2 Inv-loop μ-loop
-loop-less-2 c = let n = next-place notations.Script (c .before .before .before .before .before .before .before .before .before .before .before .before .args .script .now) _ _ (c .before .before .before .before .before .before .before .loop-test .taken) (c .before .before .before .before .before .before .part-at .ensures) in omega arith
+loop-less-2 c = let n = next-place notations.Script (c .before .before .before .before .before .before .before .before .before .before .before .before .args .script .now) _ _ (c .before .before .before .before .before .before .before .loop-test .taken) (c .before .before .before .before .before .before .part-length-at .ensures) in omega arith
 
 loop-again-2 : tie.Need-loop-again-2 Inv-loop μ-loop
-loop-again-2 c = let n = next-place notations.Script (c .before .before .before .before .before .before .before .before .before .before .before .before .args .script .now) _ _ (c .before .before .before .before .before .before .before .loop-test .taken) (c .before .before .before .before .before .before .part-at .ensures) in (omega arith, n .1, tally-refuses _ _ _ _ _ _ (c .before .before .before .before .before .before .before .before .loop .inv .2) _ _ _ (c .before .before .before .before .before .before .before .loop-test .taken) (c .before .before .before .before .before .before .part-at .ensures) (c .before .before .before .before .event-of .ensures) (c .before .before .before .step .ensures) (sym (c .before .is-none .ensures) ∙ c .if1 .left))
+loop-again-2 c = let n = next-place notations.Script (c .before .before .before .before .before .before .before .before .before .before .before .before .args .script .now) _ _ (c .before .before .before .before .before .before .before .loop-test .taken) (c .before .before .before .before .before .before .part-length-at .ensures) in (omega arith, n .1, tally-refuses _ _ _ _ _ _ (c .before .before .before .before .before .before .before .before .loop .inv .2) _ _ _ (c .before .before .before .before .before .before .before .loop-test .taken) (c .before .before .before .before .before .before .part-length-at .ensures) (c .before .before .before .before .event-of .ensures) (c .before .before .before .step .ensures) (sym (c .before .is-none .ensures) ∙ c .if1 .left))
 
 returns : tie.Need-returns Inv-loop μ-loop
 returns c = tally-ends _ _ _ _ _ _ (c .before .loop .inv .2) (c .loop-test .left)
@@ -77,7 +77,7 @@ run-on-spec =
     μ-loop
     start-state-requires
     loop-holds
-    part-at-requires
+    part-length-at-requires
     add-next
     sub-event-of
     part-event-of-start

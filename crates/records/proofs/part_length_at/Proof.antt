@@ -1,8 +1,8 @@
 use mathlib.Core.Path.{_∙_}
 use borrow.Author.Needs.{needs}
 use Rattle.records.specs.Laws.{length-at, length-past}
-use Rattle.records.proofs.part_at.Statement.{statement}
-use Rattle.records.proofs.part_at.Tie as tie
+use Rattle.records.proofs.part_length_at.Statement.{statement}
+use Rattle.records.proofs.part_length_at.Tie as tie
 
 shared-slice-read-k : tie.Need-shared-slice-read-k
 shared-slice-read-k c = search needs
@@ -19,6 +19,6 @@ returns c = c .part-length .ensures ∙ length-at _ (c .before .before .before .
 returns-2 : tie.Need-returns-2
 returns-2 c = length-past _ (c .before .before .args .s .now) _ (c .if1 .left)
 
-pub part-at-spec : {M : Type 1} → statement M
-part-at-spec =
+pub part-length-at-spec : {M : Type 1} → statement M
+part-length-at-spec =
     tie.close (tie.spec shared-slice-read-k sub-part-length part-length-requires returns returns-2)
