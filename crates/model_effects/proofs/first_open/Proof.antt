@@ -50,7 +50,7 @@ loop-again c = (
   omega arith,
   below-more _ _ (c .before .before .before .before .loop .inv .1)
       (⊎-elim
-      (λ v. open-is (c .before .before .before .before .before .args .t2) (c .before .before .before .before .before .args .atom) (c .before .before .before .before .before .args .p) _ _ _ _ _ (⊎-elim (λ w. transition-within (c .before .before .before .before .before .args .t2) _ _ (w .0 .taken) (w .2)) (λ w. transition-past (c .before .before .before .before .before .args .t2) _ _ (w .0 .left) (w .2 ∙ w .1 .ensures)) (c .before .before .if1 .came)) (c .before .leaves .ensures) _ _ _ (v .0 .taken) (v .1 .ensures) (v .2 .ensures) (v .3 .left))
+      (λ v. open-is (c .before .before .before .before .before .args .t2) (c .before .before .before .before .before .args .atom) (c .before .before .before .before .before .args .p) _ _ _ _ _ (⊎-elim (λ w. transition-within (c .before .before .before .before .before .args .t2) _ _ (w .0 .taken) (w .2)) (λ w. transition-past (c .before .before .before .before .before .args .t2) _ _ (w .0 .left) (w .2 ∙ w .1 .ensures)) (c .before .before .if1 .came)) (c .before .leaves .ensures) _ _ _ (v .0 .taken) (v .1 .ensures .0) (v .2 .ensures) (v .3 .left))
       (λ v. open-not (c .before .before .before .before .before .args .t2) (c .before .before .before .before .before .args .atom) (c .before .before .before .before .before .args .p) _ _ _ _ _ (⊎-elim (λ w. transition-within (c .before .before .before .before .before .args .t2) _ _ (w .0 .taken) (w .2)) (λ w. transition-past (c .before .before .before .before .before .args .t2) _ _ (w .0 .left) (w .2 ∙ w .1 .ensures)) (c .before .before .if1 .came)) (c .before .leaves .ensures) (v .left))
       (c .if2 .came)),
 )

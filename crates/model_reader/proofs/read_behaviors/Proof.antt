@@ -23,7 +23,7 @@ use Rattle.model_reader.proofs.read_behaviors.Reads as reads
 use Rattle.model_reader.proofs.read_behaviors.Lts as lts
 use Rattle.model_causes.proofs.behavior_cause.Reads as behavior-cause-reads
 use Rattle.model_causes.proofs.owners_of.Reads as owners-of-reads
-use Rattle.model_causes.proofs.usize-of-u8.Reads as small-reads
+use Rattle.numbers.proofs.usize_of_u8.Reads as usize-of-u8-reads
 use Rattle.model_format.proofs.kind_of.Reads as kind-of-reads
 use Rattle.model_reader.proofs.counted.Reads as counted-reads
 use Rattle.model_reader.proofs.end_at.Reads as end-at-reads
@@ -44,7 +44,7 @@ abbrev μ-loop : tie.MeasureT-loop
 μ-loop s from t o b₀ n₀ at₀ b n at = length s - at
 
 abbrev claims : lts.Claims
-claims = (owners-of-reads.Asked, owners-of-reads.Learnt, record-at-reads.Asked, record-at-reads.Learnt, last-of-reads.Asked, last-of-reads.Learnt, two-reads.Asked, two-reads.Learnt, four-reads.Asked, four-reads.Learnt, behavior-cause-reads.Asked, behavior-cause-reads.Learnt, is-none-reads.Asked, is-none-reads.Learnt, end-at-reads.Asked, end-at-reads.Learnt, refused-reads.Asked, refused-reads.Learnt, kind-of-reads.Asked, kind-of-reads.Learnt, counted-reads.Asked, counted-reads.Learnt, transitions-after-reads.Asked, transitions-after-reads.Learnt, with-counts-reads.Asked, with-counts-reads.Learnt, small-reads.Asked, small-reads.Learnt, finished-reads.Asked, finished-reads.Learnt)
+claims = (owners-of-reads.Asked, owners-of-reads.Learnt, record-at-reads.Asked, record-at-reads.Learnt, last-of-reads.Asked, last-of-reads.Learnt, two-reads.Asked, two-reads.Learnt, four-reads.Asked, four-reads.Learnt, behavior-cause-reads.Asked, behavior-cause-reads.Learnt, is-none-reads.Asked, is-none-reads.Learnt, end-at-reads.Asked, end-at-reads.Learnt, refused-reads.Asked, refused-reads.Learnt, kind-of-reads.Asked, kind-of-reads.Learnt, counted-reads.Asked, counted-reads.Learnt, transitions-after-reads.Asked, transitions-after-reads.Learnt, with-counts-reads.Asked, with-counts-reads.Learnt, usize-of-u8-reads.Asked, usize-of-u8-reads.Learnt, finished-reads.Asked, finished-reads.Learnt)
 
 -- ---- c is the cause, and the record passes
 cause : (c : lts.After-behavior-cause claims reads.Pre reads.Post Inv-loop μ-loop) → c .behavior-cause .result ≡ causeOf (standing (c .before .before .before .before .before .before .before .before .before .before .before .before .before .loop .n) (c .before .before .before .before .before .before .before .before .before .before .before .before .before .before .before .before .args .t) (c .before .before .before .before .before .before .before .before .before .before .before .before .before .loop .b)) (c .before .before .before .before .before .before .before .before .before .before .before .record-at .result)
