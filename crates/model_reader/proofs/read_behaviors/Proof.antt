@@ -89,8 +89,8 @@ added c =
     let i = c .before .before .before .before .before .before .behavior-cause .ensures in
     let p = passes (c .before .before .before .before) in
     ⊎-elim (λ w. transition-added _ _ (c .before .before .before .before .before .before .before .before .before .before .before .before .before .before .before .before .before .before .before .before .before .before .args .t) _ _ _ _ _ _ _ e k u h g refl _ (w .1 .given .1) (transition-room _ _ _ _ _ _ _ i p _ (w .1 .given .1)) (w .3))
-    (⊎-elim (λ w. atom-added _ _ (c .before .before .before .before .before .before .before .before .before .before .before .before .before .before .before .before .before .before .before .before .before .before .args .t) _ _ _ _ _ _ _ e k u h g refl _ _ _ (w .1 .given .1) (atom-room _ _ _ _ _ _ _ i p _ (w .1 .given .1)) (w .4 .ensures) (w .5 .ensures) (w .6))
-    (⊎-elim (λ w. assignment-added _ _ (c .before .before .before .before .before .before .before .before .before .before .before .before .before .before .before .before .before .before .before .before .before .before .args .t) _ _ _ _ _ _ _ e k u h g refl _ _ _ (w .1 .given .1) (assignment-room _ _ _ _ _ _ _ i p _ (w .1 .given .1)) (w .4 .ensures) (w .5 .ensures) (w .6))
+    (⊎-elim (λ w. atom-added _ _ (c .before .before .before .before .before .before .before .before .before .before .before .before .before .before .before .before .before .before .before .before .before .before .args .t) _ _ _ _ _ _ _ e k u h g refl _ _ _ (w .1 .given .1) (atom-room _ _ _ _ _ _ _ i p _ (w .1 .given .1)) (w .4 .ensures) (w .5 .ensures .0) (w .6))
+    (⊎-elim (λ w. assignment-added _ _ (c .before .before .before .before .before .before .before .before .before .before .before .before .before .before .before .before .before .before .before .before .before .before .args .t) _ _ _ _ _ _ _ e k u h g refl _ _ _ (w .1 .given .1) (assignment-room _ _ _ _ _ _ _ i p _ (w .1 .given .1)) (w .4 .ensures) (w .5 .ensures .0) (w .6))
     (λ w. absurd (other-kind _ (tag-other _ (w .0 .keys4)) (behavior-late _ _ _ _ _ _ _ i p))))) (c .match .came)
 
 owners-of-requires : tie.Need-owners-of-requires Inv-loop μ-loop
