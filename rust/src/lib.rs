@@ -9,9 +9,14 @@
 //! * [`run_model`], [`run_table`]: a script up to its first refused event
 //! * [`model_listing`], [`table_listing`]: the lines of such a run
 //! * [`Table`]: one event after another on variables of one's own, in any order
+//! * [`refusals`]: what each refusal means, in words
 //! * [`raw`]: the same functions with outputs of any length
 
+use std::error::Error;
+use std::fmt;
+
 pub mod raw;
+pub mod refusals;
 
 /// A refusal by its number in document 01, and the part that it returns, from
 /// offset `start` up to but not with `end`. The part lies in the model or table
@@ -31,7 +36,30 @@ impl Refusal {
             _ => Err(Refusal { number, start, end }),
         }
     }
+
+    /// Why it was refused, in words.
+    pub fn cause(&self) -> &'static str {
+        refusals::meaning_of(self.number).map_or("a refusal without a name", |found| found.cause)
+    }
+
+    /// What to do about it, in words.
+    pub fn remedy(&self) -> &'static str {
+        refusals::meaning_of(self.number).map_or("look at the part refused", |found| found.remedy)
+    }
 }
+
+impl fmt::Display for Refusal {
+    fn fmt(&self, f: &mut fmt::Formatter) -> fmt::Result {
+        let Refusal { number, start, end } = self;
+        let (cause, remedy) = (self.cause(), self.remedy());
+        write!(
+            f,
+            "refused {number} at bytes {start} to {end}: {cause} ({remedy})"
+        )
+    }
+}
+
+impl Error for Refusal {}
 
 /// A run up to its end or to its first refusal.
 #[derive(Clone, Copy, Debug, PartialEq, Eq)]

@@ -1,0 +1,456 @@
+//! The layout of models, tables and scripts, as data: every kind with its
+//! fields is told here and nowhere else.
+
+/// What is numbered from 0 in the order of its records.
+#[derive(Clone, Copy, Debug, PartialEq, Eq)]
+pub enum Item {
+    Head,
+    Mode,
+    Thread,
+    Input,
+    Output,
+    Local,
+    Connection,
+    Transition,
+    Behaviour,
+    Guard,
+    Assignment,
+    Start,
+    Rule,
+    Clause,
+    Atom,
+    Update,
+    Event,
+}
+
+impl Item {
+    /// The word for it in texts, messages and files of names.
+    pub fn word(self) -> &'static str {
+        match self {
+            Item::Head => "head",
+            Item::Mode => "mode",
+            Item::Thread => "thread",
+            Item::Input => "input",
+            Item::Output => "output",
+            Item::Local => "local",
+            Item::Connection => "connection",
+            Item::Transition => "transition",
+            Item::Behaviour => "behaviour",
+            Item::Guard => "guard atom",
+            Item::Assignment => "assignment",
+            Item::Start => "start",
+            Item::Rule => "rule",
+            Item::Clause => "clause",
+            Item::Atom => "atom",
+            Item::Update => "update",
+            Item::Event => "event",
+        }
+    }
+}
+
+/// The items that a file of names may name.
+pub const NAMED: &[Item] = &[
+    Item::Thread,
+    Item::Mode,
+    Item::Input,
+    Item::Output,
+    Item::Local,
+    Item::Connection,
+    Item::Transition,
+    Item::Behaviour,
+];
+
+/// How a field of a plain line is written.
+#[derive(Clone, Copy, Debug, PartialEq, Eq)]
+pub enum Form {
+    /// Its word and its number.
+    Number,
+    /// Likewise, with a sign.
+    Signed,
+    /// Its word and the modes of a mask: `modes 0,2`, `modes none`.
+    Modes,
+    /// One of these words; another value has the field's word before it.
+    Choice(&'static [&'static str]),
+    /// Its word alone for 1, nothing for 0; another value behind the word.
+    Mark,
+    /// Nothing for 0.
+    UnlessZero,
+}
+
+/// What a field must be. The library decides; this only tells people which
+/// field it was.
+#[derive(Clone, Copy, Debug, PartialEq, Eq)]
+pub enum Must {
+    Free,
+    Within(i64, i64),
+    /// From 1 to the value of the field with this word.
+    UpTo(&'static str),
+    /// The number of a mode, or of an item that stands before.
+    Names(Item),
+    /// A mask of modes that are there.
+    Mask,
+    /// One of these tags.
+    Tag(&'static [i64]),
+    /// A number that the tag in front of it gives its meaning.
+    Tagged,
+    /// A variable that is there.
+    Variable,
+    /// Likewise, and not the clock.
+    Target,
+    /// Likewise, and above the one started before.
+    Rising,
+    /// A variable, or 65,535 for none.
+    Condition,
+    /// 0 but for START, where it is at most the longest time.
+    Length,
+}
+
+#[derive(Debug)]
+pub struct Field {
+    pub word: &'static str,
+    pub bytes: usize,
+    pub form: Form,
+    pub must: Must,
+}
+
+/// How a record is written as text.
+#[derive(Clone, Copy, Debug, PartialEq, Eq)]
+pub enum Layout {
+    /// The kind's word, the item's number, then field by field.
+    Plain,
+    /// `if LEFT OP RIGHT`
+    Guard,
+    /// `set TARGET := FIRST OP SECOND`
+    Assignment,
+    /// `start VARIABLE := VALUE`
+    Start,
+    /// `rule NUMBER EVENT ID length LOW..HIGH`
+    Rule,
+    /// `if` or `and`, with the atoms that follow.
+    Clause,
+    /// `VARIABLE OP OPERAND`
+    Atom,
+    /// `then` or `⊗`, `TARGET := FIRST OP SECOND if CONDITION = WANTED`
+    Update,
+}
+
+#[derive(Debug)]
+pub struct Kind {
+    pub byte: u8,
+    /// The first word of its line.
+    pub word: &'static str,
+    pub item: Item,
+    /// The item that it belongs to; it is numbered anew for each of those.
+    pub within: Option<Item>,
+    /// How many there may be, where that is limited.
+    pub limit: Option<usize>,
+    pub layout: Layout,
+    pub fields: &'static [Field],
+}
+
+impl Kind {
+    pub fn body(&self) -> usize {
+        self.fields.iter().map(|field| field.bytes).sum()
+    }
+}
+
+/// One sort of file.
+#[derive(Debug)]
+pub struct Format {
+    /// The first line of its text.
+    pub name: &'static str,
+    pub kinds: &'static [Kind],
+}
+
+impl Format {
+    pub fn kind(&self, byte: u8) -> Option<&'static Kind> {
+        self.kinds.iter().find(|kind| kind.byte == byte)
+    }
+}
+
+pub static FORMATS: [&Format; 3] = [&MODEL, &TABLE, &SCRIPT];
+
+/// The longest Period, Deadline, Min and Max, and START's longest length.
+pub const LONGEST: i64 = 1_000_000;
+/// Variables of a table lie below this.
+pub const VARIABLES: i64 = futonkestrel::VARIABLES as i64;
+/// The condition variable of an update without a condition.
+pub const NO_CONDITION: i64 = 65_535;
+/// Pending and Cpu where there is none.
+pub const NONE: i64 = 255;
+/// Event kinds that are asked for by themselves.
+pub const START: u8 = 0x04;
+pub const REQUEST: u8 = 0x08;
+pub const TICK: u8 = 0x0B;
+
+/// Signs of comparisons by their op; 6 and 7 ask for multiples.
+pub const COMPARISONS: [&str; 6] = ["=", "!=", "<", ">=", ">", "<="];
+pub const MULTIPLE: i64 = 6;
+pub const NO_MULTIPLE: i64 = 7;
+/// Other signs that are read as comparisons.
+pub const OTHER_SIGNS: [(&str, i64); 3] = [("≠", 1), ("≥", 3), ("≤", 5)];
+/// Signs of sums by their op; 0 copies the first operand.
+pub const SUMS: [&str; 3] = ["", "+", "-"];
+
+/// Words of a model's tags; 0 is a constant and has none.
+pub const TAGS: [(i64, Item); 3] = [(1, Item::Input), (2, Item::Local), (3, Item::Output)];
+
+const fn field(word: &'static str, bytes: usize, form: Form, must: Must) -> Field {
+    Field {
+        word,
+        bytes,
+        form,
+        must,
+    }
+}
+
+/// An item of a model, with at most so many.
+const fn plain(
+    byte: u8,
+    item: Item,
+    word: &'static str,
+    limit: usize,
+    fields: &'static [Field],
+) -> Kind {
+    Kind {
+        byte,
+        word,
+        item,
+        within: None,
+        limit: Some(limit),
+        layout: Layout::Plain,
+        fields,
+    }
+}
+
+const fn part(
+    byte: u8,
+    item: Item,
+    within: Option<Item>,
+    layout: Layout,
+    fields: &'static [Field],
+) -> Kind {
+    Kind {
+        byte,
+        word: "",
+        item,
+        within,
+        limit: None,
+        layout,
+        fields,
+    }
+}
+
+const fn event(byte: u8, word: &'static str, fields: &'static [Field]) -> Kind {
+    Kind {
+        byte,
+        word,
+        item: Item::Event,
+        within: None,
+        limit: None,
+        layout: Layout::Plain,
+        fields,
+    }
+}
+
+use Form::{Choice, Mark, Modes, Number, Signed, UnlessZero};
+use Must::{
+    Condition, Free, Length, Mask, Names, Rising, Tag, Tagged, Target, UpTo, Variable, Within,
+};
+
+const OWNER: Field = field("thread", 1, Number, Names(Item::Thread));
+const MASK: Field = field("modes", 1, Modes, Mask);
+const OP: Field = field("op", 1, Number, Within(0, 2));
+const MODEL_TAG: Field = field("tag", 1, Number, Tag(&[0, 1, 2]));
+const TABLE_TAG: Field = field("tag", 1, Number, Tag(&[0, 1, 2]));
+const NUMBER: Field = field("number", 4, Signed, Tagged);
+
+pub static MODEL: Format = Format {
+    name: "model",
+    kinds: &[
+        plain(
+            0x01,
+            Item::Head,
+            "head",
+            1,
+            &[
+                field("modes", 1, Number, Within(1, 8)),
+                field("initial", 1, Number, Names(Item::Mode)),
+            ],
+        ),
+        plain(
+            0x02,
+            Item::Thread,
+            "thread",
+            16,
+            &[
+                field("period", 4, Number, Within(1, LONGEST)),
+                field("deadline", 4, Number, UpTo("period")),
+                field("min", 4, Number, UpTo("max")),
+                field("max", 4, Number, Within(1, LONGEST)),
+                MASK,
+                field("critical", 1, Mark, Within(0, 1)),
+                field("first state", 1, UnlessZero, Within(0, 7)),
+            ],
+        ),
+        plain(0x03, Item::Input, "input", 32, &[OWNER]),
+        plain(0x04, Item::Output, "output", 32, &[OWNER]),
+        plain(
+            0x05,
+            Item::Local,
+            "local",
+            32,
+            &[OWNER, field("start", 4, Signed, Free)],
+        ),
+        plain(
+            0x06,
+            Item::Connection,
+            "connection",
+            32,
+            &[
+                field("type", 1, Choice(&["immediate", "delayed"]), Within(0, 1)),
+                field("output", 1, Number, Names(Item::Output)),
+                field("to input", 1, Number, Names(Item::Input)),
+                MASK,
+            ],
+        ),
+        plain(
+            0x07,
+            Item::Transition,
+            "transition",
+            16,
+            &[
+                field("from mode", 1, Number, Names(Item::Mode)),
+                field("to mode", 1, Number, Names(Item::Mode)),
+            ],
+        ),
+        plain(
+            0x08,
+            Item::Behaviour,
+            "behaviour",
+            64,
+            &[
+                OWNER,
+                field("from state", 1, Number, Within(0, 7)),
+                field("to state", 1, Number, Within(0, 7)),
+            ],
+        ),
+        Kind {
+            word: "if",
+            limit: Some(4),
+            ..part(
+                0x09,
+                Item::Guard,
+                Some(Item::Behaviour),
+                Layout::Guard,
+                &[
+                    field("op", 1, Number, Within(0, 5)),
+                    field("left tag", 1, Number, Tag(&[1, 2])),
+                    field("number", 1, Number, Tagged),
+                    MODEL_TAG,
+                    NUMBER,
+                ],
+            )
+        },
+        Kind {
+            word: "set",
+            limit: Some(4),
+            ..part(
+                0x0A,
+                Item::Assignment,
+                Some(Item::Behaviour),
+                Layout::Assignment,
+                &[
+                    field("target tag", 1, Number, Tag(&[2, 3])),
+                    field("number", 1, Number, Tagged),
+                    OP,
+                    MODEL_TAG,
+                    NUMBER,
+                    MODEL_TAG,
+                    NUMBER,
+                ],
+            )
+        },
+    ],
+};
+
+pub static TABLE: Format = Format {
+    name: "table",
+    kinds: &[
+        part(
+            0x20,
+            Item::Start,
+            None,
+            Layout::Start,
+            &[
+                field("variable", 2, Number, Rising),
+                field("value", 4, Signed, Free),
+            ],
+        ),
+        part(
+            0x21,
+            Item::Rule,
+            None,
+            Layout::Rule,
+            &[
+                field("event kind", 1, Number, Within(0x01, 0x0A)),
+                field("id", 1, Number, Free),
+                field("low", 4, Number, Length),
+                field("high", 4, Number, Length),
+            ],
+        ),
+        part(0x22, Item::Clause, Some(Item::Rule), Layout::Clause, &[]),
+        part(
+            0x23,
+            Item::Atom,
+            Some(Item::Clause),
+            Layout::Atom,
+            &[
+                field("op", 1, Number, Within(0, 7)),
+                field("variable", 2, Number, Variable),
+                field("tag", 1, Number, Tag(&[0, 1])),
+                NUMBER,
+            ],
+        ),
+        part(
+            0x24,
+            Item::Update,
+            Some(Item::Rule),
+            Layout::Update,
+            &[
+                field("condition", 2, Number, Condition),
+                field("wanted", 1, Number, Free),
+                field("target", 2, Number, Target),
+                OP,
+                TABLE_TAG,
+                NUMBER,
+                TABLE_TAG,
+                NUMBER,
+            ],
+        ),
+    ],
+};
+
+const OF_THREAD: Field = field("thread", 1, Number, Names(Item::Thread));
+const OF_TRANSITION: Field = field("transition", 1, Number, Names(Item::Transition));
+
+pub static SCRIPT: Format = Format {
+    name: "script",
+    kinds: &[
+        event(0x01, "ACTIVATE", &[OF_THREAD]),
+        event(0x02, "DEACTIVATE", &[OF_THREAD]),
+        event(0x03, "DISPATCH", &[OF_THREAD]),
+        event(
+            START,
+            "START",
+            &[OF_THREAD, field("for", 4, Number, Length)],
+        ),
+        event(0x05, "COMPLETE", &[OF_THREAD]),
+        event(0x06, "DEADLINE", &[OF_THREAD]),
+        event(0x07, "MISS", &[OF_THREAD]),
+        event(REQUEST, "REQUEST", &[OF_TRANSITION]),
+        event(0x09, "ENTER", &[OF_TRANSITION]),
+        event(0x0A, "LEAVE", &[OF_TRANSITION]),
+        event(TICK, "TICK", &[field("", 2, Number, Within(1, 65_535))]),
+    ],
+};

@@ -1,0 +1,357 @@
+//! A table with its variables: what can happen next, and why something cannot.
+//! A model is looked at by its table, which takes the same events: that is
+//! proved.
+
+use futonkestrel::{Table, Variables};
+
+use crate::format::{
+    Item, COMPARISONS, MULTIPLE, NO_MULTIPLE, REQUEST, SCRIPT, START, TABLE, TICK,
+};
+use crate::names::Names;
+use crate::record::{records, Record};
+use crate::text;
+use crate::variables;
+
+/// The most ticks that one event has.
+const MOST_TICKS: u16 = u16::MAX;
+/// How many such events are tried to find what comes next: longer than any period.
+const TRIES: usize = 32;
+
+struct Rule {
+    event: u8,
+    id: u8,
+    low: u32,
+    high: u32,
+    clauses: Vec<Vec<Atom>>,
+}
+
+/// Op, variable, and the operand's tag and number.
+type Atom = [i64; 4];
+
+pub struct Machine<'a> {
+    table: Table<'a>,
+    rules: Vec<Rule>,
+    pub variables: Variables,
+}
+
+impl<'a> Machine<'a> {
+    /// The table at its start.
+    pub fn new(table: Table<'a>) -> Machine<'a> {
+        Machine {
+            table,
+            rules: rules(table.bytes()),
+            variables: table.start(),
+        }
+    }
+
+    /// Gives one event; 0, or the number of its refusal, which changes nothing.
+    pub fn step(&mut self, event: &[u8]) -> u32 {
+        self.table
+            .step(&mut self.variables, event)
+            .err()
+            .unwrap_or(0)
+    }
+
+    fn clock(&self) -> i32 {
+        self.variables[0]
+    }
+
+    /// Whether the event would be taken.
+    fn takes(&self, variables: &Variables, event: &[u8]) -> bool {
+        self.table.step(&mut variables.clone(), event).is_ok()
+    }
+
+    /// The events that are enabled, REQUEST and TICK aside, in words.
+    fn enabled(&self, variables: &Variables, names: &Names) -> Vec<String> {
+        let mut found: Vec<String> = Vec::new();
+        for rule in self.rules.iter().filter(|rule| rule.event != REQUEST) {
+            if self.takes(variables, &rule.shortest()) {
+                found.push(rule.words(names));
+            }
+        }
+        found.dedup();
+        found
+    }
+
+    /// The variables as many ticks later as can pass, and whether something stops them there.
+    fn later(&self) -> (Variables, bool) {
+        let mut variables = self.variables;
+        for _ in 0..TRIES {
+            let most = self.most_ticks(&variables, MOST_TICKS);
+            if most > 0 {
+                let _ = self.table.step(&mut variables, &tick(most));
+            }
+            if most < MOST_TICKS {
+                return (variables, true);
+            }
+        }
+        (variables, false)
+    }
+
+    /// The most ticks, up to `limit`, that can pass at once.
+    fn most_ticks(&self, variables: &Variables, limit: u16) -> u16 {
+        let (mut taken, mut refused) = (0, u32::from(limit) + 1);
+        while taken + 1 < refused {
+            let middle = (taken + refused) / 2;
+            if self.takes(variables, &tick(middle as u16)) {
+                taken = middle;
+            } else {
+                refused = middle;
+            }
+        }
+        taken as u16
+    }
+
+    /// What is enabled instead of a refused event, or due later.
+    fn instead(&self, names: &Names) -> String {
+        let enabled = self.enabled(&self.variables, names);
+        if !enabled.is_empty() {
+            return format!("{} enabled", listed(&enabled));
+        }
+        let (later, stopped) = self.later();
+        let due = self.enabled(&later, names);
+        if stopped && !due.is_empty() {
+            return format!("{} due at clock {}", listed(&due), later[0]);
+        }
+        "nothing but TICK and REQUEST is enabled".to_string()
+    }
+
+    /// A refused event: the line about it, and why it was refused where that can be told.
+    pub fn refused(&self, event: &Record, number: u32, names: &Names) -> Vec<String> {
+        let shown = event_words(event.bytes, names);
+        let clock = self.clock();
+        let mut lines = Vec::new();
+        let instead = match number {
+            9 => broken(event),
+            11 => "the last clock is 1000000000".to_string(),
+            12 => format!("rules {} are enabled", self.enabled_rules(event.bytes)),
+            13 => format!(
+                "rule {} sets a variable twice",
+                self.enabled_rules(event.bytes)
+            ),
+            _ => {
+                lines.extend(self.why_not(event.bytes));
+                self.instead(names)
+            }
+        };
+        lines.insert(
+            0,
+            format!("{shown} refused ({number}) at clock {clock}: {instead}"),
+        );
+        lines
+    }
+
+    /// What an event still lacks.
+    fn why_not(&self, event: &[u8]) -> Option<String> {
+        let (kind, id) = (event[0], event[1]);
+        if kind == TICK {
+            return None;
+        }
+        let own: Vec<&Rule> = self
+            .rules
+            .iter()
+            .filter(|rule| (rule.event, rule.id) == (kind, id))
+            .collect();
+        if own.is_empty() {
+            let item = SCRIPT.kind(kind).map_or("", |kind| kind.fields[0].word);
+            return Some(format!("there is no {item} {id}"));
+        }
+        // Of several rules the one that lacks least.
+        let failing = |rule: &Rule| {
+            rule.clauses
+                .iter()
+                .filter(|clause| !self.holds(clause))
+                .map(|clause| self.lacks(clause))
+                .collect::<Vec<_>>()
+        };
+        let least = own.iter().map(|rule| failing(rule)).min_by_key(Vec::len)?;
+        if !least.is_empty() {
+            return Some(format!("it wants {}", least.join(" and ")));
+        }
+        let outside = own
+            .iter()
+            .find(|rule| failing(rule).is_empty() && !rule.allows(event))?;
+        Some(format!(
+            "its length must be from {} to {}",
+            outside.low, outside.high
+        ))
+    }
+
+    fn holds(&self, clause: &[Atom]) -> bool {
+        clause.iter().any(|atom| self.atom_holds(atom))
+    }
+
+    fn value(&self, variable: i64) -> i64 {
+        let found = usize::try_from(variable)
+            .ok()
+            .and_then(|variable| self.variables.get(variable));
+        found.map_or(0, |value| i64::from(*value))
+    }
+
+    fn atom_holds(&self, &[op, variable, tag, number]: &Atom) -> bool {
+        let left = self.value(variable);
+        let right = if tag == 1 { self.value(number) } else { number };
+        match op {
+            0 => left == right,
+            1 => left != right,
+            2 => left < right,
+            3 => left >= right,
+            4 => left > right,
+            5 => left <= right,
+            MULTIPLE => right != 0 && left % right == 0,
+            NO_MULTIPLE => right != 0 && left % right != 0,
+            _ => false,
+        }
+    }
+
+    /// A clause that fails, with the values that it looks at.
+    fn lacks(&self, clause: &[Atom]) -> String {
+        let atoms: Vec<String> = clause
+            .iter()
+            .map(|&[op, variable, tag, number]| text::atom(op, variable, tag, number))
+            .collect();
+        let mut seen: Vec<i64> = Vec::new();
+        for &[_, variable, tag, number] in clause {
+            seen.push(variable);
+            seen.extend((tag == 1).then_some(number));
+        }
+        seen.sort_unstable();
+        seen.dedup();
+        let value = |variable: &i64| {
+            let value = variables::constant(*variable, self.value(*variable));
+            format!("{} is {value}", variables::name(*variable))
+        };
+        let values: Vec<String> = seen.iter().map(value).collect();
+        format!("{} ({})", atoms.join(" or "), values.join(", "))
+    }
+
+    /// The numbers of the rules that are enabled for an event.
+    fn enabled_rules(&self, event: &[u8]) -> String {
+        let own = self
+            .rules
+            .iter()
+            .zip(0..)
+            .filter(|(rule, _)| (rule.event, rule.id) == (event[0], event[1]));
+        let enabled = own.filter(|(rule, _)| rule.clauses.iter().all(|clause| self.holds(clause)));
+        enabled
+            .map(|(_, number): (_, usize)| number.to_string())
+            .collect::<Vec<_>>()
+            .join(" and ")
+    }
+}
+
+impl Rule {
+    /// The event it is for, of the shortest length.
+    fn shortest(&self) -> Vec<u8> {
+        let mut event = vec![self.event, self.id];
+        if self.event == START {
+            event.extend(self.low.to_le_bytes());
+        }
+        event
+    }
+
+    fn allows(&self, event: &[u8]) -> bool {
+        let length = event
+            .get(2..6)
+            .and_then(|bytes| bytes.try_into().ok())
+            .map(u32::from_le_bytes);
+        length.is_none_or(|length| (self.low..=self.high).contains(&length))
+    }
+
+    fn words(&self, names: &Names) -> String {
+        let event = short_words(self.event, i64::from(self.id), names);
+        match self.event {
+            START if self.low == self.high => format!("{event} for {}", self.low),
+            START => format!("{event} for {} to {}", self.low, self.high),
+            _ => event,
+        }
+    }
+}
+
+fn tick(ticks: u16) -> Vec<u8> {
+    [&[TICK], &ticks.to_le_bytes()[..]].concat()
+}
+
+/// `DISPATCH 0`, or with the item's own name.
+fn short_words(event: u8, id: i64, names: &Names) -> String {
+    let Some(kind) = SCRIPT.kind(event) else {
+        return format!("event {event:02x}");
+    };
+    match item_of_event(event).and_then(|item| names.of(item, id)) {
+        Some(own) => format!("{} {own}", kind.word),
+        None => format!("{} {id}", kind.word),
+    }
+}
+
+/// What the first field of an event names.
+pub fn item_of_event(event: u8) -> Option<Item> {
+    let word = SCRIPT.kind(event)?.fields[0].word;
+    [Item::Thread, Item::Transition]
+        .into_iter()
+        .find(|item| item.word() == word)
+}
+
+/// An event in few words, as it is told in messages.
+fn event_words(event: &[u8], names: &Names) -> String {
+    let whole = records(&SCRIPT, event);
+    let Some((kind, values)) = whole.first().and_then(Record::whole) else {
+        return format!("event of kind {:02x}", event[0]);
+    };
+    let short = short_words(event[0], values[0], names);
+    match values.get(1) {
+        Some(length) => format!("{short} {} {length}", kind.fields[1].word),
+        None => short,
+    }
+}
+
+/// Why an event is none.
+fn broken(event: &Record) -> String {
+    match (event.kind, &event.values) {
+        (None, _) => format!("no event has the kind {:02x}", event.bytes[0]),
+        (Some(kind), None) => format!(
+            "{} has {} bytes, and {} are left",
+            kind.word,
+            1 + kind.body(),
+            event.bytes.len()
+        ),
+        _ => "a TICK has at least 1".to_string(),
+    }
+}
+
+/// `A is`, `A and B are`.
+fn listed(words: &[String]) -> String {
+    match words {
+        [] => String::new(),
+        [one] => format!("{one} is"),
+        [others @ .., last] => format!("{} and {last} are", others.join(", ")),
+    }
+}
+
+/// The rules of an accepted table.
+fn rules(table: &[u8]) -> Vec<Rule> {
+    let mut rules: Vec<Rule> = Vec::new();
+    for record in records(&TABLE, table) {
+        let Some((kind, values)) = record.whole() else {
+            continue;
+        };
+        match (kind.item, values, rules.last_mut()) {
+            (Item::Rule, &[event, id, low, high], _) => rules.push(Rule {
+                event: event as u8,
+                id: id as u8,
+                low: low as u32,
+                high: high as u32,
+                clauses: Vec::new(),
+            }),
+            (Item::Clause, _, Some(rule)) => rule.clauses.push(Vec::new()),
+            (Item::Atom, &[op, variable, tag, number], Some(rule)) => {
+                if let Some(clause) = rule.clauses.last_mut() {
+                    clause.push([op, variable, tag, number]);
+                }
+            }
+            _ => {}
+        }
+    }
+    rules
+}
+
+const _: () = assert!(COMPARISONS.len() == MULTIPLE as usize);
