@@ -18,9 +18,11 @@ use std::fmt;
 pub mod raw;
 pub mod refusals;
 
+use refusals::Holder;
+
 /// A refusal by its number in document 01, and the part that it returns, from
-/// offset `start` up to but not with `end`. The part lies in the model or table
-/// for numbers 1 to 8, and in the script for 9 to 13.
+/// offset `start` up to but not with `end`, in what [`Refusal::holder`] names.
+/// Printed, it tells the cause and what to do.
 #[derive(Clone, Copy, Debug, PartialEq, Eq)]
 pub struct Refusal {
     pub number: u32,
@@ -35,6 +37,11 @@ impl Refusal {
             0 => Ok(()),
             _ => Err(Refusal { number, start, end }),
         }
+    }
+
+    /// What holds the part.
+    pub fn holder(&self) -> Holder {
+        refusals::meaning_of(self.number).map_or(Holder::Model, |found| found.holder)
     }
 
     /// Why it was refused, in words.

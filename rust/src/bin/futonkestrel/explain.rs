@@ -3,8 +3,11 @@
 
 use futonkestrel::Refusal;
 
-use crate::format::{Field, Format, Item, Kind, Must, LONGEST, MODEL, NO_CONDITION, START, TAGS};
-use crate::record::{records, Record};
+use crate::format::{
+    Field, Format, Item, Kind, Must, LONGEST, MODEL, MODEL_TAGS, NO_CONDITION, SCRIPT, START,
+    TABLE_TAGS, TAGS,
+};
+use crate::record::{records, told, Record};
 use crate::text::{field_words, operand, record_in_words};
 use crate::variables;
 
@@ -19,18 +22,28 @@ pub fn explain(format: &Format, bytes: &[u8], refusal: &Refusal) -> Vec<String> 
         Some(at) if refusal.end <= records[at].end() => {
             lines.extend(place(&records[..=at]));
             let (before, record) = (&records[..at], &records[at]);
-            let faults = Looking {
-                format,
-                before,
-                record,
-            }
-            .faults(refusal.number);
+            let faults = match other_sort(format, bytes, refusal) {
+                Some(fault) => vec![fault],
+                None => Looking {
+                    format,
+                    before,
+                    record,
+                }
+                .faults(refusal.number),
+            };
             lines.extend(faults.iter().map(|fault| format!("at fault: {fault}")));
         }
         _ => lines.extend(whole_file(format, bytes, refusal)),
     }
     lines.push(format!("what to do: {}", refusal.remedy()));
     lines
+}
+
+/// Files are easily mixed up: scripts begin as models do.
+fn other_sort(format: &Format, bytes: &[u8], refusal: &Refusal) -> Option<String> {
+    let script =
+        format.name == MODEL.name && refusal.start == 0 && told(&SCRIPT, bytes) == bytes.len();
+    script.then(|| "all of the file reads as a script; is it one?".to_string())
 }
 
 /// A refusal that concerns no record.
@@ -99,7 +112,9 @@ impl Looking<'_> {
         };
         let Some(values) = &self.record.values else {
             let (size, left) = (1 + kind.body(), self.record.bytes.len());
-            return vec![format!("this record has {size} bytes, and {left} are left")];
+            return vec![format!(
+                "it has {size} bytes, and the file ends after {left} of them"
+            )];
         };
         match number {
             2 => vec![self.out_of_order(kind)],
@@ -184,8 +199,7 @@ impl Looking<'_> {
                 (value >> modes != 0)
                     .then(|| format!("but there are only modes 0 to {}", modes - 1))
             }
-            Must::Tag(tags) => (!self.tags(at, tags).contains(&value))
-                .then(|| format!("which must be one of {:?}", self.tags(at, tags))),
+            Must::Tag(tags) => self.wrong_tag(value, self.tags(at, tags)),
             Must::Tagged => self.tagged(at, values),
             Must::Variable => no_variable(value),
             Must::Target if value == 0 => Some("but the clock goes by TICK alone".to_string()),
@@ -221,6 +235,17 @@ impl Looking<'_> {
         } else {
             tags
         }
+    }
+
+    fn wrong_tag(&self, tag: i64, tags: &[i64]) -> Option<String> {
+        let is_model = self.format.name == MODEL.name;
+        let known: &[&str] = if is_model { &MODEL_TAGS } else { &TABLE_TAGS };
+        let word = |tag: &i64| format!("{tag} ({})", known[*tag as usize]);
+        let wanted: Vec<String> = tags.iter().map(word).collect();
+        let is = known
+            .get(tag as usize)
+            .map_or(String::new(), |is| format!("{is}; "));
+        (!tags.contains(&tag)).then(|| format!("{is}must be {}", wanted.join(" or ")))
     }
 
     fn in_start_rule(&self) -> bool {

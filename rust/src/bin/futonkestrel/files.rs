@@ -20,19 +20,22 @@ pub struct Input {
 }
 
 impl Input {
+    /// What it says; a mark of UTF-8 at its start says nothing.
     pub fn text(&self) -> Result<&str, Failure> {
-        std::str::from_utf8(&self.bytes).map_err(|fault| {
-            let before = &self.bytes[..fault.valid_up_to()];
-            let line = 1 + before.iter().filter(|byte| **byte == b'\n').count();
-            let word = 1 + before
-                .rsplit(|byte| *byte == b'\n')
-                .next()
-                .map_or(0, words_before);
-            Failure::Text(format!(
-                "{}: line {line}, word {word}: no text (bytes that are not UTF-8)",
-                self.name
-            ))
-        })
+        let text = std::str::from_utf8(&self.bytes);
+        text.map(|text| text.trim_start_matches('\u{feff}'))
+            .map_err(|fault| {
+                let before = &self.bytes[..fault.valid_up_to()];
+                let line = 1 + before.iter().filter(|byte| **byte == b'\n').count();
+                let word = 1 + before
+                    .rsplit(|byte| *byte == b'\n')
+                    .next()
+                    .map_or(0, words_before);
+                Failure::Text(format!(
+                    "{}: line {line}, word {word}: no text (bytes that are not UTF-8)",
+                    self.name
+                ))
+            })
     }
 }
 
@@ -71,11 +74,13 @@ pub fn read(file: &OsStr) -> Result<Input, Failure> {
 /// Two files, of which only one may be standard input.
 pub fn read_two(first: &OsStr, second: &OsStr) -> Result<(Input, Input), Failure> {
     if first == "-" && second == "-" {
-        return Err(Failure::Usage(
-            "standard input can be one of the files only".to_string(),
-        ));
+        return Err(one_standard_input());
     }
     Ok((read(first)?, read(second)?))
+}
+
+pub fn one_standard_input() -> Failure {
+    Failure::Usage("only one of the files can be standard input".to_string())
 }
 
 /// Writes to standard output. The result is whether anybody reads it still: a

@@ -137,7 +137,7 @@ pub enum Layout {
 #[derive(Debug)]
 pub struct Kind {
     pub byte: u8,
-    /// The first word of its line.
+    /// The first word of a plain line.
     pub word: &'static str,
     pub item: Item,
     /// The item that it belongs to; it is numbered anew for each of those.
@@ -195,6 +195,10 @@ pub const SUMS: [&str; 3] = ["", "+", "-"];
 /// Words of a model's tags; 0 is a constant and has none.
 pub const TAGS: [(i64, Item); 3] = [(1, Item::Input), (2, Item::Local), (3, Item::Output)];
 
+/// What each tag says, in models and in tables.
+pub const MODEL_TAGS: [&str; 4] = ["a constant", "an input", "a local", "an output"];
+pub const TABLE_TAGS: [&str; 3] = ["a constant", "a variable", "the chosen length"];
+
 const fn field(word: &'static str, bytes: usize, form: Form, must: Must) -> Field {
     Field {
         word,
@@ -205,28 +209,26 @@ const fn field(word: &'static str, bytes: usize, form: Form, must: Must) -> Fiel
 }
 
 /// An item of a model, with at most so many.
-const fn plain(
+const fn item(
     byte: u8,
     item: Item,
     word: &'static str,
     limit: usize,
     fields: &'static [Field],
 ) -> Kind {
+    let limit = Some(limit);
     Kind {
-        byte,
         word,
-        item,
-        within: None,
-        limit: Some(limit),
-        layout: Layout::Plain,
-        fields,
+        ..part(byte, item, None, limit, Layout::Plain, fields)
     }
 }
 
+/// A record whose line has a form of its own.
 const fn part(
     byte: u8,
     item: Item,
     within: Option<Item>,
+    limit: Option<usize>,
     layout: Layout,
     fields: &'static [Field],
 ) -> Kind {
@@ -235,7 +237,7 @@ const fn part(
         word: "",
         item,
         within,
-        limit: None,
+        limit,
         layout,
         fields,
     }
@@ -243,13 +245,8 @@ const fn part(
 
 const fn event(byte: u8, word: &'static str, fields: &'static [Field]) -> Kind {
     Kind {
-        byte,
         word,
-        item: Item::Event,
-        within: None,
-        limit: None,
-        layout: Layout::Plain,
-        fields,
+        ..part(byte, Item::Event, None, None, Layout::Plain, fields)
     }
 }
 
@@ -259,198 +256,147 @@ use Must::{
 };
 
 const OWNER: Field = field("thread", 1, Number, Names(Item::Thread));
-const MASK: Field = field("modes", 1, Modes, Mask);
+const MODE_MASK: Field = field("modes", 1, Modes, Mask);
 const OP: Field = field("op", 1, Number, Within(0, 2));
-const MODEL_TAG: Field = field("tag", 1, Number, Tag(&[0, 1, 2]));
-const TABLE_TAG: Field = field("tag", 1, Number, Tag(&[0, 1, 2]));
-const NUMBER: Field = field("number", 4, Signed, Tagged);
+const FIRST_TAG: Field = field("first tag", 1, Number, Tag(&[0, 1, 2]));
+const FIRST: Field = field("first number", 4, Signed, Tagged);
+const SECOND_TAG: Field = field("second tag", 1, Number, Tag(&[0, 1, 2]));
+const SECOND: Field = field("second number", 4, Signed, Tagged);
+const RIGHT: Field = field("right number", 4, Signed, Tagged);
+
+const HEAD: &[Field] = &[
+    field("modes", 1, Number, Within(1, 8)),
+    field("initial", 1, Number, Names(Item::Mode)),
+];
+const THREAD: &[Field] = &[
+    field("period", 4, Number, Within(1, LONGEST)),
+    field("deadline", 4, Number, UpTo("period")),
+    field("min", 4, Number, UpTo("max")),
+    field("max", 4, Number, Within(1, LONGEST)),
+    MODE_MASK,
+    field("critical", 1, Mark, Within(0, 1)),
+    field("first state", 1, UnlessZero, Within(0, 7)),
+];
+const LOCAL: &[Field] = &[OWNER, field("start", 4, Signed, Free)];
+const CONNECTION: &[Field] = &[
+    field("type", 1, Choice(&["immediate", "delayed"]), Within(0, 1)),
+    field("output", 1, Number, Names(Item::Output)),
+    field("to input", 1, Number, Names(Item::Input)),
+    MODE_MASK,
+];
+const TRANSITION: &[Field] = &[
+    field("from mode", 1, Number, Names(Item::Mode)),
+    field("to mode", 1, Number, Names(Item::Mode)),
+];
+const BEHAVIOUR: &[Field] = &[
+    OWNER,
+    field("from state", 1, Number, Within(0, 7)),
+    field("to state", 1, Number, Within(0, 7)),
+];
+const GUARD: &[Field] = &[
+    field("op", 1, Number, Within(0, 5)),
+    field("left tag", 1, Number, Tag(&[1, 2])),
+    field("left number", 1, Number, Tagged),
+    field("right tag", 1, Number, Tag(&[0, 1, 2])),
+    RIGHT,
+];
+const ASSIGNMENT: &[Field] = &[
+    field("target tag", 1, Number, Tag(&[2, 3])),
+    field("target number", 1, Number, Tagged),
+    OP,
+    FIRST_TAG,
+    FIRST,
+    SECOND_TAG,
+    SECOND,
+];
 
 pub static MODEL: Format = Format {
     name: "model",
     kinds: &[
-        plain(
-            0x01,
-            Item::Head,
-            "head",
-            1,
-            &[
-                field("modes", 1, Number, Within(1, 8)),
-                field("initial", 1, Number, Names(Item::Mode)),
-            ],
+        item(0x01, Item::Head, "head", 1, HEAD),
+        item(0x02, Item::Thread, "thread", 16, THREAD),
+        item(0x03, Item::Input, "input", 32, &[OWNER]),
+        item(0x04, Item::Output, "output", 32, &[OWNER]),
+        item(0x05, Item::Local, "local", 32, LOCAL),
+        item(0x06, Item::Connection, "connection", 32, CONNECTION),
+        item(0x07, Item::Transition, "transition", 16, TRANSITION),
+        item(0x08, Item::Behaviour, "behaviour", 64, BEHAVIOUR),
+        part(
+            0x09,
+            Item::Guard,
+            IN_BEHAVIOUR,
+            Some(4),
+            Layout::Guard,
+            GUARD,
         ),
-        plain(
-            0x02,
-            Item::Thread,
-            "thread",
-            16,
-            &[
-                field("period", 4, Number, Within(1, LONGEST)),
-                field("deadline", 4, Number, UpTo("period")),
-                field("min", 4, Number, UpTo("max")),
-                field("max", 4, Number, Within(1, LONGEST)),
-                MASK,
-                field("critical", 1, Mark, Within(0, 1)),
-                field("first state", 1, UnlessZero, Within(0, 7)),
-            ],
+        part(
+            0x0A,
+            Item::Assignment,
+            IN_BEHAVIOUR,
+            Some(4),
+            Layout::Assignment,
+            ASSIGNMENT,
         ),
-        plain(0x03, Item::Input, "input", 32, &[OWNER]),
-        plain(0x04, Item::Output, "output", 32, &[OWNER]),
-        plain(
-            0x05,
-            Item::Local,
-            "local",
-            32,
-            &[OWNER, field("start", 4, Signed, Free)],
-        ),
-        plain(
-            0x06,
-            Item::Connection,
-            "connection",
-            32,
-            &[
-                field("type", 1, Choice(&["immediate", "delayed"]), Within(0, 1)),
-                field("output", 1, Number, Names(Item::Output)),
-                field("to input", 1, Number, Names(Item::Input)),
-                MASK,
-            ],
-        ),
-        plain(
-            0x07,
-            Item::Transition,
-            "transition",
-            16,
-            &[
-                field("from mode", 1, Number, Names(Item::Mode)),
-                field("to mode", 1, Number, Names(Item::Mode)),
-            ],
-        ),
-        plain(
-            0x08,
-            Item::Behaviour,
-            "behaviour",
-            64,
-            &[
-                OWNER,
-                field("from state", 1, Number, Within(0, 7)),
-                field("to state", 1, Number, Within(0, 7)),
-            ],
-        ),
-        Kind {
-            word: "if",
-            limit: Some(4),
-            ..part(
-                0x09,
-                Item::Guard,
-                Some(Item::Behaviour),
-                Layout::Guard,
-                &[
-                    field("op", 1, Number, Within(0, 5)),
-                    field("left tag", 1, Number, Tag(&[1, 2])),
-                    field("number", 1, Number, Tagged),
-                    MODEL_TAG,
-                    NUMBER,
-                ],
-            )
-        },
-        Kind {
-            word: "set",
-            limit: Some(4),
-            ..part(
-                0x0A,
-                Item::Assignment,
-                Some(Item::Behaviour),
-                Layout::Assignment,
-                &[
-                    field("target tag", 1, Number, Tag(&[2, 3])),
-                    field("number", 1, Number, Tagged),
-                    OP,
-                    MODEL_TAG,
-                    NUMBER,
-                    MODEL_TAG,
-                    NUMBER,
-                ],
-            )
-        },
     ],
 };
+
+const IN_BEHAVIOUR: Option<Item> = Some(Item::Behaviour);
+const IN_RULE: Option<Item> = Some(Item::Rule);
+const IN_CLAUSE: Option<Item> = Some(Item::Clause);
+
+const INITIAL_VALUE: &[Field] = &[
+    field("variable", 2, Number, Rising),
+    field("value", 4, Signed, Free),
+];
+const RULE: &[Field] = &[
+    field("event kind", 1, Number, Within(0x01, 0x0A)),
+    field("id", 1, Number, Free),
+    field("low", 4, Number, Length),
+    field("high", 4, Number, Length),
+];
+const ATOM: &[Field] = &[
+    field("op", 1, Number, Within(0, 7)),
+    field("variable", 2, Number, Variable),
+    field("right tag", 1, Number, Tag(&[0, 1])),
+    RIGHT,
+];
+const UPDATE: &[Field] = &[
+    field("condition", 2, Number, Condition),
+    field("wanted", 1, Number, Free),
+    field("target", 2, Number, Target),
+    OP,
+    FIRST_TAG,
+    FIRST,
+    SECOND_TAG,
+    SECOND,
+];
 
 pub static TABLE: Format = Format {
     name: "table",
     kinds: &[
-        part(
-            0x20,
-            Item::Start,
-            None,
-            Layout::Start,
-            &[
-                field("variable", 2, Number, Rising),
-                field("value", 4, Signed, Free),
-            ],
-        ),
-        part(
-            0x21,
-            Item::Rule,
-            None,
-            Layout::Rule,
-            &[
-                field("event kind", 1, Number, Within(0x01, 0x0A)),
-                field("id", 1, Number, Free),
-                field("low", 4, Number, Length),
-                field("high", 4, Number, Length),
-            ],
-        ),
-        part(0x22, Item::Clause, Some(Item::Rule), Layout::Clause, &[]),
-        part(
-            0x23,
-            Item::Atom,
-            Some(Item::Clause),
-            Layout::Atom,
-            &[
-                field("op", 1, Number, Within(0, 7)),
-                field("variable", 2, Number, Variable),
-                field("tag", 1, Number, Tag(&[0, 1])),
-                NUMBER,
-            ],
-        ),
-        part(
-            0x24,
-            Item::Update,
-            Some(Item::Rule),
-            Layout::Update,
-            &[
-                field("condition", 2, Number, Condition),
-                field("wanted", 1, Number, Free),
-                field("target", 2, Number, Target),
-                OP,
-                TABLE_TAG,
-                NUMBER,
-                TABLE_TAG,
-                NUMBER,
-            ],
-        ),
+        part(0x20, Item::Start, None, None, Layout::Start, INITIAL_VALUE),
+        part(0x21, Item::Rule, None, None, Layout::Rule, RULE),
+        part(0x22, Item::Clause, IN_RULE, None, Layout::Clause, &[]),
+        part(0x23, Item::Atom, IN_CLAUSE, None, Layout::Atom, ATOM),
+        part(0x24, Item::Update, IN_RULE, None, Layout::Update, UPDATE),
     ],
 };
 
-const OF_THREAD: Field = field("thread", 1, Number, Names(Item::Thread));
-const OF_TRANSITION: Field = field("transition", 1, Number, Names(Item::Transition));
+const BY_TRANSITION: Field = field("transition", 1, Number, Names(Item::Transition));
 
 pub static SCRIPT: Format = Format {
     name: "script",
     kinds: &[
-        event(0x01, "ACTIVATE", &[OF_THREAD]),
-        event(0x02, "DEACTIVATE", &[OF_THREAD]),
-        event(0x03, "DISPATCH", &[OF_THREAD]),
-        event(
-            START,
-            "START",
-            &[OF_THREAD, field("for", 4, Number, Length)],
-        ),
-        event(0x05, "COMPLETE", &[OF_THREAD]),
-        event(0x06, "DEADLINE", &[OF_THREAD]),
-        event(0x07, "MISS", &[OF_THREAD]),
-        event(REQUEST, "REQUEST", &[OF_TRANSITION]),
-        event(0x09, "ENTER", &[OF_TRANSITION]),
-        event(0x0A, "LEAVE", &[OF_TRANSITION]),
+        event(0x01, "ACTIVATE", &[OWNER]),
+        event(0x02, "DEACTIVATE", &[OWNER]),
+        event(0x03, "DISPATCH", &[OWNER]),
+        event(START, "START", &[OWNER, field("for", 4, Number, Length)]),
+        event(0x05, "COMPLETE", &[OWNER]),
+        event(0x06, "DEADLINE", &[OWNER]),
+        event(0x07, "MISS", &[OWNER]),
+        event(REQUEST, "REQUEST", &[BY_TRANSITION]),
+        event(0x09, "ENTER", &[BY_TRANSITION]),
+        event(0x0A, "LEAVE", &[BY_TRANSITION]),
         event(TICK, "TICK", &[field("", 2, Number, Within(1, 65_535))]),
     ],
 };

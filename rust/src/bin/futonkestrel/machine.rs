@@ -130,7 +130,7 @@ impl<'a> Machine<'a> {
                 self.enabled_rules(event.bytes)
             ),
             _ => {
-                lines.extend(self.why_not(event.bytes));
+                lines.extend(self.why_not(event.bytes, names));
                 self.instead(names)
             }
         };
@@ -141,40 +141,37 @@ impl<'a> Machine<'a> {
         lines
     }
 
-    /// What an event still lacks.
-    fn why_not(&self, event: &[u8]) -> Option<String> {
+    /// What an event lacks first.
+    fn why_not(&self, event: &[u8], names: &Names) -> Option<String> {
         let (kind, id) = (event[0], event[1]);
         if kind == TICK {
             return None;
         }
-        let own: Vec<&Rule> = self
-            .rules
-            .iter()
-            .filter(|rule| (rule.event, rule.id) == (kind, id))
-            .collect();
+        let own = self.rules_for(kind, id);
         if own.is_empty() {
             let item = SCRIPT.kind(kind).map_or("", |kind| kind.fields[0].word);
             return Some(format!("there is no {item} {id}"));
         }
         // Of several rules the one that lacks least.
-        let failing = |rule: &Rule| {
-            rule.clauses
-                .iter()
-                .filter(|clause| !self.holds(clause))
-                .map(|clause| self.lacks(clause))
-                .collect::<Vec<_>>()
-        };
-        let least = own.iter().map(|rule| failing(rule)).min_by_key(Vec::len)?;
-        if !least.is_empty() {
-            return Some(format!("it wants {}", least.join(" and ")));
+        let nearest = own.iter().min_by_key(|rule| self.failing(rule).len())?;
+        match self.failing(nearest).first() {
+            Some(clause) => Some(format!("it wants {}", self.lacks(clause, names))),
+            None if nearest.allows(event) => None,
+            None => Some(format!(
+                "its length must be from {} to {}",
+                nearest.low, nearest.high
+            )),
         }
-        let outside = own
-            .iter()
-            .find(|rule| failing(rule).is_empty() && !rule.allows(event))?;
-        Some(format!(
-            "its length must be from {} to {}",
-            outside.low, outside.high
-        ))
+    }
+
+    fn rules_for(&self, event: u8, id: u8) -> Vec<&Rule> {
+        let own = |rule: &&Rule| (rule.event, rule.id) == (event, id);
+        self.rules.iter().filter(own).collect()
+    }
+
+    fn failing<'b>(&self, rule: &'b Rule) -> Vec<&'b Vec<Atom>> {
+        let clauses = rule.clauses.iter();
+        clauses.filter(|clause| !self.holds(clause)).collect()
     }
 
     fn holds(&self, clause: &[Atom]) -> bool {
@@ -205,11 +202,11 @@ impl<'a> Machine<'a> {
     }
 
     /// A clause that fails, with the values that it looks at.
-    fn lacks(&self, clause: &[Atom]) -> String {
-        let atoms: Vec<String> = clause
-            .iter()
-            .map(|&[op, variable, tag, number]| text::atom(op, variable, tag, number))
-            .collect();
+    fn lacks(&self, clause: &[Atom], names: &Names) -> String {
+        if clause.is_empty() {
+            return "what never holds (an empty clause)".to_string();
+        }
+        let atoms: Vec<String> = clause.iter().map(|atom| text::atom(*atom, names)).collect();
         let mut seen: Vec<i64> = Vec::new();
         for &[_, variable, tag, number] in clause {
             seen.push(variable);
@@ -218,25 +215,20 @@ impl<'a> Machine<'a> {
         seen.sort_unstable();
         seen.dedup();
         let value = |variable: &i64| {
-            let value = variables::constant(*variable, self.value(*variable));
-            format!("{} is {value}", variables::name(*variable))
+            let value = variables::value_with(*variable, self.value(*variable), names);
+            format!("{} is {value}", variables::name_with(*variable, names))
         };
         let values: Vec<String> = seen.iter().map(value).collect();
-        format!("{} ({})", atoms.join(" or "), values.join(", "))
+        format!("{}, but {}", atoms.join(" or "), values.join(", "))
     }
 
     /// The numbers of the rules that are enabled for an event.
     fn enabled_rules(&self, event: &[u8]) -> String {
-        let own = self
-            .rules
-            .iter()
-            .zip(0..)
-            .filter(|(rule, _)| (rule.event, rule.id) == (event[0], event[1]));
-        let enabled = own.filter(|(rule, _)| rule.clauses.iter().all(|clause| self.holds(clause)));
-        enabled
-            .map(|(_, number): (_, usize)| number.to_string())
-            .collect::<Vec<_>>()
-            .join(" and ")
+        let enabled = self.rules.iter().zip(0_usize..).filter(|(rule, _)| {
+            (rule.event, rule.id) == (event[0], event[1]) && self.failing(rule).is_empty()
+        });
+        let numbers: Vec<String> = enabled.map(|(_, number)| number.to_string()).collect();
+        numbers.join(" and ")
     }
 }
 
@@ -295,7 +287,8 @@ pub fn item_of_event(event: u8) -> Option<Item> {
 fn event_words(event: &[u8], names: &Names) -> String {
     let whole = records(&SCRIPT, event);
     let Some((kind, values)) = whole.first().and_then(Record::whole) else {
-        return format!("event of kind {:02x}", event[0]);
+        let kind = SCRIPT.kind(event[0]).map(|kind| kind.word.to_string());
+        return kind.unwrap_or_else(|| format!("event of kind {:02x}", event[0]));
     };
     let short = short_words(event[0], values[0], names);
     match values.get(1) {
@@ -308,13 +301,14 @@ fn event_words(event: &[u8], names: &Names) -> String {
 fn broken(event: &Record) -> String {
     match (event.kind, &event.values) {
         (None, _) => format!("no event has the kind {:02x}", event.bytes[0]),
-        (Some(kind), None) => format!(
-            "{} has {} bytes, and {} are left",
-            kind.word,
-            1 + kind.body(),
-            event.bytes.len()
-        ),
-        _ => "a TICK has at least 1".to_string(),
+        (Some(kind), None) => {
+            let (size, left) = (1 + kind.body(), event.bytes.len());
+            format!(
+                "{} has {size} bytes, and the script ends after {left}",
+                kind.word
+            )
+        }
+        _ => "the ticks must be at least 1".to_string(),
     }
 }
 

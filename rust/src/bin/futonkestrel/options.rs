@@ -285,9 +285,10 @@ impl Command {
         let call = self.parse(words)?;
         let wanted = self.operands.split(' ').count();
         if call.operands.len() != wanted {
+            let given = call.operands.len();
             return Err(self.wrong(&format!(
-                "{wanted} file(s) wanted, {} given",
-                call.operands.len()
+                "{} wanted, {given} given",
+                counted(wanted, "file")
             )));
         }
         (self.run)(&call)
@@ -333,6 +334,11 @@ impl Command {
             self.usage()
         ))
     }
+}
+
+/// `1 file`, `2 files`.
+fn counted(count: usize, word: &str) -> String {
+    format!("{count} {word}{}", if count == 1 { "" } else { "s" })
 }
 
 /// The first letter large and a full stop.

@@ -117,7 +117,8 @@ impl Packer {
 fn first_words(kind: &Kind) -> Vec<&'static str> {
     match kind.layout {
         Layout::Guard | Layout::Clause => vec!["if", "and"],
-        Layout::Plain | Layout::Assignment => vec![kind.word],
+        Layout::Plain => vec![kind.word],
+        Layout::Assignment => vec!["set"],
         Layout::Start => vec!["start"],
         Layout::Rule => vec!["rule"],
         Layout::Atom => vec!["or"],

@@ -59,6 +59,13 @@ pub fn records<'a>(format: &Format, bytes: &'a [u8]) -> Vec<Record<'a>> {
     found
 }
 
+/// How many bytes are told apart into whole records.
+pub fn told(format: &Format, bytes: &[u8]) -> usize {
+    let records = records(format, bytes);
+    let whole = records.iter().filter(|record| record.whole().is_some());
+    whole.map(|record| record.bytes.len()).sum()
+}
+
 /// The fields of a body, or nothing where it is cut.
 fn values(kind: &Kind, body: &[u8]) -> Option<Vec<i64>> {
     let mut rest = (body.len() == kind.body()).then_some(body)?;

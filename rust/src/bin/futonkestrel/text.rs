@@ -4,6 +4,7 @@ use crate::format::{
     Field, Form, Format, Item, Kind, Layout, COMPARISONS, MULTIPLE, NO_CONDITION, NO_MULTIPLE,
     SCRIPT, SUMS, TAGS,
 };
+use crate::names::Names;
 use crate::record::{records, Record};
 use crate::variables;
 
@@ -144,7 +145,7 @@ fn words(kind: &Kind, values: &[i64], number: usize) -> String {
                 &operand(second_tag, second),
                 unused,
             );
-            format!("{} {} := {sum}", kind.word, operand(tag, number))
+            format!("set {} := {sum}", operand(tag, number))
         }
         (Layout::Start, &[variable, value]) => {
             format!(
@@ -155,7 +156,9 @@ fn words(kind: &Kind, values: &[i64], number: usize) -> String {
         }
         (Layout::Rule, &[event, id, low, high]) => rule(number, event, id, low, high),
         (Layout::Clause, _) => "clause".to_string(),
-        (Layout::Atom, &[op, variable, tag, number]) => atom(op, variable, tag, number),
+        (Layout::Atom, &[op, variable, tag, number]) => {
+            atom([op, variable, tag, number], &Names::default())
+        }
         (Layout::Update, values) => update(values),
         _ => unreachable!("every layout has its fields"),
     }
@@ -242,11 +245,12 @@ fn rule(number: usize, event: i64, id: i64, low: i64, high: i64) -> String {
     format!("rule {number} {event} {id}{length}")
 }
 
-/// An atom of a table. States and none have names where they are compared as such.
-pub fn atom(op: i64, variable: i64, tag: i64, number: i64) -> String {
-    let name = variables::name(variable);
+/// An atom of a table: op, variable and operand. States and none have names
+/// where they are compared as such.
+pub fn atom([op, variable, tag, number]: [i64; 4], names: &Names) -> String {
+    let name = variables::name_with(variable, names);
     let beside = (op <= 1).then_some(variable);
-    let right = table_operand(tag, number, beside);
+    let right = table_operand(tag, number, beside, names);
     match op {
         MULTIPLE => format!("{name} mod {right} = 0"),
         NO_MULTIPLE => format!("{name} mod {right} != 0"),
@@ -261,8 +265,8 @@ fn update(values: &[i64]) -> String {
     let beside = (op == 0).then_some(target);
     let unused = (second_tag, second) == (0, 0);
     let (first, second) = (
-        table_operand(first_tag, first, beside),
-        table_operand(second_tag, second, None),
+        table_operand(first_tag, first, beside, &Names::default()),
+        table_operand(second_tag, second, None, &Names::default()),
     );
     let set = format!(
         "{} := {}",
@@ -277,11 +281,11 @@ fn update(values: &[i64]) -> String {
 }
 
 /// An operand of a table; a constant may have a name beside some variables.
-fn table_operand(tag: i64, number: i64, beside: Option<i64>) -> String {
+fn table_operand(tag: i64, number: i64, beside: Option<i64>, names: &Names) -> String {
     match (tag, number, beside) {
         (0, _, Some(variable)) => variables::constant(variable, number),
         (0, _, None) => number.to_string(),
-        (1, _, _) => variables::name(number),
+        (1, _, _) => variables::name_with(number, names),
         (2, 0, _) => "length".to_string(),
         (2, _, _) => format!("length({number})"),
         _ => format!("tag {tag} {number}"),

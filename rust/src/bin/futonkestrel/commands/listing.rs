@@ -5,6 +5,8 @@ use futonkestrel::{
     translate_to_vec, Refusal, Table,
 };
 
+use futonkestrel::refusals::Holder;
+
 use super::{tell, tell_file};
 use crate::files::{self, Input};
 use crate::format::{Format, Item, MODEL, REQUEST, SCRIPT, TABLE};
@@ -39,7 +41,7 @@ struct Job<'a> {
 }
 
 pub fn steps(call: &Call) -> Result<Status, Failure> {
-    let names = Names::read(call.value("--names"))?;
+    let names = names(call)?;
     let (model, script) = files::read_two(&call.operands[0], &call.operands[1])?;
     let (bytes, events) = (limited(call, &model), limited(call, &script));
     let job = Job {
@@ -57,7 +59,7 @@ pub fn steps(call: &Call) -> Result<Status, Failure> {
 }
 
 pub fn rules(call: &Call) -> Result<Status, Failure> {
-    let names = Names::read(call.value("--names"))?;
+    let names = names(call)?;
     let (model, script) = files::read_two(&call.operands[0], &call.operands[1])?;
     let (bytes, events) = (limited(call, &model), limited(call, &script));
     let made = if call.has("--limit") {
@@ -90,7 +92,7 @@ pub fn rules(call: &Call) -> Result<Status, Failure> {
 }
 
 pub fn run(call: &Call) -> Result<Status, Failure> {
-    let names = Names::read(call.value("--names"))?;
+    let names = names(call)?;
     let (table, script) = files::read_two(&call.operands[0], &call.operands[1])?;
     let (bytes, events) = (&table.bytes[..], limited(call, &script));
     let job = Job {
@@ -105,6 +107,15 @@ pub fn run(call: &Call) -> Result<Status, Failure> {
         of_model: false,
     };
     job.print(call, &names)
+}
+
+/// Names may come from standard input, if no other file does.
+fn names(call: &Call) -> Result<Names, Failure> {
+    let file = call.value("--names");
+    if file.is_some_and(|file| file == "-" && call.operands.iter().any(|other| other == file)) {
+        return Err(files::one_standard_input());
+    }
+    Names::read(file)
 }
 
 /// All of a file, or what the programs read of it.
@@ -139,9 +150,12 @@ impl Job<'_> {
         })
     }
 
-    /// Numbers from 9 on concern an event, the others the model or table.
+    /// A refusal in the script concerns an event, any other the model or table.
     fn tell_refusal(&self, refusal: &Refusal, names: &Names) -> Status {
-        let Some(mut machine) = self.machine().filter(|_| self.is_of_event(refusal)) else {
+        let Some(mut machine) = self
+            .machine()
+            .filter(|_| refusal.holder() == Holder::Script)
+        else {
             return tell_file(self.format, self.file, self.bytes, refusal);
         };
         let mut taken = 0;
@@ -155,10 +169,6 @@ impl Job<'_> {
         lines.push(format!("cause: {}", refusal.cause()));
         lines.push(format!("what to do: {}", refusal.remedy()));
         tell(refusal, self.script, &lines)
-    }
-
-    fn is_of_event(&self, refusal: &Refusal) -> bool {
-        (9..=13).contains(&refusal.number)
     }
 
     fn machine(&self) -> Option<Machine<'_>> {
@@ -236,7 +246,7 @@ impl Job<'_> {
         let taken = line.split(' ').nth(1).unwrap_or("");
         match &self.refusal {
             None => format!("{taken} events taken, all of them; the clock is {clock}"),
-            Some(refusal) if self.is_of_event(refusal) => {
+            Some(refusal) if refusal.holder() == Holder::Script => {
                 format!("{taken} events taken, the next one refused; the clock is {clock}")
             }
             Some(_) => format!("the {} is refused", self.format.name),

@@ -5,9 +5,8 @@ use futonkestrel::{read_model, read_table, Refusal};
 use crate::explain::explain;
 use crate::format::{Format, FORMATS, MODEL, SCRIPT, TABLE};
 use crate::options::Call;
-use crate::record::records;
 use crate::text::{hexadecimal, text, Note};
-use crate::{files, Failure, Status};
+use crate::{files, record, Failure, Status};
 
 pub fn show(call: &Call) -> Result<Status, Failure> {
     let asked = FORMATS
@@ -53,14 +52,7 @@ fn told(bytes: &[u8]) -> Option<&'static Format> {
 
 /// The one that more of the file fits.
 fn model_or_script(bytes: &[u8]) -> &'static Format {
-    let fits = |format| {
-        records(format, bytes)
-            .iter()
-            .filter(|record| record.whole().is_some())
-            .map(|record| record.bytes.len())
-            .sum::<usize>()
-    };
-    let (model, script) = (fits(&MODEL), fits(&SCRIPT));
+    let (model, script) = (record::told(&MODEL, bytes), record::told(&SCRIPT, bytes));
     let is_model = read_model(bytes).is_ok() || (script < bytes.len() && model >= script);
     if is_model {
         &MODEL
