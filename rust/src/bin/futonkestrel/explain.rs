@@ -149,11 +149,11 @@ impl Looking<'_> {
         let own = kind.item.word();
         match self.before.last().and_then(|record| record.kind) {
             None if self.format.name == MODEL.name => {
-                format!("a {own} stands first, where the head must")
+                format!("{} stands first, where the head must", a(own))
             }
-            None => format!("a {own} stands first"),
+            None => format!("{} stands first", a(own)),
             Some(_) if kind.item == Item::Head => "this is a second head".to_string(),
-            Some(before) => format!("no {own} may follow a {}", before.item.word()),
+            Some(before) => format!("no {own} may follow {}", a(before.item.word())),
         }
     }
 
@@ -376,6 +376,12 @@ impl Looking<'_> {
             periods.join(", ")
         )]
     }
+}
+
+/// `a thread`, `an input`.
+fn a(word: &str) -> String {
+    let vowel = word.starts_with(['a', 'e', 'i', 'o', 'u']);
+    format!("{} {word}", if vowel { "an" } else { "a" })
 }
 
 fn outside(value: i64, low: i64, high: i64) -> Option<String> {

@@ -243,6 +243,11 @@ const fn part(
     }
 }
 
+/// A part of a behaviour transition, which has at most four of each.
+const fn of_behaviour(byte: u8, item: Item, layout: Layout, fields: &'static [Field]) -> Kind {
+    part(byte, item, Some(Item::Behaviour), Some(4), layout, fields)
+}
+
 const fn event(byte: u8, word: &'static str, fields: &'static [Field]) -> Kind {
     Kind {
         word,
@@ -321,26 +326,11 @@ pub static MODEL: Format = Format {
         item(0x06, Item::Connection, "connection", 32, CONNECTION),
         item(0x07, Item::Transition, "transition", 16, TRANSITION),
         item(0x08, Item::Behaviour, "behaviour", 64, BEHAVIOUR),
-        part(
-            0x09,
-            Item::Guard,
-            IN_BEHAVIOUR,
-            Some(4),
-            Layout::Guard,
-            GUARD,
-        ),
-        part(
-            0x0A,
-            Item::Assignment,
-            IN_BEHAVIOUR,
-            Some(4),
-            Layout::Assignment,
-            ASSIGNMENT,
-        ),
+        of_behaviour(0x09, Item::Guard, Layout::Guard, GUARD),
+        of_behaviour(0x0A, Item::Assignment, Layout::Assignment, ASSIGNMENT),
     ],
 };
 
-const IN_BEHAVIOUR: Option<Item> = Some(Item::Behaviour);
 const IN_RULE: Option<Item> = Some(Item::Rule);
 const IN_CLAUSE: Option<Item> = Some(Item::Clause);
 
