@@ -1,6 +1,7 @@
 //! The command line: each command by what it prints, what it writes and its
 //! status.
 
+mod any_files;
 mod calls;
 mod commands;
 mod files;

@@ -77,7 +77,7 @@ impl<'a> Machine<'a> {
     fn later(&self) -> (Variables, bool) {
         let mut variables = self.variables;
         for _ in 0..TRIES {
-            let most = self.most_ticks(&variables, MOST_TICKS);
+            let most = self.most_ticks(&variables);
             if most > 0 {
                 let _ = self.table.step(&mut variables, &tick(most));
             }
@@ -88,18 +88,21 @@ impl<'a> Machine<'a> {
         (variables, false)
     }
 
-    /// The most ticks, up to `limit`, that can pass at once.
-    fn most_ticks(&self, variables: &Variables, limit: u16) -> u16 {
-        let (mut taken, mut refused) = (0, u32::from(limit) + 1);
+    /// The most ticks that can pass at once.
+    fn most_ticks(&self, variables: &Variables) -> u16 {
+        let (mut taken, mut refused) = (0, MOST_TICKS);
+        if self.takes(variables, &tick(MOST_TICKS)) {
+            return MOST_TICKS;
+        }
         while taken + 1 < refused {
-            let middle = (taken + refused) / 2;
-            if self.takes(variables, &tick(middle as u16)) {
+            let middle = taken + (refused - taken) / 2;
+            if self.takes(variables, &tick(middle)) {
                 taken = middle;
             } else {
                 refused = middle;
             }
         }
-        taken as u16
+        taken
     }
 
     /// What is enabled instead of a refused event, or due later.
