@@ -427,6 +427,30 @@ fn tables_of_others() {
         said(&err)[1],
         "step 1: ACTIVATE 0 refused (10) at clock 0: nothing but TICK and REQUEST is enabled"
     );
+    let err = refused("table\nrule 0 DISPATCH thread 9\nrule 1 DISPATCH thread 9\n");
+    assert_eq!(
+        said(&err)[1..3],
+        [
+            "step 1: ACTIVATE 0 refused (10) at clock 0: DISPATCH 9 (by two rules) is enabled",
+            "the table has no rule for this thread"
+        ]
+    );
+}
+
+/// A table with very many rules: some are told, the others counted.
+#[test]
+fn many_rules_at_once() {
+    let rule = |number: usize| format!("rule {number} DISPATCH thread {}\n", number % 256);
+    let text: String = (0..2_000).map(rule).collect();
+    let folder = Folder::new("many");
+    let table = folder.path("table.bin");
+    run_with(&["pack", "-", &table], format!("table\n{text}").as_bytes()).good();
+    let script = folder.write("script.bin", &[0x0B, 1, 0]);
+    let err = run(&["run", &table, &script]).refused();
+    assert!(
+        said(&err)[1].ends_with("DISPATCH 15 (by two rules) and 240 more are enabled"),
+        "{err}"
+    );
 }
 
 /// Text that cannot be understood: line, word, and what was expected.

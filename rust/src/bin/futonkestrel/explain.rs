@@ -4,8 +4,8 @@
 use futonkestrel::Refusal;
 
 use crate::format::{
-    Field, Format, Item, Kind, Must, LONGEST, MODEL, MODEL_TAGS, NO_CONDITION, SCRIPT, START,
-    TABLE_TAGS, TAGS,
+    Field, Format, Item, Kind, Must, FORMATS, LONGEST, LONGEST_TABLE, MODEL, MODEL_TAGS,
+    NO_CONDITION, SCRIPT, START, TABLE_TAGS, TAGS, VARIABLES,
 };
 use crate::record::{records, told, Record};
 use crate::text::{field_words, operand, record_in_words};
@@ -22,14 +22,14 @@ pub fn explain(format: &Format, bytes: &[u8], refusal: &Refusal) -> Vec<String> 
         Some(at) if refusal.end <= records[at].end() => {
             lines.extend(place(&records[..=at]));
             let (before, record) = (&records[..at], &records[at]);
+            let looking = Looking {
+                format,
+                before,
+                record,
+            };
             let faults = match other_sort(format, bytes, refusal) {
                 Some(fault) => vec![fault],
-                None => Looking {
-                    format,
-                    before,
-                    record,
-                }
-                .faults(refusal.number),
+                None => looking.faults(refusal.number),
             };
             lines.extend(faults.iter().map(|fault| format!("at fault: {fault}")));
         }
@@ -54,7 +54,7 @@ fn whole_file(format: &Format, bytes: &[u8], refusal: &Refusal) -> Option<String
             format.name
         )),
         3 => Some(format!(
-            "at fault: the table has {} bytes, and 1000000 are allowed",
+            "at fault: the table has {} bytes, and {LONGEST_TABLE} are allowed",
             bytes.len()
         )),
         _ => None,
@@ -132,7 +132,7 @@ impl Looking<'_> {
 
     fn unknown(&self) -> String {
         let byte = self.record.bytes[0];
-        let other = crate::format::FORMATS
+        let other = FORMATS
             .iter()
             .find(|other| other.kind(byte).is_some() && other.name != self.format.name);
         let name = self.format.name;
@@ -196,8 +196,7 @@ impl Looking<'_> {
             Must::Names(item) => missing(item, value, self.count(item)),
             Must::Mask => {
                 let modes = self.count(Item::Mode);
-                (value >> modes != 0)
-                    .then(|| format!("but there are only modes 0 to {}", modes - 1))
+                (value >> modes != 0).then(|| only(Item::Mode, modes))
             }
             Must::Tag(tags) => self.wrong_tag(value, self.tags(at, tags)),
             Must::Tagged => self.tagged(at, values),
@@ -389,16 +388,19 @@ fn outside(value: i64, low: i64, high: i64) -> Option<String> {
 }
 
 fn missing(item: Item, number: i64, count: i64) -> Option<String> {
+    (!(0..count).contains(&number)).then(|| only(item, count))
+}
+
+fn only(item: Item, count: i64) -> String {
     let word = item.word();
     match count {
-        _ if (0..count).contains(&number) => None,
-        0 => Some(format!("but there is no {word}")),
-        1 => Some(format!("but there is only {word} 0")),
-        _ => Some(format!("but there are only {word}s 0 to {}", count - 1)),
+        0 => format!("but there is no {word}"),
+        1 => format!("but there is only {word} 0"),
+        _ => format!("but there are only {word}s 0 to {}", count - 1),
     }
 }
 
 fn no_variable(variable: i64) -> Option<String> {
-    let last = crate::format::VARIABLES - 1;
+    let last = VARIABLES - 1;
     (!variables::exists(variable)).then(|| format!("but the variables are 0 to {last}"))
 }

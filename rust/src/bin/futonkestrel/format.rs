@@ -172,6 +172,8 @@ pub static FORMATS: [&Format; 3] = [&MODEL, &TABLE, &SCRIPT];
 
 /// The longest Period, Deadline, Min and Max, and START's longest length.
 pub const LONGEST: i64 = 1_000_000;
+/// The most bytes that a table may have.
+pub const LONGEST_TABLE: usize = 1_000_000;
 /// Variables of a table lie below this.
 pub const VARIABLES: i64 = futonkestrel::VARIABLES as i64;
 /// The condition variable of an update without a condition.

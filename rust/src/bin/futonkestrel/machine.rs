@@ -2,11 +2,11 @@
 //! A model is looked at by its table, which takes the same events: that is
 //! proved.
 
+use std::collections::BTreeMap;
+
 use futonkestrel::{Table, Variables};
 
-use crate::format::{
-    Item, COMPARISONS, MULTIPLE, NO_MULTIPLE, REQUEST, SCRIPT, START, TABLE, TICK,
-};
+use crate::format::{Item, MULTIPLE, NO_MULTIPLE, REQUEST, SCRIPT, START, TABLE, TICK};
 use crate::names::Names;
 use crate::record::{records, Record};
 use crate::text;
@@ -15,7 +15,9 @@ use crate::variables;
 /// The most ticks that one event has.
 const MOST_TICKS: u16 = u16::MAX;
 /// How many such events are tried to find what comes next: longer than any period.
-const TRIES: usize = 32;
+const TRIES: usize = 16;
+/// So many events are told by name, and only the number of further ones.
+const TOLD: usize = 16;
 
 struct Rule {
     event: u8,
@@ -31,14 +33,17 @@ type Atom = [i64; 4];
 pub struct Machine<'a> {
     table: Table<'a>,
     rules: Vec<Rule>,
+    /// Whether it is the table made from a model.
+    of_model: bool,
     pub variables: Variables,
 }
 
 impl<'a> Machine<'a> {
     /// The table at its start.
-    pub fn new(table: Table<'a>) -> Machine<'a> {
+    pub fn new(table: Table<'a>, of_model: bool) -> Machine<'a> {
         Machine {
             table,
+            of_model,
             rules: rules(table.bytes()),
             variables: table.start(),
         }
@@ -61,16 +66,28 @@ impl<'a> Machine<'a> {
         self.table.step(&mut variables.clone(), event).is_ok()
     }
 
-    /// The events that are enabled, REQUEST and TICK aside, in words.
-    fn enabled(&self, variables: &Variables, names: &Names) -> Vec<String> {
-        let mut found: Vec<String> = Vec::new();
+    /// The events whose rules hold, REQUEST and TICK aside: so many in words, and
+    /// how many there are.
+    fn enabled(&self, variables: &Variables, names: &Names) -> (Vec<String>, usize) {
+        let mut events: BTreeMap<(u8, u8), &Rule> = BTreeMap::new();
         for rule in self.rules.iter().filter(|rule| rule.event != REQUEST) {
-            if self.takes(variables, &rule.shortest()) {
-                found.push(rule.words(names));
+            if !events.contains_key(&rule.key()) && failing(rule, variables).is_empty() {
+                events.insert(rule.key(), rule);
             }
         }
-        found.dedup();
-        found
+        let told = events.values().take(TOLD);
+        let words = told.map(|rule| self.enabled_words(rule, variables, names));
+        (words.collect(), events.len())
+    }
+
+    /// An event that a rule holds for; the library knows whether it is taken.
+    fn enabled_words(&self, rule: &Rule, variables: &Variables, names: &Names) -> String {
+        let words = rule.words(names);
+        match self.table.step(&mut variables.clone(), &rule.shortest()) {
+            Err(12) => format!("{words} (by two rules)"),
+            Err(13) => format!("{words} (setting a variable twice)"),
+            _ => words,
+        }
     }
 
     /// The variables as many ticks later as can pass, and whether something stops them there.
@@ -107,14 +124,14 @@ impl<'a> Machine<'a> {
 
     /// What is enabled instead of a refused event, or due later.
     fn instead(&self, names: &Names) -> String {
-        let enabled = self.enabled(&self.variables, names);
-        if !enabled.is_empty() {
-            return format!("{} enabled", listed(&enabled));
+        let (enabled, count) = self.enabled(&self.variables, names);
+        if count > 0 {
+            return format!("{} enabled", listed(&enabled, count));
         }
         let (later, stopped) = self.later();
-        let due = self.enabled(&later, names);
-        if stopped && !due.is_empty() {
-            return format!("{} due at clock {}", listed(&due), later[0]);
+        let (due, count) = self.enabled(&later, names);
+        if stopped && count > 0 {
+            return format!("{} due at clock {}", listed(&due, count), later[0]);
         }
         "nothing but TICK and REQUEST is enabled".to_string()
     }
@@ -152,12 +169,13 @@ impl<'a> Machine<'a> {
         }
         let own = self.rules_for(kind, id);
         if own.is_empty() {
-            let item = SCRIPT.kind(kind).map_or("", |kind| kind.fields[0].word);
-            return Some(format!("there is no {item} {id}"));
+            return Some(self.nothing_for(kind, id));
         }
         // Of several rules the one that lacks least.
-        let nearest = own.iter().min_by_key(|rule| self.failing(rule).len())?;
-        match self.failing(nearest).first() {
+        let nearest = own
+            .iter()
+            .min_by_key(|rule| failing(rule, &self.variables).len())?;
+        match failing(nearest, &self.variables).first() {
             Some(clause) => Some(format!("it wants {}", self.lacks(clause, names))),
             None if nearest.allows(event) => None,
             None => Some(format!(
@@ -168,39 +186,16 @@ impl<'a> Machine<'a> {
     }
 
     fn rules_for(&self, event: u8, id: u8) -> Vec<&Rule> {
-        let own = |rule: &&Rule| (rule.event, rule.id) == (event, id);
+        let own = |rule: &&Rule| rule.key() == (event, id);
         self.rules.iter().filter(own).collect()
     }
 
-    fn failing<'b>(&self, rule: &'b Rule) -> Vec<&'b Vec<Atom>> {
-        let clauses = rule.clauses.iter();
-        clauses.filter(|clause| !self.holds(clause)).collect()
-    }
-
-    fn holds(&self, clause: &[Atom]) -> bool {
-        clause.iter().any(|atom| self.atom_holds(atom))
-    }
-
-    fn value(&self, variable: i64) -> i64 {
-        let found = usize::try_from(variable)
-            .ok()
-            .and_then(|variable| self.variables.get(variable));
-        found.map_or(0, |value| i64::from(*value))
-    }
-
-    fn atom_holds(&self, &[op, variable, tag, number]: &Atom) -> bool {
-        let left = self.value(variable);
-        let right = if tag == 1 { self.value(number) } else { number };
-        match op {
-            0 => left == right,
-            1 => left != right,
-            2 => left < right,
-            3 => left >= right,
-            4 => left > right,
-            5 => left <= right,
-            MULTIPLE => right != 0 && left % right == 0,
-            NO_MULTIPLE => right != 0 && left % right != 0,
-            _ => false,
+    /// An event without a rule. A model's table has rules for all of its items.
+    fn nothing_for(&self, event: u8, id: u8) -> String {
+        let item = SCRIPT.kind(event).map_or("", |kind| kind.fields[0].word);
+        match self.of_model {
+            true => format!("there is no {item} {id}"),
+            false => format!("the table has no rule for this {item}"),
         }
     }
 
@@ -217,25 +212,64 @@ impl<'a> Machine<'a> {
         }
         seen.sort_unstable();
         seen.dedup();
-        let value = |variable: &i64| {
-            let value = variables::value_with(*variable, self.value(*variable), names);
+        let told = |variable: &i64| {
+            let value = variables::value_with(*variable, value(&self.variables, *variable), names);
             format!("{} is {value}", variables::name_with(*variable, names))
         };
-        let values: Vec<String> = seen.iter().map(value).collect();
+        let values: Vec<String> = seen.iter().map(told).collect();
         format!("{}, but {}", atoms.join(" or "), values.join(", "))
     }
 
-    /// The numbers of the rules that are enabled for an event.
+    /// The numbers of the first rules, two at most, that are enabled for an event.
     fn enabled_rules(&self, event: &[u8]) -> String {
         let enabled = self.rules.iter().zip(0_usize..).filter(|(rule, _)| {
-            (rule.event, rule.id) == (event[0], event[1]) && self.failing(rule).is_empty()
+            (rule.event, rule.id) == (event[0], event[1])
+                && failing(rule, &self.variables).is_empty()
         });
-        let numbers: Vec<String> = enabled.map(|(_, number)| number.to_string()).collect();
-        numbers.join(" and ")
+        let numbers = enabled.take(2).map(|(_, number)| number.to_string());
+        numbers.collect::<Vec<_>>().join(" and ")
+    }
+}
+
+/// The clauses of a rule that fail.
+fn failing<'a>(rule: &'a Rule, variables: &Variables) -> Vec<&'a Vec<Atom>> {
+    let holds = |clause: &[Atom]| clause.iter().any(|atom| atom_holds(atom, variables));
+    let clauses = rule.clauses.iter();
+    clauses.filter(|clause| !holds(clause)).collect()
+}
+
+fn value(variables: &Variables, variable: i64) -> i64 {
+    let found = usize::try_from(variable)
+        .ok()
+        .and_then(|variable| variables.get(variable));
+    found.map_or(0, |value| i64::from(*value))
+}
+
+fn atom_holds(&[op, variable, tag, number]: &Atom, variables: &Variables) -> bool {
+    let left = value(variables, variable);
+    let right = match tag {
+        1 => value(variables, number),
+        _ => number,
+    };
+    match op {
+        0 => left == right,
+        1 => left != right,
+        2 => left < right,
+        3 => left >= right,
+        4 => left > right,
+        5 => left <= right,
+        MULTIPLE => right != 0 && left % right == 0,
+        NO_MULTIPLE => right != 0 && left % right != 0,
+        _ => false,
     }
 }
 
 impl Rule {
+    /// Kind and id of its event.
+    fn key(&self) -> (u8, u8) {
+        (self.event, self.id)
+    }
+
     /// The event it is for, of the shortest length.
     fn shortest(&self) -> Vec<u8> {
         let mut event = vec![self.event, self.id];
@@ -315,11 +349,15 @@ fn broken(event: &Record) -> String {
     }
 }
 
-/// `A is`, `A and B are`.
-fn listed(words: &[String]) -> String {
+/// `A is`, `A and B are`, of so many.
+fn listed(words: &[String], count: usize) -> String {
     match words {
         [] => String::new(),
         [one] => format!("{one} is"),
+        _ if count > words.len() => {
+            let more = count - words.len();
+            format!("{} and {more} more are", words.join(", "))
+        }
         [others @ .., last] => format!("{} and {last} are", others.join(", ")),
     }
 }
@@ -350,5 +388,3 @@ fn rules(table: &[u8]) -> Vec<Rule> {
     }
     rules
 }
-
-const _: () = assert!(COMPARISONS.len() == MULTIPLE as usize);

@@ -56,7 +56,7 @@ const LISTING_OPTIONS: &[Opt] = &[
     opt(
         "--limit",
         "",
-        "take the first 65,536 bytes of each file, as the verified programs do",
+        "read the first 65,536 bytes of a model or script, as the verified programs do",
     ),
 ];
 

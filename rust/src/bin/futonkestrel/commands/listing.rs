@@ -1,11 +1,10 @@
 //! `steps`, `rules` and `run`: the listings, and what happened in words.
 
+use futonkestrel::refusals::Holder;
 use futonkestrel::{
     events, model_listing, read_table, run_model, run_table, table_listing, translate,
     translate_to_vec, Refusal, Table,
 };
-
-use futonkestrel::refusals::Holder;
 
 use super::{tell, tell_file};
 use crate::files::{self, Input};
@@ -173,7 +172,7 @@ impl Job<'_> {
 
     fn machine(&self) -> Option<Machine<'_>> {
         let table = Table::read(self.table.as_ref()?).expect("it was accepted");
-        Some(Machine::new(table))
+        Some(Machine::new(table, self.format.name == MODEL.name))
     }
 
     /// The listing with what happened behind each line.

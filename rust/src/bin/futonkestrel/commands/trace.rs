@@ -19,7 +19,7 @@ pub fn trace(call: &Call) -> Result<Status, Failure> {
     match table_of(&file, of_model) {
         Ok(bytes) => {
             let table = Table::read(&bytes).expect("it was accepted");
-            print_trace(Machine::new(table), &script.bytes, of_model)?;
+            print_trace(Machine::new(table, of_model), &script.bytes, of_model)?;
             Ok(Status::Done)
         }
         Err(refusal) => {
