@@ -121,12 +121,25 @@ fn names_that_are_none() {
         assert_eq!(done.out, "");
         assert_eq!(done.refused(), format!("{names}: {text}\n"));
     };
-    says("thread 0 a\nthraed 1 b\n", "line 2, word 1 'thraed': expected one of thread, mode, input, output, local, connection, transition, behaviour");
+    says("thread 0 a\nthraed 1 b\n", "line 2, word 1 'thraed': expected one of thread, mode, input, output, local, connection, transition");
     says(
         "thread zero a\n",
         "line 1, word 2 'zero': expected a number from 0 to 65535",
     );
     says("thread 0\n", "line 1, at its end: expected a name");
+}
+
+/// An option's value may stand behind an equals sign; a transition may have a name.
+#[test]
+fn names_of_transitions() {
+    let folder = Folder::new("transitions");
+    let names = folder.write("names.txt", b"transition 1 to_lesson\n");
+    let option = format!("--names={names}");
+    let [model, _] = lesson();
+    let text = run_with(&["steps", "--words", &option, &model, "-"], &[8, 1]).good();
+    let line = "1 0 8 1    REQUEST to_lesson ignored";
+    assert_eq!(text.lines().next(), Some(line));
+    run(&["steps", "--words=all", &model, &model]).wrong_call();
 }
 
 /// A request that changes nothing is taken all the same.

@@ -57,7 +57,6 @@ pub const NAMED: &[Item] = &[
     Item::Local,
     Item::Connection,
     Item::Transition,
-    Item::Behaviour,
 ];
 
 /// How a field of a plain line is written.

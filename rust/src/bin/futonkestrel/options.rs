@@ -1,6 +1,7 @@
 //! The commands with their options and help, and the words of a call.
 
 use std::ffi::{OsStr, OsString};
+use std::os::unix::ffi::OsStrExt;
 
 use crate::commands::{check, compare, listing, show, table, trace};
 use crate::{files, Failure, Status};
@@ -301,30 +302,43 @@ impl Command {
         };
         let mut words = words.iter();
         while let Some(word) = words.next() {
-            let text = word.to_string_lossy();
-            if text == "--" {
+            if word == "--" {
                 call.operands.extend(words.by_ref().cloned());
-            } else if text == "-" || !text.starts_with('-') {
+            } else if word == "-" || !word.as_bytes().starts_with(b"-") {
                 call.operands.push(word.clone());
             } else {
-                let option = self.option(&text)?;
-                let value = if option.value.is_empty() {
-                    Some(OsString::new())
-                } else {
-                    words.next().cloned()
-                };
-                let value = value.ok_or_else(|| {
-                    self.wrong(&format!("{} wants {}", option.word, option.value))
-                })?;
-                call.options.push((option.word, value));
+                let (option, value) = self.option(word)?;
+                let value = value.or_else(|| words.next().cloned());
+                let missing = || self.wrong(&format!("{} wants {}", option.word, option.value));
+                call.options.push((option.word, value.ok_or_else(missing)?));
             }
         }
         Ok(call)
     }
 
-    fn option(&self, word: &str) -> Result<&'static Opt, Failure> {
-        let found = self.options.iter().find(|option| option.word == word);
-        found.ok_or_else(|| self.wrong(&format!("no option '{word}'")))
+    /// The option that a word is, and its value where that stands behind an
+    /// equals sign or there is none.
+    fn option(&self, word: &OsStr) -> Result<(&'static Opt, Option<OsString>), Failure> {
+        let wrong = || self.wrong(&format!("no option '{}'", word.to_string_lossy()));
+        let bytes = word.as_bytes();
+        if let Some(option) = self.options.iter().find(|option| word == option.word) {
+            let none = option.value.is_empty().then(OsString::new);
+            return Ok((option, none));
+        }
+        let sign = bytes
+            .iter()
+            .position(|byte| *byte == b'=')
+            .ok_or_else(wrong)?;
+        let (name, value) = (&bytes[..sign], &bytes[sign + 1..]);
+        let mut with_value = self
+            .options
+            .iter()
+            .filter(|option| !option.value.is_empty());
+        let option = with_value.find(|option| option.word.as_bytes() == name);
+        Ok((
+            option.ok_or_else(wrong)?,
+            Some(OsStr::from_bytes(value).to_os_string()),
+        ))
     }
 
     fn wrong(&self, text: &str) -> Failure {

@@ -266,12 +266,10 @@ fn happened(event: &[u8], changed: &[String], names: &Names, modes: &[String]) -
     }
     let others = kind.fields.iter().zip(values).skip(1);
     words.extend(others.map(|(field, value)| format!("{} {value}", field.word)));
-    if item_of_event(kind.byte) == Some(Item::Transition) {
-        words.extend(
-            modes
-                .get(values[0] as usize)
-                .map(|modes| format!("({modes})")),
-        );
+    let own = names.of(Item::Transition, values[0]);
+    if item_of_event(kind.byte) == Some(Item::Transition) && own.is_none() {
+        let told = modes.get(values[0] as usize);
+        words.extend(told.map(|modes| format!("({modes})")));
     }
     if kind.byte == REQUEST && changed.is_empty() {
         words.push("ignored".to_string());
