@@ -49,7 +49,7 @@ pub const MEANINGS: &[Meaning] = &[
     meaning(
         3,
         Holder::Model,
-        "one item too many, or a table that is too long",
+        "one item too many, or a table over 1,000,000 bytes",
         "leave items out until the limit is kept",
     ),
     meaning(
@@ -103,7 +103,7 @@ pub const MEANINGS: &[Meaning] = &[
     meaning(
         12,
         Holder::Script,
-        "two rules of the table are enabled",
+        "two rules of a table are enabled",
         "change the table: its rules overlap, which those of a made table never do",
     ),
     meaning(

@@ -165,3 +165,13 @@ fn meanings() {
     }
     assert_eq!(meaning_of(0), None);
 }
+
+/// The table of refusals in README has the same causes.
+#[test]
+fn causes_in_readme() {
+    let readme = include_str!("../../README.md");
+    for meaning in MEANINGS {
+        let row = format!("| {} | {} | ", meaning.number, meaning.cause);
+        assert!(readme.contains(&row), "{row}");
+    }
+}
