@@ -9,13 +9,20 @@
 //! * [`run_model`], [`run_table`]: a script up to its first refused event
 //! * [`model_listing`], [`table_listing`]: the lines of such a run
 //! * [`Table`]: one event after another on variables of one's own, in any order
+//! * [`refusals`]: what each refusal means, in words
 //! * [`raw`]: the same functions with outputs of any length
 
+use std::error::Error;
+use std::fmt;
+
 pub mod raw;
+pub mod refusals;
+
+use refusals::Holder;
 
 /// A refusal by its number in document 01, and the part that it returns, from
-/// offset `start` up to but not with `end`. The part lies in the model or table
-/// for numbers 1 to 8, and in the script for 9 to 13.
+/// offset `start` up to but not with `end`, in what [`Refusal::holder`] names.
+/// Printed, it tells the cause and what to do.
 #[derive(Clone, Copy, Debug, PartialEq, Eq)]
 pub struct Refusal {
     pub number: u32,
@@ -31,7 +38,35 @@ impl Refusal {
             _ => Err(Refusal { number, start, end }),
         }
     }
+
+    /// What holds the part.
+    pub fn holder(&self) -> Holder {
+        refusals::meaning_of(self.number).map_or(Holder::Model, |found| found.holder)
+    }
+
+    /// Why it was refused, in words.
+    pub fn cause(&self) -> &'static str {
+        refusals::meaning_of(self.number).map_or("a refusal without a name", |found| found.cause)
+    }
+
+    /// What to do about it, in words.
+    pub fn remedy(&self) -> &'static str {
+        refusals::meaning_of(self.number).map_or("look at the part refused", |found| found.remedy)
+    }
 }
+
+impl fmt::Display for Refusal {
+    fn fmt(&self, f: &mut fmt::Formatter) -> fmt::Result {
+        let Refusal { number, start, end } = self;
+        let (cause, remedy) = (self.cause(), self.remedy());
+        write!(
+            f,
+            "refused {number} at bytes {start} to {end}: {cause} ({remedy})"
+        )
+    }
+}
+
+impl Error for Refusal {}
 
 /// A run up to its end or to its first refusal.
 #[derive(Clone, Copy, Debug, PartialEq, Eq)]

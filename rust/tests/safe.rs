@@ -3,6 +3,7 @@
 mod common;
 
 use common::{table_of_m, BYTE, DUE, LISTING, M, NOW, SCRIPT, STATE};
+use futonkestrel::refusals::{meaning_of, Holder, MEANINGS};
 use futonkestrel::{
     event_length, events, model_after, model_listing, model_listing_into, read_model, read_table,
     run_model, run_table, table_listing, table_listing_into, translate, translate_to_vec, Refusal,
@@ -138,4 +139,39 @@ fn the_model_shows_what_the_table_has() {
         }
     }
     assert_eq!(model_after(&M[..4], &[], &[], &mut variables), 1);
+}
+
+/// A refusal is an error that tells its cause and what to do.
+#[test]
+fn a_refusal_in_words() {
+    let refusal = read_model(&M[..20]).expect_err("it is cut");
+    let error: Box<dyn std::error::Error> = Box::new(refusal);
+    let wanted = "refused 1 at bytes 3 to 20: a record's body runs past the end \
+                  (the file is cut, or a byte is missing before this record)";
+    assert_eq!(error.to_string(), wanted);
+    assert_eq!(refusal.holder(), Holder::Model);
+}
+
+/// Every number has a meaning of its own, in the order of the numbers.
+#[test]
+fn meanings() {
+    let numbers: Vec<u32> = MEANINGS.iter().map(|meaning| meaning.number).collect();
+    assert_eq!(numbers, (1..=13).collect::<Vec<u32>>());
+    for meaning in MEANINGS {
+        assert!(!meaning.cause.is_empty() && !meaning.remedy.is_empty());
+        let in_script = meaning.holder == Holder::Script;
+        assert_eq!(in_script, meaning.number >= 9);
+        assert_eq!(meaning_of(meaning.number), Some(meaning));
+    }
+    assert_eq!(meaning_of(0), None);
+}
+
+/// The table of refusals in README has the same causes.
+#[test]
+fn causes_in_readme() {
+    let readme = include_str!("../../README.md");
+    for meaning in MEANINGS {
+        let row = format!("| {} | {} | ", meaning.number, meaning.cause);
+        assert!(readme.contains(&row), "{row}");
+    }
 }

@@ -39,10 +39,7 @@ fn run() -> Result<(), String> {
         Some(text) => text.parse().map_err(|_| format!("no depth: {text}"))?,
     };
     let model = fs::read(&file).map_err(|error| format!("{file}: {error}"))?;
-    let table = translate_to_vec(&model).map_err(|refusal| {
-        let (number, part) = (refusal.number, refusal.start..refusal.end);
-        format!("{file}: refused with {number} at bytes {part:?}")
-    })?;
+    let table = translate_to_vec(&model).map_err(|refusal| format!("{file}: {refusal}"))?;
     print!("{}", report(&table, depth));
     Ok(())
 }

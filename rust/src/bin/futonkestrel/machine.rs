@@ -1,0 +1,390 @@
+//! A table with its variables: what can happen next, and why something cannot.
+//! A model is looked at by its table, which takes the same events: that is
+//! proved.
+
+use std::collections::BTreeMap;
+
+use futonkestrel::{Table, Variables};
+
+use crate::format::{Item, MULTIPLE, NO_MULTIPLE, REQUEST, SCRIPT, START, TABLE, TICK};
+use crate::names::Names;
+use crate::record::{records, Record};
+use crate::text;
+use crate::variables;
+
+/// The most ticks that one event has.
+const MOST_TICKS: u16 = u16::MAX;
+/// How many such events are tried to find what comes next: longer than any period.
+const TRIES: usize = 16;
+/// So many events are told by name, and only the number of further ones.
+const TOLD: usize = 16;
+
+struct Rule {
+    event: u8,
+    id: u8,
+    low: u32,
+    high: u32,
+    clauses: Vec<Vec<Atom>>,
+}
+
+/// Op, variable, and the operand's tag and number.
+type Atom = [i64; 4];
+
+pub struct Machine<'a> {
+    table: Table<'a>,
+    rules: Vec<Rule>,
+    /// Whether it is the table made from a model.
+    of_model: bool,
+    pub variables: Variables,
+}
+
+impl<'a> Machine<'a> {
+    /// The table at its start.
+    pub fn new(table: Table<'a>, of_model: bool) -> Machine<'a> {
+        Machine {
+            table,
+            of_model,
+            rules: rules(table.bytes()),
+            variables: table.start(),
+        }
+    }
+
+    /// Gives one event; 0, or the number of its refusal, which changes nothing.
+    pub fn step(&mut self, event: &[u8]) -> u32 {
+        self.table
+            .step(&mut self.variables, event)
+            .err()
+            .unwrap_or(0)
+    }
+
+    fn clock(&self) -> i32 {
+        self.variables[0]
+    }
+
+    /// Whether the event would be taken.
+    fn takes(&self, variables: &Variables, event: &[u8]) -> bool {
+        self.table.step(&mut variables.clone(), event).is_ok()
+    }
+
+    /// The events whose rules hold, REQUEST and TICK aside: so many in words, and
+    /// how many there are.
+    fn enabled(&self, variables: &Variables, names: &Names) -> (Vec<String>, usize) {
+        let mut events: BTreeMap<(u8, u8), &Rule> = BTreeMap::new();
+        for rule in self.rules.iter().filter(|rule| rule.event != REQUEST) {
+            if !events.contains_key(&rule.key()) && failing(rule, variables).is_empty() {
+                events.insert(rule.key(), rule);
+            }
+        }
+        let told = events.values().take(TOLD);
+        let words = told.map(|rule| self.enabled_words(rule, variables, names));
+        (words.collect(), events.len())
+    }
+
+    /// An event that a rule holds for; the library knows whether it is taken.
+    fn enabled_words(&self, rule: &Rule, variables: &Variables, names: &Names) -> String {
+        let words = rule.words(names);
+        match self.table.step(&mut variables.clone(), &rule.shortest()) {
+            Err(12) => format!("{words} (by two rules)"),
+            Err(13) => format!("{words} (setting a variable twice)"),
+            _ => words,
+        }
+    }
+
+    /// The variables as many ticks later as can pass, and whether something stops them there.
+    fn later(&self) -> (Variables, bool) {
+        let mut variables = self.variables;
+        for _ in 0..TRIES {
+            let most = self.most_ticks(&variables);
+            if most > 0 {
+                let _ = self.table.step(&mut variables, &tick(most));
+            }
+            if most < MOST_TICKS {
+                return (variables, true);
+            }
+        }
+        (variables, false)
+    }
+
+    /// The most ticks that can pass at once.
+    fn most_ticks(&self, variables: &Variables) -> u16 {
+        let (mut taken, mut refused) = (0, MOST_TICKS);
+        if self.takes(variables, &tick(MOST_TICKS)) {
+            return MOST_TICKS;
+        }
+        while taken + 1 < refused {
+            let middle = taken + (refused - taken) / 2;
+            if self.takes(variables, &tick(middle)) {
+                taken = middle;
+            } else {
+                refused = middle;
+            }
+        }
+        taken
+    }
+
+    /// What is enabled instead of a refused event, or due later.
+    fn instead(&self, names: &Names) -> String {
+        let (enabled, count) = self.enabled(&self.variables, names);
+        if count > 0 {
+            return format!("{} enabled", listed(&enabled, count));
+        }
+        let (later, stopped) = self.later();
+        let (due, count) = self.enabled(&later, names);
+        if stopped && count > 0 {
+            return format!("{} due at clock {}", listed(&due, count), later[0]);
+        }
+        "nothing but TICK and REQUEST is enabled".to_string()
+    }
+
+    /// A refused event: the line about it, and why it was refused where that can be told.
+    pub fn refused(&self, event: &Record, number: u32, names: &Names) -> Vec<String> {
+        let shown = event_words(event.bytes, names);
+        let clock = self.clock();
+        let mut lines = Vec::new();
+        let instead = match number {
+            9 => broken(event),
+            11 => "the last clock is 1000000000".to_string(),
+            12 => format!("rules {} are enabled", self.enabled_rules(event.bytes)),
+            13 => format!(
+                "rule {} sets a variable twice",
+                self.enabled_rules(event.bytes)
+            ),
+            _ => {
+                lines.extend(self.why_not(event.bytes, names));
+                self.instead(names)
+            }
+        };
+        lines.insert(
+            0,
+            format!("{shown} refused ({number}) at clock {clock}: {instead}"),
+        );
+        lines
+    }
+
+    /// What an event lacks first.
+    fn why_not(&self, event: &[u8], names: &Names) -> Option<String> {
+        let (kind, id) = (event[0], event[1]);
+        if kind == TICK {
+            return None;
+        }
+        let own = self.rules_for(kind, id);
+        if own.is_empty() {
+            return Some(self.nothing_for(kind, id));
+        }
+        // Of several rules the one that lacks least.
+        let nearest = own
+            .iter()
+            .min_by_key(|rule| failing(rule, &self.variables).len())?;
+        match failing(nearest, &self.variables).first() {
+            Some(clause) => Some(format!("it wants {}", self.lacks(clause, names))),
+            None if nearest.allows(event) => None,
+            None => Some(format!(
+                "its length must be from {} to {}",
+                nearest.low, nearest.high
+            )),
+        }
+    }
+
+    fn rules_for(&self, event: u8, id: u8) -> Vec<&Rule> {
+        let own = |rule: &&Rule| rule.key() == (event, id);
+        self.rules.iter().filter(own).collect()
+    }
+
+    /// An event without a rule. A model's table has rules for all of its items.
+    fn nothing_for(&self, event: u8, id: u8) -> String {
+        let item = SCRIPT.kind(event).map_or("", |kind| kind.fields[0].word);
+        match self.of_model {
+            true => format!("there is no {item} {id}"),
+            false => format!("the table has no rule for this {item}"),
+        }
+    }
+
+    /// A clause that fails, with the values that it looks at.
+    fn lacks(&self, clause: &[Atom], names: &Names) -> String {
+        if clause.is_empty() {
+            return "what never holds (an empty clause)".to_string();
+        }
+        let atoms: Vec<String> = clause.iter().map(|atom| text::atom(*atom, names)).collect();
+        let mut seen: Vec<i64> = Vec::new();
+        for &[_, variable, tag, number] in clause {
+            seen.push(variable);
+            seen.extend((tag == 1).then_some(number));
+        }
+        seen.sort_unstable();
+        seen.dedup();
+        let told = |variable: &i64| {
+            let value = variables::value_with(*variable, value(&self.variables, *variable), names);
+            format!("{} is {value}", variables::name_with(*variable, names))
+        };
+        let values: Vec<String> = seen.iter().map(told).collect();
+        format!("{}, but {}", atoms.join(" or "), values.join(", "))
+    }
+
+    /// The numbers of the first rules, two at most, that are enabled for an event.
+    fn enabled_rules(&self, event: &[u8]) -> String {
+        let enabled = self.rules.iter().zip(0_usize..).filter(|(rule, _)| {
+            (rule.event, rule.id) == (event[0], event[1])
+                && failing(rule, &self.variables).is_empty()
+        });
+        let numbers = enabled.take(2).map(|(_, number)| number.to_string());
+        numbers.collect::<Vec<_>>().join(" and ")
+    }
+}
+
+/// The clauses of a rule that fail.
+fn failing<'a>(rule: &'a Rule, variables: &Variables) -> Vec<&'a Vec<Atom>> {
+    let holds = |clause: &[Atom]| clause.iter().any(|atom| atom_holds(atom, variables));
+    let clauses = rule.clauses.iter();
+    clauses.filter(|clause| !holds(clause)).collect()
+}
+
+fn value(variables: &Variables, variable: i64) -> i64 {
+    let found = usize::try_from(variable)
+        .ok()
+        .and_then(|variable| variables.get(variable));
+    found.map_or(0, |value| i64::from(*value))
+}
+
+fn atom_holds(&[op, variable, tag, number]: &Atom, variables: &Variables) -> bool {
+    let left = value(variables, variable);
+    let right = match tag {
+        1 => value(variables, number),
+        _ => number,
+    };
+    match op {
+        0 => left == right,
+        1 => left != right,
+        2 => left < right,
+        3 => left >= right,
+        4 => left > right,
+        5 => left <= right,
+        MULTIPLE => right != 0 && left % right == 0,
+        NO_MULTIPLE => right != 0 && left % right != 0,
+        _ => false,
+    }
+}
+
+impl Rule {
+    /// Kind and id of its event.
+    fn key(&self) -> (u8, u8) {
+        (self.event, self.id)
+    }
+
+    /// The event it is for, of the shortest length.
+    fn shortest(&self) -> Vec<u8> {
+        let mut event = vec![self.event, self.id];
+        if self.event == START {
+            event.extend(self.low.to_le_bytes());
+        }
+        event
+    }
+
+    fn allows(&self, event: &[u8]) -> bool {
+        let length = event
+            .get(2..6)
+            .and_then(|bytes| bytes.try_into().ok())
+            .map(u32::from_le_bytes);
+        length.is_none_or(|length| (self.low..=self.high).contains(&length))
+    }
+
+    fn words(&self, names: &Names) -> String {
+        let event = short_words(self.event, i64::from(self.id), names);
+        match self.event {
+            START if self.low == self.high => format!("{event} for {}", self.low),
+            START => format!("{event} for {} to {}", self.low, self.high),
+            _ => event,
+        }
+    }
+}
+
+fn tick(ticks: u16) -> Vec<u8> {
+    [&[TICK], &ticks.to_le_bytes()[..]].concat()
+}
+
+/// `DISPATCH 0`, or with the item's own name.
+fn short_words(event: u8, id: i64, names: &Names) -> String {
+    let Some(kind) = SCRIPT.kind(event) else {
+        return format!("event {event:02x}");
+    };
+    match item_of_event(event).and_then(|item| names.of(item, id)) {
+        Some(own) => format!("{} {own}", kind.word),
+        None => format!("{} {id}", kind.word),
+    }
+}
+
+/// What the first field of an event names.
+pub fn item_of_event(event: u8) -> Option<Item> {
+    let word = SCRIPT.kind(event)?.fields[0].word;
+    [Item::Thread, Item::Transition]
+        .into_iter()
+        .find(|item| item.word() == word)
+}
+
+/// An event in few words, as it is told in messages.
+fn event_words(event: &[u8], names: &Names) -> String {
+    let whole = records(&SCRIPT, event);
+    let Some((kind, values)) = whole.first().and_then(Record::whole) else {
+        let kind = SCRIPT.kind(event[0]).map(|kind| kind.word.to_string());
+        return kind.unwrap_or_else(|| format!("event of kind {:02x}", event[0]));
+    };
+    let short = short_words(event[0], values[0], names);
+    match values.get(1) {
+        Some(length) => format!("{short} {} {length}", kind.fields[1].word),
+        None => short,
+    }
+}
+
+/// Why an event is none.
+fn broken(event: &Record) -> String {
+    match (event.kind, &event.values) {
+        (None, _) => format!("no event has the kind {:02x}", event.bytes[0]),
+        (Some(kind), None) => {
+            let (size, left) = (1 + kind.body(), event.bytes.len());
+            format!(
+                "{} has {size} bytes, and the script ends after {left}",
+                kind.word
+            )
+        }
+        _ => "the ticks must be at least 1".to_string(),
+    }
+}
+
+/// `A is`, `A and B are`, of so many.
+fn listed(words: &[String], count: usize) -> String {
+    match words {
+        [] => String::new(),
+        [one] => format!("{one} is"),
+        _ if count > words.len() => {
+            let more = count - words.len();
+            format!("{} and {more} more are", words.join(", "))
+        }
+        [others @ .., last] => format!("{} and {last} are", others.join(", ")),
+    }
+}
+
+/// The rules of an accepted table.
+fn rules(table: &[u8]) -> Vec<Rule> {
+    let mut rules: Vec<Rule> = Vec::new();
+    for record in records(&TABLE, table) {
+        let Some((kind, values)) = record.whole() else {
+            continue;
+        };
+        match (kind.item, values, rules.last_mut()) {
+            (Item::Rule, &[event, id, low, high], _) => rules.push(Rule {
+                event: event as u8,
+                id: id as u8,
+                low: low as u32,
+                high: high as u32,
+                clauses: Vec::new(),
+            }),
+            (Item::Clause, _, Some(rule)) => rule.clauses.push(Vec::new()),
+            (Item::Atom, &[op, variable, tag, number], Some(rule)) => {
+                if let Some(clause) = rule.clauses.last_mut() {
+                    clause.push([op, variable, tag, number]);
+                }
+            }
+            _ => {}
+        }
+    }
+    rules
+}

@@ -1,0 +1,54 @@
+//! Every command on damaged and random files: it answers or refuses, whatever
+//! it is given.
+
+use crate::random::{Random, MODEL, SCRIPT, TABLE};
+use crate::tools::{bytes_of, example, run, Folder};
+
+/// Damaged, or records of any fields behind a good beginning.
+fn changed(random: &mut Random, whole: &[u8], kinds: &[(u8, usize)]) -> Vec<u8> {
+    match random.below(3) {
+        0 => [whole, &random.records(kinds)].concat(),
+        _ => random.damaged(whole),
+    }
+}
+
+/// Done, or refused with the line for programs; `compare` tells on standard output.
+fn answers(words: &[&str]) {
+    let done = run(words);
+    let told = done.err.starts_with("refused ") || words[0] == "compare";
+    let refused = done.status == 1 && told;
+    assert!(refused || done.status == 0, "{words:?}: {done:?}");
+    assert_eq!(
+        done.err.is_empty(),
+        done.status == 0 || words[0] == "compare" && !done.out.is_empty()
+    );
+}
+
+#[test]
+fn every_command_answers() {
+    let folder = Folder::new("any");
+    let mut random = Random::new(4);
+    let model = bytes_of(&example("lesson/model.bin"));
+    let script = bytes_of(&example("lesson/script.bin"));
+    let table = futonkestrel::translate_to_vec(&model).expect("it is accepted");
+    let good_model = example("lesson/model.bin");
+    for _ in 0..60 {
+        let model = folder.write("model", &changed(&mut random, &model, MODEL));
+        let script = folder.write("script", &changed(&mut random, &script, SCRIPT));
+        let table = folder.write("table", &changed(&mut random, &table, TABLE));
+        let out = folder.path("out");
+        for words in [
+            &["check", &model][..],
+            &["check", "--table", &table],
+            &["table", &model, &out],
+            &["compare", &good_model, &table],
+            &["steps", "--words", "--values", &model, &script],
+            &["rules", "--words", "--values", &good_model, &script],
+            &["run", "--words", "--values", &table, &script],
+            &["trace", "--table", &table, &script],
+            &["show", &model],
+        ] {
+            answers(words);
+        }
+    }
+}

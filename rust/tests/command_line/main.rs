@@ -1,0 +1,12 @@
+//! The command line: each command by what it prints, what it writes and its
+//! status.
+
+mod any_files;
+mod calls;
+mod commands;
+mod files;
+mod random;
+mod refusals;
+mod round_trips;
+mod tools;
+mod vectors;
