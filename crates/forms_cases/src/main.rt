@@ -110,7 +110,7 @@ fn print_turn(c: Cause, v: View) {
     let p = v.phase;
     print_figure(p as u64);
     let t = v.taken;
-    io::print_decimal(STDOUT_FILENO, t as u64);
+    io::print_decimal(STDOUT_FILENO, t);
     io::write_all(STDOUT_FILENO, b"\n");
 }
 

@@ -18,7 +18,7 @@ use Rattle.numbers.specs.Values.{value, natural, signed, bitsOf}
 use Rattle.model_format.specs.declared.Timing.{Timing}
 use Rattle.model.specs.declared.Clock.{Clock}
 use Rattle.model.specs.declared.State.{State}
-use Rattle.model.specs.State.{isActive, codeOf, dispatchTime, behaviorOf, missedOf, isLive, inputOf, bufferOf, outputOf, localOf}
+use Rattle.model.specs.State.{isActive, codeOf, dispatchTime, behaviorOf, missedOf, isLive, inputValue, bufferValue, outputValue, localValue}
 use Rattle.table_format.specs.Variables.{nowVar, modeVar, phaseVar, pendingVar, enteredVar, activeVar, stateVar, dispatchVar, behaviorVar, missedVar, flagVar, inputVar, bufferVar, outputVar, localVar}
 use Rattle.translate.specs.Shown.{bit, inBlock, standsFor}
 
@@ -36,10 +36,10 @@ count-same n v f e = rw e (record { bits = ofZ-toZ w32 n f })
 -- ---- the pieces of standsFor, the last one first
 unfoldable pub portShown : Timing → State → ℕ → Value
 portShown m s j =
-    cond (inBlock (inputVar 0) (m .inputs) j) (inputOf (s .ports) (j - inputVar 0))
-    (cond (inBlock (bufferVar 0) (m .inputs) j) (bufferOf (s .ports) (j - bufferVar 0))
-    (cond (inBlock (outputVar 0) (m .outputs) j) (outputOf (s .ports) (j - outputVar 0))
-    (cond (inBlock (localVar 0) (m .locals) j) (localOf (s .ports) (j - localVar 0)) (natural 0))))
+    cond (inBlock (inputVar 0) (m .inputs) j) (inputValue (s .ports) (j - inputVar 0))
+    (cond (inBlock (bufferVar 0) (m .inputs) j) (bufferValue (s .ports) (j - bufferVar 0))
+    (cond (inBlock (outputVar 0) (m .outputs) j) (outputValue (s .ports) (j - outputVar 0))
+    (cond (inBlock (localVar 0) (m .locals) j) (localValue (s .ports) (j - localVar 0)) (natural 0))))
 
 unfoldable pub countShown : Timing → State → ℕ → Value
 countShown m s j =

@@ -3,12 +3,11 @@ use mathlib.Core.Path.{_≡_, refl}
 use mathlib.Core.Bool.{Bool, true, false, cond}
 use Prim.Native.Nat.{ℕ, zero, suc}
 use native.Mathlib.Omega.{arith}
-use lib.Dec.{eqb, ltb}
-use Rattle.numbers.specs.Values.{oneMore}
+use lib.Dec.{ltb}
 use Rattle.records.specs.declared.Cause.{Cause}
 use Rattle.records.specs.declared.Cause.the-variants.{BrokenEvent, NotEnabled, LastClock}
 use Rattle.records.specs.declared.Event.{Event}
-use Rattle.records.specs.Events.{tickKind, isBroken, lastClock}
+use Rattle.records.specs.Events.{lastClock}
 use Rattle.records.specs.Refusals.{numberOf, isNone}
 use Rattle.model_format.specs.declared.Timing.{Timing}
 use Rattle.model_format.specs.declared.Model.{Model}
@@ -17,8 +16,9 @@ use Rattle.model.specs.declared.Stepped.{Stepped}
 use Rattle.model.specs.State.{nowOf}
 use Rattle.model.specs.Tests.{isBusy}
 use Rattle.model.specs.Effects.{tick}
-use Rattle.model.specs.Machine.{isEnabled, effect, refuse, take, ticks, step}
-use Rattle.lent_state.specs.View.{viewOf, viewAfter}
+use Rattle.model.specs.Machine.{refuse, accept, attempt, ticks, step}
+use Rattle.model.specs.MachineLaws.{step-is}
+use Rattle.lent_state.specs.View.{nextCount, viewOf, viewAfter}
 
 -- ---- a refused event leaves the state as it was
 Keeps : State → Stepped → Type 0
@@ -32,7 +32,7 @@ refused : (s : State) (c : Cause) → Keeps s (refuse c s)
 unfolding Keeps
 refused s c h = refl
 
-taken : (s x : State) → Keeps s (take x)
+taken : (s x : State) → Keeps s (accept x)
 unfolding Keeps numberOf
 taken s x h = let z : _≡_ {A = ℕ} 0 1 = cc in absurd (omega arith)
 
@@ -45,20 +45,17 @@ ticks-keep m s₀ (suc n) s =
     either s₀ (isBusy m s) (refuse NotEnabled s₀) late (refused s₀ NotEnabled)
     (either s₀ (ltb (nowOf s) lastClock) r (refuse LastClock s₀) (ticks-keep m s₀ n (tick m s)) (refused s₀ LastClock))
 
+tries : (s : State) (b : Bool) (x : State) → Keeps s (attempt b x s)
+tries s b x = either s b (accept x) (refuse NotEnabled s) (taken s x) (refused s NotEnabled)
+
 step-keeps : (m : Model) (s : State) (e : Event) → Keeps s (step m s e)
-unfolding step
-step-keeps m s e =
-    let r = ticks (m .timing) s (e .amount) s in
-    let x = cond (isEnabled (m .timing) s e) (take (effect m s e)) (refuse NotEnabled s) in
-    either s (isBroken e) (refuse BrokenEvent s) (cond (eqb (e .kind) tickKind) r x) (refused s BrokenEvent)
-    (either s (eqb (e .kind) tickKind) r x (ticks-keep (m .timing) s (e .amount) s)
-    (either s (isEnabled (m .timing) s e) (take (effect m s e)) (refuse NotEnabled s) (taken s (effect m s e)) (refused s NotEnabled)))
+step-keeps m s e = step-is (Keeps s) s (tries s) m e (refused s BrokenEvent) (ticks-keep (m .timing) s (e .amount) s)
 
 -- ----
-pub view-shows : (m : Model) (s : State) (e : Event) (k : ℕ) → viewAfter (viewOf s k) (step m s e) ≡ viewOf (step m s e .state) (cond (isNone (step m s e .answer)) (oneMore k) k)
+pub view-shows : (m : Model) (s : State) (e : Event) (k : ℕ) → viewAfter (viewOf s k) (step m s e) ≡ viewOf (step m s e .state) (cond (isNone (step m s e .answer)) (nextCount k) k)
 unfolding viewAfter Keeps
 view-shows m s e k = go (step m s e) (isNone (step m s e .answer)) refl (step-keeps m s e)
   where
-    go : (r : Stepped) (b : Bool) → isNone (r .answer) ≡ b → Keeps s r → cond (isNone (r .answer)) (viewOf (r .state) (oneMore k)) (viewOf s k) ≡ viewOf (r .state) (cond (isNone (r .answer)) (oneMore k) k)
+    go : (r : Stepped) (b : Bool) → isNone (r .answer) ≡ b → Keeps s r → cond (isNone (r .answer)) (viewOf (r .state) (nextCount k)) (viewOf s k) ≡ viewOf (r .state) (cond (isNone (r .answer)) (nextCount k) k)
     go r true h p = rw h
     go r false h p = rw (h, p h)

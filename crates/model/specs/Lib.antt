@@ -1,9 +1,8 @@
 pub mod State
 pub mod Parts
-pub mod Quiet
-pub mod QuietLaws
 pub mod Tests
 pub mod Jobs
 pub mod TestLaws
 pub mod Effects
 pub mod Machine
+pub mod MachineLaws

@@ -43,59 +43,74 @@ startState m = record {
   };
 }
 
--- One match over the kind chooses each event's test; "id without item": it is not enabled.
-unfoldable pub isEnabled : Timing → State → Event → Bool
-isEnabled m s e =
-    let t = e .id in
-    let thread = ltb t (m .threads) in
-    let switch = ltb t (m .switches) in
-    cond (eqb (e .kind) 1) (thread && canActivate s t)
-    (cond (eqb (e .kind) 2) (thread && canDeactivate s t)
-    (cond (eqb (e .kind) 3) (thread && canDispatch m s t)
-    (cond (eqb (e .kind) 4) (canStart m s t (e .amount))
-    (cond (eqb (e .kind) 5) (thread && canComplete s t)
-    (cond (eqb (e .kind) 6) (thread && canMeetDeadline m s t)
-    (cond (eqb (e .kind) 7) (thread && canMiss m s t)
-    (cond (eqb (e .kind) 8) switch
-    (cond (eqb (e .kind) 9) (switch && canEnter m s t)
-    (cond (eqb (e .kind) 10) (switch && canLeave m s t) false)))))))))
-
--- and its effect
-unfoldable pub effect : Model → State → Event → State
-effect m s e =
-    let t = e .id in
-    let x = m .timing in
-    cond (eqb (e .kind) 1) (withCode s t waitingDispatch)
-    (cond (eqb (e .kind) 2) (withCode s t waitingMode)
-    (cond (eqb (e .kind) 3) (dispatch x s t)
-    (cond (eqb (e .kind) 4) (start x s t (e .amount))
-    (cond (eqb (e .kind) 5) (complete m s t)
-    (cond (eqb (e .kind) 6) (meetDeadline x s t)
-    (cond (eqb (e .kind) 7) (miss x s t)
-    (cond (eqb (e .kind) 8) (request x s t)
-    (cond (eqb (e .kind) 9) (enter x s t)
-    (cond (eqb (e .kind) 10) (leave x s t) s)))))))))
-
 abbrev pub refuse : Cause → State → Stepped
 refuse c s = record { answer = c; state = s }
 
-abbrev pub take : State → Stepped
-take s = record { answer = None; state = s }
+abbrev pub accept : State → Stepped
+accept s = record { answer = None; state = s }
+
+-- Where the test b holds, x is the state after the event. "not enabled, id without item": it is refused, and the state s stays.
+abbrev pub attempt : Bool → State → State → Stepped
+attempt b x s = cond b (accept x) (refuse NotEnabled s)
 
 -- "TICK n: tick by tick; each needs that no event but REQUEST is enabled, then Now below 1,000,000,000": n ticks more, where s₀ is the
 -- state before all of them.
 unfoldable pub ticks : Timing → State → ℕ → State → Stepped
-ticks m s₀ zero s = take s
+ticks m s₀ zero s = accept s
 ticks m s₀ (suc n) s =
     let r = ticks m s₀ n (tick m s) in
     cond (isBusy m s) (refuse NotEnabled s₀) (cond (ltb (nowOf s) lastClock) r (refuse LastClock s₀))
 
+-- ---- each event: its test, and its effect on thread t or mode transition q. n is how many threads there are.
+unfoldable pub onActivate : ℕ → State → ℕ → Stepped
+onActivate n s t = attempt (ltb t n && canActivate s t) (withCode s t waitingDispatch) s
+
+unfoldable pub onDeactivate : ℕ → State → ℕ → Stepped
+onDeactivate n s t = attempt (ltb t n && canDeactivate s t) (withCode s t waitingMode) s
+
+unfoldable pub onDispatch : Timing → State → ℕ → Stepped
+onDispatch m s t = attempt (ltb t (m .threads) && canDispatch m s t) (dispatch m s t) s
+
+unfoldable pub onStart : Timing → State → ℕ → ℕ → Stepped
+onStart m s t length = attempt (canStart m s t length) (start m s t length) s
+
+unfoldable pub onComplete : Model → State → ℕ → Stepped
+onComplete m s t = attempt (ltb t (m .timing .threads) && canComplete s t) (complete m s t) s
+
+unfoldable pub onDeadline : Timing → State → ℕ → Stepped
+onDeadline m s t = attempt (ltb t (m .threads) && canMeetDeadline m s t) (meetDeadline m s t) s
+
+unfoldable pub onMiss : Timing → State → ℕ → Stepped
+onMiss m s t = attempt (ltb t (m .threads) && canMiss m s t) (miss m s t) s
+
+-- "REQUEST: always."
+unfoldable pub onRequest : Timing → State → ℕ → Stepped
+onRequest m s q = attempt (ltb q (m .switches)) (request m s q) s
+
+unfoldable pub onEnter : Timing → State → ℕ → Stepped
+onEnter m s q = attempt (ltb q (m .switches) && canEnter m s q) (enter m s q) s
+
+unfoldable pub onLeave : Timing → State → ℕ → Stepped
+onLeave m s q = attempt (ltb q (m .switches) && canLeave m s q) (leave m s q) s
+
+-- "one match over the kind byte chooses each event's test and effect"; an event that is cut, of an unknown kind or with n 0 is refused before.
 unfoldable pub step : Model → State → Event → Stepped
 step m s e =
-    let r = ticks (m .timing) s (e .amount) s in
-    let x = effect m s e in
+    let x = m .timing in
+    let t = e .id in
+    let r = ticks x s (e .amount) s in
     cond (isBroken e) (refuse BrokenEvent s)
-    (cond (eqb (e .kind) tickKind) r (cond (isEnabled (m .timing) s e) (take x) (refuse NotEnabled s)))
+    (cond (eqb (e .kind) 1) (onActivate (x .threads) s t)
+    (cond (eqb (e .kind) 2) (onDeactivate (x .threads) s t)
+    (cond (eqb (e .kind) 3) (onDispatch x s t)
+    (cond (eqb (e .kind) 4) (onStart x s t (e .amount))
+    (cond (eqb (e .kind) 5) (onComplete m s t)
+    (cond (eqb (e .kind) 6) (onDeadline x s t)
+    (cond (eqb (e .kind) 7) (onMiss x s t)
+    (cond (eqb (e .kind) 8) (onRequest x s t)
+    (cond (eqb (e .kind) 9) (onEnter x s t)
+    (cond (eqb (e .kind) 10) (onLeave x s t)
+    (cond (eqb (e .kind) tickKind) r (refuse BrokenEvent s))))))))))))
 
 abbrev pub machineOf : Model → Machine State
 machineOf m = record { answer = λ s e. step m s e .answer; after = λ s e. step m s e .state }

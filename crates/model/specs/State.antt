@@ -41,17 +41,17 @@ missedOf s t = item maxThreads (s .threads .missed) t 0
 unfoldable pub isLive : State → ℕ → Bool
 isLive s c = item maxConnections (s .live) c false
 
-unfoldable pub inputOf : Ports → ℕ → Value
-inputOf p i = item maxInputs (p .input) i (natural 0)
+unfoldable pub inputValue : Ports → ℕ → Value
+inputValue p i = item maxInputs (p .input) i (natural 0)
 
-unfoldable pub bufferOf : Ports → ℕ → Value
-bufferOf p i = item maxInputs (p .buffer) i (natural 0)
+unfoldable pub bufferValue : Ports → ℕ → Value
+bufferValue p i = item maxInputs (p .buffer) i (natural 0)
 
-unfoldable pub outputOf : Ports → ℕ → Value
-outputOf p o = item maxOutputs (p .output) o (natural 0)
+unfoldable pub outputValue : Ports → ℕ → Value
+outputValue p o = item maxOutputs (p .output) o (natural 0)
 
-unfoldable pub localOf : Ports → ℕ → Value
-localOf p v = item maxLocals (p .local) v (natural 0)
+unfoldable pub localValue : Ports → ℕ → Value
+localValue p v = item maxLocals (p .local) v (natural 0)
 
 abbrev pub nowOf : State → ℕ
 nowOf s = s .clock .now .0

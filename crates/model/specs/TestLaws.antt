@@ -18,11 +18,11 @@ use Rattle.model_format.specs.Model.{maxThreads, maxInputs, maxOutputs, maxConn
 use Rattle.model.specs.declared.Threads.{Threads}
 use Rattle.model.specs.declared.State.{State}
 use Rattle.model.specs.declared.Job.{Job}
-use Rattle.model.specs.declared.View.{View}
+use Rattle.model.specs.declared.ThreadView.{ThreadView}
 use Rattle.model.specs.State.{none, isActive, codeOf, dispatchTime, lengthOf, spentOf, isLive}
 use Rattle.model.specs.Parts.{jobOf}
 use Rattle.model.specs.Tests.{isWaiting, isUnfinished, hasJob, dueOf, isDue, isPeriodic, feeds, canActivate, canDeactivate, awaitsDelayed, canDispatch, runsBeside, comesBeside, awaitsImmediate, startFault, canComplete, canMeetDeadline, canMiss, canEnter, canLeave, threadBusy, switchBusy, isBusy}
-use Rattle.model.specs.Jobs.{viewOf, activates, deactivates, completes, dispatchesAlone, startsAlone, faultOf, meets, misses, mayAct, dueWithJob, besideRuns, besideComes, sourceOf, leadsTo, holdsDispatch, holdsStart, enters, leaves}
+use Rattle.model.specs.Jobs.{threadViewOf, activates, deactivates, completes, dispatchesAlone, startsAlone, faultOf, meets, misses, mayAct, dueWithJob, besideRuns, besideComes, sourceOf, leadsTo, holdsDispatch, holdsStart, enters, leaves}
 
 -- ---- Bools
 pub false-true : {A : Type 0} → false ≡ true → A
@@ -51,29 +51,29 @@ module _ (s : State) (t : ℕ) (j : Job) (f : j ≡ jobOf (s .threads) t) where
   unfolding canComplete codeOf lengthOf spentOf jobOf
   complete-by = rw f
 
-  pub view-by : (m : Timing) (x : Thread) → x ≡ threadAt m t → record { clock = s .clock; thread = x; job = j } ≡ viewOf m s t
-  unfolding viewOf
+  pub view-by : (m : Timing) (x : Thread) → x ≡ threadAt m t → record { clock = s .clock; thread = x; job = j } ≡ threadViewOf m s t
+  unfolding threadViewOf
   view-by m x e = rw (e, f)
 
-module _ (m : Timing) (s : State) (t : ℕ) (v : View) (f : v ≡ viewOf m s t) where
+module _ (m : Timing) (s : State) (t : ℕ) (v : ThreadView) (f : v ≡ threadViewOf m s t) where
   pub meet-by : meets v ≡ canMeetDeadline m s t
-  unfolding viewOf canMeetDeadline dueOf codeOf dispatchTime jobOf
+  unfolding threadViewOf canMeetDeadline dueOf codeOf dispatchTime jobOf
   meet-by = rw f
 
   pub miss-by : misses v ≡ canMiss m s t
-  unfolding viewOf canMiss dueOf codeOf dispatchTime lengthOf spentOf jobOf
+  unfolding threadViewOf canMiss dueOf codeOf dispatchTime lengthOf spentOf jobOf
   miss-by = rw f
 
   pub dispatch-by : (w : Bool) → w ≡ awaitsDelayed m s t → (dispatchesAlone v && not w) ≡ canDispatch m s t
-  unfolding viewOf canDispatch codeOf isActive jobOf
+  unfolding threadViewOf canDispatch codeOf isActive jobOf
   dispatch-by w e = rw (e, f) (and-assoc (eqb (codeOf s t) 1) (isActive s t) (isPeriodic m s t) (not (awaitsDelayed m s t)))
 
   pub start-by : (n : ℕ) (w : Bool) → w ≡ awaitsImmediate m s t → faultOf v (ltb t (m .threads) && startsAlone v) w n ≡ startFault m s t n
-  unfolding viewOf faultOf startFault dueOf codeOf dispatchTime jobOf
+  unfolding threadViewOf faultOf startFault dueOf codeOf dispatchTime jobOf
   start-by n w e = rw (e, f)
 
 -- ---- the steps of START's test
-module _ (v : View) (ready waits : Bool) (n : ℕ) where
+module _ (v : ThreadView) (ready waits : Bool) (n : ℕ) where
   pub fault-state : not ready ≡ true → 1 ≡ faultOf v ready waits n
   unfolding faultOf
   fault-state h = rw (not-true ready h)
@@ -98,7 +98,7 @@ module _ (v : View) (ready waits : Bool) (n : ℕ) where
         fault-length k = rw (not-false ready h, g, w, k)
 
 -- ---- connections
-pub source-by : (m : Timing) (s : State) (x : Connection) (i o u : ℕ) (v : View) → i ≡ x .source → o ≡ item maxOutputs (m .output) i 0 → u ≡ o → v ≡ viewOf m s u →
+pub source-by : (m : Timing) (s : State) (x : Connection) (i o u : ℕ) (v : ThreadView) → i ≡ x .source → o ≡ item maxOutputs (m .output) i 0 → u ≡ o → v ≡ threadViewOf m s u →
     v ≡ sourceOf m s x
 unfolding sourceOf
 source-by m s x i o u v e f g h = h ∙ rw (g, f, e)
@@ -113,13 +113,13 @@ module _ (m : Timing) (s : State) (t c : ℕ) (b : Bool) where
   start-unfed e h = rw (← e, h)
 
   -- v is the view of the source
-  module _ (v : View) (f : v ≡ viewOf m s (sourceThread m c)) where
+  module _ (v : ThreadView) (f : v ≡ threadViewOf m s (sourceThread m c)) where
     dispatch-fed : b ≡ feeds m s delayed t c → b ≡ true → dueWithJob v ≡ holdsDispatch m s t c
-    unfolding holdsDispatch viewOf hasJob isUnfinished dueOf codeOf dispatchTime jobOf
+    unfolding holdsDispatch threadViewOf hasJob isUnfinished dueOf codeOf dispatchTime jobOf
     dispatch-fed e h = rw (← e, h, f)
 
     start-fed : (j : Job) → j ≡ jobOf (s .threads) t → b ≡ feeds m s immediate t c → b ≡ true → (besideRuns v j || besideComes v j) ≡ holdsStart m s t c
-    unfolding holdsStart viewOf runsBeside comesBeside isUnfinished isWaiting isActive codeOf dispatchTime jobOf
+    unfolding holdsStart threadViewOf runsBeside comesBeside isUnfinished isWaiting isActive codeOf dispatchTime jobOf
     start-fed j g e h = rw (← e, h, f, g)
 
 -- ---- mode transitions
@@ -173,14 +173,14 @@ module _ (m : Timing) (s : State) (t n c : ℕ) (e : n ≡ min (m .connections) 
     feeds-at = h ∙ rw (g, f, lt-ltb c maxConnections (omega arith))
 
     -- and v the view of its source
-    source-at : (v : View) → v ≡ sourceOf m s (getD (m .connection) c noConnection) → v ≡ viewOf m s (sourceThread m c)
+    source-at : (v : ThreadView) → v ≡ sourceOf m s (getD (m .connection) c noConnection) → v ≡ threadViewOf m s (sourceThread m c)
     unfolding sourceOf outputOwner connectionAt
     source-at v p = p ∙ rw (lt-ltb c maxConnections (omega arith))
 
-    pub delayed-fed : (v : View) → v ≡ sourceOf m s (getD (m .connection) c noConnection) → kind ≡ delayed → b ≡ true → dueWithJob v ≡ holdsDispatch m s t c
+    pub delayed-fed : (v : ThreadView) → v ≡ sourceOf m s (getD (m .connection) c noConnection) → kind ≡ delayed → b ≡ true → dueWithJob v ≡ holdsDispatch m s t c
     delayed-fed v p j w = dispatch-fed m s t c b v (source-at v p) (rw j at feeds-at) w
 
-    pub immediate-fed : (v : View) (j : Job) → v ≡ sourceOf m s (getD (m .connection) c noConnection) → j ≡ jobOf (s .threads) t → kind ≡ immediate → b ≡ true →
+    pub immediate-fed : (v : ThreadView) (j : Job) → v ≡ sourceOf m s (getD (m .connection) c noConnection) → j ≡ jobOf (s .threads) t → kind ≡ immediate → b ≡ true →
         (besideRuns v j || besideComes v j) ≡ holdsStart m s t c
     immediate-fed v j p q k w = start-fed m s t c b v (source-at v p) j q (rw k at feeds-at) w
 

@@ -1,7 +1,6 @@
 // A model's state, and the test of each event.
 
 mod parts;
-mod quiet;
 mod setters;
 mod tests;
 
@@ -16,8 +15,6 @@ pub use parts::with_behavior;
 pub use parts::with_dispatch;
 pub use parts::with_job;
 pub use parts::with_missed;
-pub use quiet::least;
-pub use quiet::quiet_ticks;
 use records::Cause;
 pub use setters::owner_at;
 pub use setters::put_buffer;
@@ -28,8 +25,6 @@ pub use setters::with_cpu;
 pub use setters::with_phase;
 pub use setters::with_thread_code;
 pub use setters::within;
-pub use tests::awaits_delayed;
-pub use tests::awaits_immediate;
 pub use tests::can_activate;
 pub use tests::can_complete;
 pub use tests::can_deactivate;
@@ -40,8 +35,6 @@ pub use tests::can_meet_deadline;
 pub use tests::can_miss;
 pub use tests::is_busy;
 pub use tests::start_fault;
-pub use tests::switch_busy;
-pub use tests::thread_busy;
 
 // `now` and `entered` are Now and EnteredAt. `pending` and `cpu` are 255 where there is none.
 pub struct Clock {
@@ -95,7 +88,7 @@ pub struct Job {
 }
 
 // What the tests of a thread ask for: the clock, the thread's record and its job.
-struct View {
+struct ThreadView {
     clock: Clock,
     thread: Thread,
     job: Job,

@@ -3,11 +3,9 @@
 use crate::Clock;
 use crate::Job;
 use crate::State;
-use crate::View;
+use crate::ThreadView;
 use crate::parts::job_of;
 use crate::setters::owner_at;
-use numbers::usize_of_u8;
-use numbers::usize_of_u16;
 use crate::setters::within;
 use model_format::Connection;
 use model_format::ModeTransition;
@@ -16,6 +14,8 @@ use model_format::Timing;
 use model_format::switch_at;
 use model_format::thread_at;
 use numbers::is_multiple;
+use numbers::usize_of_u8;
+use numbers::usize_of_u16;
 ghost use mathlib.Core.Path.{_≡_};
 ghost use Prim.Native.Nat.{_+_};
 ghost use lib.Dec.{eqb};
@@ -31,13 +31,13 @@ fn job_at(s: State, t: usize) -> Job
     job_of(y, t)
 }
 
-fn view_of(m: Timing, s: State, t: usize) -> View
-    ensures { λ r. ⌜ r ≡ jobs.viewOf m s t ⌝ }
+fn thread_view_of(m: Timing, s: State, t: usize) -> ThreadView
+    ensures { λ r. ⌜ r ≡ jobs.threadViewOf m s t ⌝ }
 {
     let x = thread_at(m, t);
     let j = job_at(s, t);
     let k = s.clock;
-    View {
+    ThreadView {
         clock: k,
         thread: x,
         job: j,
@@ -69,38 +69,38 @@ fn falls_due(dispatched: u32, deadline: u32, now: u32) -> bool
     (dispatched as u64) + (deadline as u64) == (now as u64)
 }
 
-fn due_in(v: View) -> bool
+fn due_in(v: ThreadView) -> bool
     ensures { λ r. ⌜ r ≡ jobs.dueIn v ⌝ }
 {
     falls_due(v.job.dispatched.0, v.thread.deadline.0, v.clock.now.0)
 }
 
-fn periodic_in(v: View) -> bool
+fn periodic_in(v: ThreadView) -> bool
     ensures { λ r. ⌜ r ≡ jobs.periodicIn v ⌝ }
 {
     is_multiple(v.clock.now.0, v.thread.period.0)
 }
 
 // What DISPATCH asks of the thread alone, and START but for the processor and the length.
-fn dispatches_alone(v: View) -> bool
+fn dispatches_alone(v: ThreadView) -> bool
     ensures { λ r. ⌜ r ≡ jobs.dispatchesAlone v ⌝ }
 {
     (v.job.code == 1) & (v.job.active & periodic_in(v))
 }
 
-fn starts_alone(v: View) -> bool
+fn starts_alone(v: ThreadView) -> bool
     ensures { λ r. ⌜ r ≡ jobs.startsAlone v ⌝ }
 {
     (v.job.code == 2) & !due_in(v)
 }
 
-fn meets(v: View) -> bool
+fn meets(v: ThreadView) -> bool
     ensures { λ r. ⌜ r ≡ jobs.meets v ⌝ }
 {
     (v.job.code == 4) & due_in(v)
 }
 
-fn misses(v: View) -> bool
+fn misses(v: ThreadView) -> bool
     ensures { λ r. ⌜ r ≡ jobs.misses v ⌝ }
 {
     let late = (v.job.code == 2) | ((v.job.code == 3) & (v.job.spent.0 != v.job.length.0));
@@ -123,19 +123,19 @@ fn may_act(k: Clock, x: Thread, j: Job) -> bool
 }
 
 // Of the source of a connection: DISPATCH waits for its deadline, START for its job.
-fn due_with_job(v: View) -> bool
+fn due_with_job(v: ThreadView) -> bool
     ensures { λ r. ⌜ r ≡ jobs.dueWithJob v ⌝ }
 {
     (((v.job.code == 2) | (v.job.code == 3)) | (v.job.code == 4)) & due_in(v)
 }
 
-fn beside_runs(v: View, j: Job) -> bool
+fn beside_runs(v: ThreadView, j: Job) -> bool
     ensures { λ r. ⌜ r ≡ jobs.besideRuns v j ⌝ }
 {
     ((v.job.code == 2) | (v.job.code == 3)) & (v.job.dispatched.0 == j.dispatched.0)
 }
 
-fn beside_comes(v: View, j: Job) -> bool
+fn beside_comes(v: ThreadView, j: Job) -> bool
     ensures { λ r. ⌜ r ≡ jobs.besideComes v j ⌝ }
 {
     let waiting = (v.job.code == 0) | (v.job.code == 1);
@@ -143,12 +143,12 @@ fn beside_comes(v: View, j: Job) -> bool
 }
 
 // The thread that connection x comes from.
-fn source_of(m: Timing, s: State, x: Connection) -> View
+fn source_of(m: Timing, s: State, x: Connection) -> ThreadView
     ensures { λ r. ⌜ r ≡ jobs.sourceOf m s x ⌝ }
 {
     let owners = m.output;
     let u = usize_of_u8(owner_at(owners, usize_of_u16(x.source)));
-    view_of(m, s, u)
+    thread_view_of(m, s, u)
 }
 
 // Connection x is a live one of a kind into thread t: `owner` is that of its target.
@@ -160,7 +160,7 @@ fn leads_to(x: Connection, owner: u8, live: bool, kind: u8, t: usize) -> bool
     (is == kind) & ((to == t) & live)
 }
 
-pub fn awaits_delayed(m: Timing, s: State, t: usize) -> bool
+fn awaits_delayed(m: Timing, s: State, t: usize) -> bool
     ensures { λ r. ⌜ r ≡ tests.awaitsDelayed m s t ⌝ }
 {
     let owners = m.input;
@@ -181,7 +181,7 @@ pub fn awaits_delayed(m: Timing, s: State, t: usize) -> bool
     false
 }
 
-pub fn awaits_immediate(m: Timing, s: State, t: usize) -> bool
+fn awaits_immediate(m: Timing, s: State, t: usize) -> bool
     ensures { λ r. ⌜ r ≡ tests.awaitsImmediate m s t ⌝ }
 {
     let j = job_at(s, t);
@@ -220,13 +220,13 @@ pub fn can_deactivate(s: State, t: usize) -> bool
 pub fn can_dispatch(m: Timing, s: State, t: usize) -> bool
     ensures { λ r. ⌜ r ≡ tests.canDispatch m s t ⌝ }
 {
-    let v = view_of(m, s, t);
+    let v = thread_view_of(m, s, t);
     let alone = dispatches_alone(v);
     alone & !awaits_delayed(m, s, t)
 }
 
 // The first step of START's test that fails, by what each step has found.
-fn fault_of(v: View, ready: bool, waits: bool, n: u32) -> u8
+fn fault_of(v: ThreadView, ready: bool, waits: bool, n: u32) -> u8
     ensures { λ r. ⌜ r ≡ jobs.faultOf v ready waits n ⌝ }
 {
     if !ready {
@@ -249,7 +249,7 @@ fn fault_of(v: View, ready: bool, waits: bool, n: u32) -> u8
 pub fn start_fault(m: Timing, s: State, t: usize, n: u32) -> u8
     ensures { λ r. ⌜ r ≡ tests.startFault m s t n ⌝ }
 {
-    let v = view_of(m, s, t);
+    let v = thread_view_of(m, s, t);
     let alone = starts_alone(v);
     let ready = (t < m.threads) & alone;
     let waits = awaits_immediate(m, s, t);
@@ -266,14 +266,14 @@ pub fn can_complete(s: State, t: usize) -> bool
 pub fn can_meet_deadline(m: Timing, s: State, t: usize) -> bool
     ensures { λ r. ⌜ r ≡ tests.canMeetDeadline m s t ⌝ }
 {
-    let v = view_of(m, s, t);
+    let v = thread_view_of(m, s, t);
     meets(v)
 }
 
 pub fn can_miss(m: Timing, s: State, t: usize) -> bool
     ensures { λ r. ⌜ r ≡ tests.canMiss m s t ⌝ }
 {
-    let v = view_of(m, s, t);
+    let v = thread_view_of(m, s, t);
     misses(v)
 }
 
@@ -307,7 +307,7 @@ pub fn can_leave(m: Timing, s: State, q: usize) -> bool
 }
 
 // Some event of thread t; START with the shortest length.
-pub fn thread_busy(m: Timing, s: State, t: usize) -> bool
+fn thread_busy(m: Timing, s: State, t: usize) -> bool
     ensures { λ r. ⌜ r ≡ tests.threadBusy m s t ⌝ }
 {
     let x = thread_at(m, t);
@@ -318,7 +318,7 @@ pub fn thread_busy(m: Timing, s: State, t: usize) -> bool
     can_activate(s, t) | (can_deactivate(s, t) | runs)
 }
 
-pub fn switch_busy(m: Timing, s: State, q: usize) -> bool
+fn switch_busy(m: Timing, s: State, q: usize) -> bool
     ensures { λ r. ⌜ r ≡ tests.switchBusy m s q ⌝ }
 {
     can_enter(m, s, q) | can_leave(m, s, q)

@@ -39,29 +39,15 @@ use Rattle.model_format.specs.Reading.{inOrder, maskFits, isState, namesItem, i
 use Rattle.model_causes.specs.declared.Stand.{Stand}
 use Rattle.model_causes.specs.declared.Found.{Found}
 use Rattle.model_causes.specs.declared.Four.{Four}
+use Rattle.model_causes.specs.Causes.{Owners, OwnersBelow, assignedIn, behaviorCause, foundIn, ownedBy, ownerAt, sameTarget, timingCause}
 
 -- ---- names for parts of definitions
 abbrev pub leastKind : ℕ → ℕ
 leastKind last = cond (ltb 8 last) 8 last
 
-abbrev pub numberIn : Operand → ℕ
-numberIn o = bitsOf (o .value .0)
-
 -- the transition that atoms and assignments belong to
 abbrev pub openIn : Behavior → Transition
 openIn b = transitionAt b (lastTransition b)
-
-abbrev pub sameTarget : Assignment → Assignment → Bool
-sameTarget x a = eqb (x .tag) (a .tag) && eqb (x .number) (a .number)
-
--- ---- where a reader stands
--- the timing with the numbers of n and the items of t
-abbrev pub timingOf : Stand → Timing → Timing
-timingOf n t = record { modes = n .modes; initial = n .initial; threads = n .threads; thread = t .thread; inputs = n .inputs; input = t .input; outputs = n .outputs; output = t .output; locals = n .locals; local = t .local; connections = n .connections; connection = t .connection; switches = n .switches; switch = t .switch }
-
--- with no items, for definitions that ask for none
-abbrev pub bare : Stand → Timing
-bare n = timingOf n (emptyModel .timing)
 
 abbrev pub standOf : Reading → Stand
 standOf a = let m = a .model .timing in record { last = a .last; modes = m .modes; initial = m .initial; threads = m .threads; inputs = m .inputs; outputs = m .outputs; locals = m .locals; connections = m .connections; switches = m .switches }
@@ -82,16 +68,6 @@ module _ (m : Timing) (mask : ℕ) where
   pub mask-within : mask < 256 → 8 ≤ m .modes → true ≡ maskFits m mask
   unfolding maskFits
   mask-within l h = let p : 256 ≤ 2 ^ (m .modes) = pow-mono h in rw (lt-ltb mask (2 ^ (m .modes)) (omega arith))
-
--- ---- owners: those of the input ports, the locals and the output ports, each from its place on
--- the first b of each
-pub record OwnersBelow (m : Timing) (b : ℕ) (o : List ℕ) : Type 0 where
-  pub inputs : (n : ℕ) → n < b → getD o (0 + n) 0 ≡ getD (m .input) n 0
-  pub locals : (n : ℕ) → n < b → getD o (32 + n) 0 ≡ getD (m .local) n noLocal .owner
-  pub outputs : (n : ℕ) → n < b → getD o (64 + n) 0 ≡ getD (m .output) n 0
-
-abbrev pub Owners : Timing → List ℕ → Type 0
-Owners m o = OwnersBelow m 32 o
 
 pub owners-none : (m : Timing) (o : List ℕ) → OwnersBelow m 0 o
 owners-none m o = record { inputs = λ n h. absurd (omega arith); locals = λ n h. absurd (omega arith); outputs = λ n h. absurd (omega arith) }
@@ -145,12 +121,6 @@ module _ (m : Timing) (b : ℕ) (o : List ℕ) (w : OwnersBelow m b o) where
           stored-next (set (set o b p) (32 + b) q) 64 b r f two (64 + b) refl (simp length-set (omega arith)) refl;
     }
 
-unfoldable pub ownerAt : List ℕ → ℕ → ℕ → ℕ
-ownerAt o first n = cond (ltb n 32) (getD o (first + n) 0) 0
-
-unfoldable pub ownedBy : List ℕ → ℕ → ℕ → ℕ → Bool
-ownedBy o t tag n = cond (eqb tag 1) (eqb (ownerAt o 0 n) t) (cond (eqb tag 2) (eqb (ownerAt o 32 n) t) (cond (eqb tag 3) (eqb (ownerAt o 64 n) t) true))
-
 module _ (m : Timing) (o : List ℕ) (w : Owners m o) where
   input-owned : (n : ℕ) → ownerAt o 0 n ≡ inputOwner m n
   unfolding ownerAt inputOwner
@@ -202,10 +172,6 @@ module _ (m : Timing) where
   unfolding threadAt
   thread-within t x h e = e ∙ rw (lt-ltb t maxThreads h)
 
--- the first n of four
-unfoldable pub assignedIn : ℕ → Four → Assignment → Bool
-assignedIn n q a = (((ltb 0 n && sameTarget (q .first) a) || (ltb 1 n && sameTarget (q .second) a)) || (ltb 2 n && sameTarget (q .third) a)) || (ltb 3 n && sameTarget (q .fourth) a)
-
 abbrev pub fourIn : Behavior → Four
 fourIn b =
     let k = lastTransition b in
@@ -236,24 +202,6 @@ assigned-same : (b : Behavior) (a : Assignment) → openIn b .assignments ≤ 4 
 unfolding assignedIn isAssigned
 assigned-same b a h = any-four (λ j. sameTarget (assignmentAt b (lastTransition b) j) a) (openIn b .assignments) h
 
--- ---- what items tell
-abbrev pub nothing : Found
-nothing = record { connected = false; h1 = 1; h2 = 1 }
-
-unfoldable pub foundIn : Timing → Record → Found
-foundIn m (HeadRecord x) = nothing
-foundIn m (ThreadRecord x) = nothing
-foundIn m (InputRecord o) = nothing
-foundIn m (OutputRecord o) = nothing
-foundIn m (LocalRecord x) = nothing
-foundIn m (ConnectionRecord x) = record { connected = isConnected m (x .target); h1 = 1; h2 = 1 }
-foundIn m (ModeRecord x) = record { connected = false; h1 = hyperperiod m (x .from) (x .from); h2 = hyperperiod m (x .from) (x .to) }
-foundIn m (TransitionRecord x) = nothing
-foundIn m (AtomRecord x) = nothing
-foundIn m (AssignmentRecord x) = nothing
-foundIn m Cut = nothing
-foundIn m Unknown = nothing
-
 -- a hyperperiod with a thread's period
 abbrev pub withPeriodOf : Thread → ℕ → ℕ → ℕ → ℕ
 withPeriodOf x old new h = cond (criticalIn x old && criticalIn x new) (lcmUpTo lastClock h (x .period .0)) h
@@ -267,68 +215,6 @@ module _ (x : Thread) (old new h : ℕ) (a b : Bool) (f : a ≡ criticalIn x old
 
 pub period-at : (m : Timing) (old new t h r : ℕ) (x : Thread) → x ≡ threadAt m t → r ≡ withPeriodOf x old new h → r ≡ withPeriod m old new t h
 period-at m old new t h r x e f = f ∙ rw e
-
--- ---- the cause of a record, by where the reader stands
-abbrev misplacedAt : Stand → Record → Bool
-misplacedAt n r = not (inOrder (n .last) (kindOf r))
-
-abbrev pub connectionFaultsBy : Bool → Stand → Found → Connection → Faults
-connectionFaultsBy order n f x =
-    faults order (leb maxConnections (n .connections)) (not (ltb (x .source) (n .outputs) && ltb (x .target) (n .inputs))) false
-    (not (ltb (x .kind) 2 && maskFits (bare n) (x .modes))) false (f .connected) false
-
-abbrev pub switchFaultsBy : Bool → Stand → Found → ModeTransition → Faults
-switchFaultsBy order n f x =
-    faults order (leb maxSwitches (n .switches)) (not (ltb (x .from) (n .modes) && ltb (x .to) (n .modes))) false false false false
-    (ltb lastClock (f .h1) || ltb lastClock (f .h2))
-
-abbrev pub transitionFaultsBy : Bool → Stand → ℕ → Transition → Faults
-transitionFaultsBy order n k x =
-    faults order (leb maxTransitions k) (leb (n .threads) (x .thread)) false (not (isState (x .from) && isState (x .to))) false false false
-
--- v is the transition that it belongs to
-abbrev pub atomFaultsBy : Bool → Stand → List ℕ → Transition → Atom → Faults
-atomFaultsBy order n o v a =
-    faults order (leb maxEach (v .atoms))
-    (not (cond (leftTag a) (namesItem (bare n) (a .tag) (a .number)) true && operandNames (bare n) (a .right))) false
-    (not (ltb (a .op) 6 && (leftTag a && operandTag (a .right))))
-    (not (ownedBy o (v .thread) (a .tag) (a .number) && ownedBy o (v .thread) (a .right .tag) (numberIn (a .right)))) false false
-
-abbrev pub assignmentFaultsBy : Bool → Stand → List ℕ → Transition → Four → Assignment → Faults
-assignmentFaultsBy order n o v q a =
-    faults order (leb maxEach (v .assignments))
-    (not (cond (targetTag a) (namesItem (bare n) (a .tag) (a .number)) true && (operandNames (bare n) (a .first) && operandNames (bare n) (a .second)))) false
-    (not (targetTag a && (ltb (a .op) 3 && (operandTag (a .first) && operandTag (a .second)))))
-    (not (ownedBy o (v .thread) (a .tag) (a .number) && (ownedBy o (v .thread) (a .first .tag) (numberIn (a .first)) && ownedBy o (v .thread) (a .second .tag) (numberIn (a .second)))))
-    (assignedIn (v .assignments) q a) false
-
-unfoldable pub timingCause : Stand → Found → Record → Cause
-timingCause n f (HeadRecord x) = judged (headFaults (misplacedAt n (HeadRecord x)) x)
-timingCause n f (ThreadRecord x) = judged (threadFaults (misplacedAt n (ThreadRecord x)) (bare n) x)
-timingCause n f (InputRecord o) = judged (portFaults (misplacedAt n (InputRecord o)) (n .inputs) maxInputs (bare n) o)
-timingCause n f (OutputRecord o) = judged (portFaults (misplacedAt n (OutputRecord o)) (n .outputs) maxOutputs (bare n) o)
-timingCause n f (LocalRecord x) = judged (portFaults (misplacedAt n (LocalRecord x)) (n .locals) maxLocals (bare n) (x .owner))
-timingCause n f (ConnectionRecord x) = judged (connectionFaultsBy (misplacedAt n (ConnectionRecord x)) n f x)
-timingCause n f (ModeRecord x) = judged (switchFaultsBy (misplacedAt n (ModeRecord x)) n f x)
-timingCause n f (TransitionRecord x) = WrongKind
-timingCause n f (AtomRecord x) = WrongKind
-timingCause n f (AssignmentRecord x) = WrongKind
-timingCause n f Cut = CutRecord
-timingCause n f Unknown = WrongKind
-
-unfoldable pub behaviorCause : Stand → ℕ → Transition → Four → List ℕ → Record → Cause
-behaviorCause n k v q o (HeadRecord x) = WrongKind
-behaviorCause n k v q o (ThreadRecord x) = WrongKind
-behaviorCause n k v q o (InputRecord w) = WrongKind
-behaviorCause n k v q o (OutputRecord w) = WrongKind
-behaviorCause n k v q o (LocalRecord x) = WrongKind
-behaviorCause n k v q o (ConnectionRecord x) = WrongKind
-behaviorCause n k v q o (ModeRecord x) = WrongKind
-behaviorCause n k v q o (TransitionRecord x) = judged (transitionFaultsBy (misplacedAt n (TransitionRecord x)) n k x)
-behaviorCause n k v q o (AtomRecord x) = judged (atomFaultsBy (misplacedAt n (AtomRecord x)) n o v x)
-behaviorCause n k v q o (AssignmentRecord x) = judged (assignmentFaultsBy (misplacedAt n (AssignmentRecord x)) n o v q x)
-behaviorCause n k v q o Cut = CutRecord
-behaviorCause n k v q o Unknown = WrongKind
 
 -- ---- a record before the behaviours is judged as the definition has it
 pub timing-judged : (a : Reading) (r : Record) → kindOf r < 8 → timingCause (standOf a) (foundIn (a .model .timing) r) r ≡ causeOf a r

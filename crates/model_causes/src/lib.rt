@@ -15,9 +15,9 @@ use model_format::connection_at;
 use model_format::critical_in;
 use model_format::kind_of;
 use model_format::thread_at;
-use numbers::usize_of_u16;
-use numbers::usize_of_u8;
 use numbers::lcm_up_to;
+use numbers::usize_of_u8;
+use numbers::usize_of_u16;
 use records::Cause;
 use records::Operand;
 ghost use mathlib.Core.Path.{_≡_};
@@ -25,6 +25,7 @@ ghost use mathlib.Core.Bool.{true, cond};
 ghost use Prim.Native.Nat.{_≤_};
 ghost use Rattle.model_format.specs.Model as model;
 ghost use Rattle.model_format.specs.Reading as reading;
+ghost use Rattle.model_causes.specs.Causes as causes;
 ghost use Rattle.model_causes.specs.Laws as laws;
 
 // Where a reader stands: the kind of the last record, 0 before the first, the head's numbers, and how many items there are of each kind.
@@ -58,7 +59,7 @@ pub struct Four {
 
 // The timing with the numbers of n and the items of t.
 pub fn timing_of(n: Stand, t: Timing) -> Timing
-    ensures { λ r. ⌜ r ≡ laws.timingOf n t ⌝ }
+    ensures { λ r. ⌜ r ≡ causes.timingOf n t ⌝ }
 {
     let mut m = t;
     m.modes = n.modes;
@@ -80,7 +81,7 @@ fn least_kind(last: u8) -> u8
 }
 
 // A record of kind k may follow one of kind `last`.
-pub fn in_order(last: u8, k: u8) -> bool
+fn in_order(last: u8, k: u8) -> bool
     ensures { λ r. ⌜ r ≡ reading.inOrder last k ⌝ }
 {
     let least = least_kind(last);
@@ -92,7 +93,7 @@ pub fn in_order(last: u8, k: u8) -> bool
     }
 }
 
-pub fn times_fit(x: Thread) -> bool
+fn times_fit(x: Thread) -> bool
     ensures { λ r. ⌜ r ≡ reading.timesFit x ⌝ }
 {
     let p = x.period;
@@ -110,7 +111,7 @@ pub fn times_fit(x: Thread) -> bool
 
 // A mask has 8 bits, so it fits where there are 8 modes or more.
 fn mask_fits(m: Stand, mask: u8) -> bool
-    ensures { λ r. ⌜ r ≡ reading.maskFits (laws.bare m) mask ⌝ }
+    ensures { λ r. ⌜ r ≡ reading.maskFits (causes.bare m) mask ⌝ }
 {
     let n = m.modes;
     if n < 8 { (mask >> n) == 0 } else { true }
@@ -118,7 +119,7 @@ fn mask_fits(m: Stand, mask: u8) -> bool
 
 // The item that a tag and a number name is there.
 fn names_item(m: Stand, tag: u8, n: usize) -> bool
-    ensures { λ r. ⌜ r ≡ reading.namesItem (laws.bare m) tag n ⌝ }
+    ensures { λ r. ⌜ r ≡ reading.namesItem (causes.bare m) tag n ⌝ }
 {
     match tag {
         1 => n < m.inputs,
@@ -130,7 +131,7 @@ fn names_item(m: Stand, tag: u8, n: usize) -> bool
 
 // ---- owners: those of the input ports, of the locals and of the output ports, each from its place on
 pub fn owners_of(m: Timing) -> [u8; 96]
-    ensures { λ r. ⌜ laws.Owners m r ⌝ }
+    ensures { λ r. ⌜ causes.Owners m r ⌝ }
 {
     let mut o: [u8; 96] = [0; 96];
     let mut n: usize = 0;
@@ -146,13 +147,13 @@ pub fn owners_of(m: Timing) -> [u8; 96]
 
 fn owner_at(o: &[u8; 96], first: usize, n: usize) -> u8
     requires { ⌜ first ≤ 64 ⌝ }
-    ensures { λ r. ⌜ r ≡ laws.ownerAt (now (o .entry)) first n ⌝ }
+    ensures { λ r. ⌜ r ≡ causes.ownerAt (now (o .entry)) first n ⌝ }
 {
     if n < 32 { o[first + n] } else { 0 }
 }
 
 fn is_owned_by(o: &[u8; 96], t: u8, tag: u8, n: usize) -> bool
-    ensures { λ r. ⌜ r ≡ laws.ownedBy (now (o .entry)) t tag n ⌝ }
+    ensures { λ r. ⌜ r ≡ causes.ownedBy (now (o .entry)) t tag n ⌝ }
 {
     match tag {
         1 => owner_at(o, 0, n) == t,
@@ -164,7 +165,7 @@ fn is_owned_by(o: &[u8; 96], t: u8, tag: u8, n: usize) -> bool
 
 // An operand's number as an item's. A negative one has bits that name nothing.
 fn number_in(o: Operand) -> usize
-    ensures { λ r. ⌜ r ≡ laws.numberIn o ⌝ }
+    ensures { λ r. ⌜ r ≡ causes.numberIn o ⌝ }
 {
     let v = o.value;
     let n = numbers::bits(v);
@@ -179,7 +180,7 @@ fn operand_tag(o: Operand) -> bool
 }
 
 fn operand_names(m: Stand, o: Operand) -> bool
-    ensures { λ r. ⌜ r ≡ reading.operandNames (laws.bare m) o ⌝ }
+    ensures { λ r. ⌜ r ≡ reading.operandNames (causes.bare m) o ⌝ }
 {
     let t = o.tag;
     if t < 3 {
@@ -191,7 +192,7 @@ fn operand_names(m: Stand, o: Operand) -> bool
 }
 
 fn operand_owned(o: &[u8; 96], t: u8, x: Operand) -> bool
-    ensures { λ r. ⌜ r ≡ laws.ownedBy (now (o .entry)) t (x .tag) (laws.numberIn x) ⌝ }
+    ensures { λ r. ⌜ r ≡ causes.ownedBy (now (o .entry)) t (x .tag) (causes.numberIn x) ⌝ }
 {
     let n = number_in(x);
     let tag = x.tag;
@@ -214,7 +215,7 @@ fn target_tag(a: Assignment) -> bool
 
 // Where the tag is one that the place allows, the item is there.
 fn allowed_names(allowed: bool, m: Stand, tag: u8, n: u16) -> bool
-    ensures { λ r. ⌜ r ≡ cond allowed (reading.namesItem (laws.bare m) tag n) true ⌝ }
+    ensures { λ r. ⌜ r ≡ cond allowed (reading.namesItem (causes.bare m) tag n) true ⌝ }
 {
     if allowed {
         names_item(m, tag, usize_of_u16(n))
@@ -274,7 +275,7 @@ fn hyperperiod(m: Timing, old: u8, new: u8) -> u64
 
 // Of a record that is judged without items.
 pub fn nothing() -> Found
-    ensures { λ r. ⌜ r ≡ laws.nothing ⌝ }
+    ensures { λ r. ⌜ r ≡ causes.nothing ⌝ }
 {
     Found {
         connected: false,
@@ -284,7 +285,7 @@ pub fn nothing() -> Found
 }
 
 pub fn found_in(m: Timing, r: Record) -> Found
-    ensures { λ f. ⌜ f ≡ laws.foundIn m r ⌝ }
+    ensures { λ f. ⌜ f ≡ causes.foundIn m r ⌝ }
 {
     match r {
         Record::HeadRecord(_) => nothing(),
@@ -311,7 +312,7 @@ pub fn found_in(m: Timing, r: Record) -> Found
 }
 
 fn same_target(x: Assignment, a: Assignment) -> bool
-    ensures { λ r. ⌜ r ≡ laws.sameTarget x a ⌝ }
+    ensures { λ r. ⌜ r ≡ causes.sameTarget x a ⌝ }
 {
     let p = x.tag;
     let i = x.number;
@@ -322,7 +323,7 @@ fn same_target(x: Assignment, a: Assignment) -> bool
 
 // One of the first n has the target of a.
 fn is_assigned(n: u8, q: Four, a: Assignment) -> bool
-    ensures { λ r. ⌜ r ≡ laws.assignedIn n q a ⌝ }
+    ensures { λ r. ⌜ r ≡ causes.assignedIn n q a ⌝ }
 {
     let first = same_target(q.first, a);
     let second = same_target(q.second, a);
@@ -332,7 +333,7 @@ fn is_assigned(n: u8, q: Four, a: Assignment) -> bool
 }
 
 // The first fault, in the order of the causes' numbers.
-pub fn judged(f: Faults) -> Cause
+fn judged(f: Faults) -> Cause
     ensures { λ r. ⌜ r ≡ reading.judged f ⌝ }
 {
     if f.order {
@@ -381,7 +382,7 @@ fn head_cause(order: bool, x: Head) -> Cause
 }
 
 fn thread_cause(order: bool, m: Stand, x: Thread) -> Cause
-    ensures { λ r. ⌜ r ≡ reading.judged (reading.threadFaults order (laws.bare m) x) ⌝ }
+    ensures { λ r. ⌜ r ≡ reading.judged (reading.threadFaults order (causes.bare m) x) ⌝ }
 {
     let n = m.threads;
     let fits = times_fit(x);
@@ -402,7 +403,7 @@ fn thread_cause(order: bool, m: Stand, x: Thread) -> Cause
 
 // Of an input port, an output port or a local.
 fn port_cause(order: bool, count: usize, limit: usize, m: Stand, owner: u8) -> Cause
-    ensures { λ r. ⌜ r ≡ reading.judged (reading.portFaults order count limit (laws.bare m) owner) ⌝ }
+    ensures { λ r. ⌜ r ≡ reading.judged (reading.portFaults order count limit (causes.bare m) owner) ⌝ }
 {
     let n = m.threads;
     let t = usize_of_u8(owner);
@@ -419,7 +420,7 @@ fn port_cause(order: bool, count: usize, limit: usize, m: Stand, owner: u8) -> C
 }
 
 fn connection_cause(order: bool, m: Stand, f: Found, x: Connection) -> Cause
-    ensures { λ r. ⌜ r ≡ reading.judged (laws.connectionFaultsBy order m f x) ⌝ }
+    ensures { λ r. ⌜ r ≡ reading.judged (causes.connectionFaultsBy order m f x) ⌝ }
 {
     let n = m.connections;
     let outputs = m.outputs;
@@ -442,7 +443,7 @@ fn connection_cause(order: bool, m: Stand, f: Found, x: Connection) -> Cause
 }
 
 fn switch_cause(order: bool, m: Stand, f: Found, x: ModeTransition) -> Cause
-    ensures { λ r. ⌜ r ≡ reading.judged (laws.switchFaultsBy order m f x) ⌝ }
+    ensures { λ r. ⌜ r ≡ reading.judged (causes.switchFaultsBy order m f x) ⌝ }
 {
     let n = m.switches;
     let modes = m.modes;
@@ -463,7 +464,7 @@ fn switch_cause(order: bool, m: Stand, f: Found, x: ModeTransition) -> Cause
 }
 
 fn transition_cause(order: bool, m: Stand, n: usize, x: Transition) -> Cause
-    ensures { λ r. ⌜ r ≡ reading.judged (laws.transitionFaultsBy order m n x) ⌝ }
+    ensures { λ r. ⌜ r ≡ reading.judged (causes.transitionFaultsBy order m n x) ⌝ }
 {
     let threads = m.threads;
     let thread = usize_of_u8(x.thread);
@@ -483,7 +484,7 @@ fn transition_cause(order: bool, m: Stand, n: usize, x: Transition) -> Cause
 
 // x is the transition that it belongs to, and o has the owners.
 fn atom_cause(order: bool, m: Stand, o: &[u8; 96], x: Transition, a: Atom) -> Cause
-    ensures { λ r. ⌜ r ≡ reading.judged (laws.atomFaultsBy order m (now (o .entry)) x a) ⌝ }
+    ensures { λ r. ⌜ r ≡ reading.judged (causes.atomFaultsBy order m (now (o .entry)) x a) ⌝ }
 {
     let t = x.thread;
     let count = x.atoms;
@@ -516,7 +517,7 @@ fn assignment_cause(
     q: Four,
     a: Assignment,
 ) -> Cause
-    ensures { λ r. ⌜ r ≡ reading.judged (laws.assignmentFaultsBy order m (now (o .entry)) x q a) ⌝ }
+    ensures { λ r. ⌜ r ≡ reading.judged (causes.assignmentFaultsBy order m (now (o .entry)) x q a) ⌝ }
 {
     let t = x.thread;
     let count = x.assignments;
@@ -542,9 +543,9 @@ fn assignment_cause(
     })
 }
 
-// Why a record of kinds 01 to 07, or one that is not whole, is refused where a reader stands.
+// Why a record before the behaviours is refused where a reader stands: of kinds 01 to 07, or not whole. To any other it answers 2.
 pub fn timing_cause(n: Stand, f: Found, r: Record) -> Cause
-    ensures { λ c. ⌜ c ≡ laws.timingCause n f r ⌝ }
+    ensures { λ c. ⌜ c ≡ causes.timingCause n f r ⌝ }
 {
     let order = !in_order(n.last, kind_of(r));
     match r {
@@ -563,9 +564,10 @@ pub fn timing_cause(n: Stand, f: Found, r: Record) -> Cause
     }
 }
 
-// Why one after the timing is: m is how many transitions there are, x the last of them, q its assignments, and o has the owners.
+// Why one from the first behaviour on is: m is how many transitions there are, x the last of them, q its assignments, and o has the
+// owners. To kinds 01 to 07, which come too late, it answers 2.
 pub fn behavior_cause(n: Stand, m: usize, x: Transition, q: Four, o: &[u8; 96], r: Record) -> Cause
-    ensures { λ c. ⌜ c ≡ laws.behaviorCause n m x q (now (o .entry)) r ⌝ }
+    ensures { λ c. ⌜ c ≡ causes.behaviorCause n m x q (now (o .entry)) r ⌝ }
 {
     let order = !in_order(n.last, kind_of(r));
     match r {

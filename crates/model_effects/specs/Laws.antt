@@ -12,7 +12,6 @@ use Rattle.numbers.specs.declared.Value.{Value}
 use Rattle.numbers.specs.Lists.{item, store, anyBelow, allBelow, firstBelow, foldBelow}
 use Rattle.numbers.specs.ListLaws.{any-suc, all-next, all-zero, all-not, fold-next, fold-suc, first-none, first-found}
 use Rattle.numbers.specs.Values.{duration, natural, bitsOf, oneMore}
-use Rattle.records.specs.declared.Event.{Event}
 use Rattle.records.specs.declared.Operand.{Operand}
 use Rattle.model_format.specs.declared.Transition.{Transition}
 use Rattle.model_format.specs.declared.Atom.{Atom}
@@ -30,11 +29,10 @@ use Rattle.model.specs.declared.Job.{Job}
 use Rattle.model.specs.declared.Ports.{Ports}
 use Rattle.model.specs.declared.State.{State}
 use Rattle.model_effects.specs.declared.Wiring.{Wiring}
-use Rattle.model.specs.State.{none, isActive, codeOf, behaviorOf, missedOf, isLive, bufferOf, inputOf, outputOf, localOf, withClock, withThreads, withLive, withPorts, withEntered, withMode, withPhase, withCpu, withActive, withCode, withDispatchTime, withJob, withBehavior, withMissed}
+use Rattle.model.specs.State.{none, isActive, codeOf, behaviorOf, missedOf, isLive, bufferValue, inputValue, outputValue, localValue, withClock, withThreads, withLive, withPorts, withEntered, withMode, withPhase, withCpu, withActive, withCode, withDispatchTime, withJob, withBehavior, withMissed}
 use Rattle.model.specs.Parts.{jobOf, setDispatch, setJob, setBehavior, setMissed, setInput, setBuffer, putInput, putBuffer, putOutput, putLocal, setCpu, setPhase, setEntered, setMode}
-use Rattle.model.specs.Tests.{waitingMode, waitingDispatch, waitingExecution, execution, completed}
+use Rattle.model.specs.Tests.{waitingExecution, execution, completed}
 use Rattle.model.specs.Effects.{isFedImmediately, isPort, freeze, dispatch, start, operandValue, leftValue, atomHolds, isOpen, firstOpen, takenTransition, assignedValue, assign, carries, send, endJob, restCode, complete, meetDeadline, miss, request, activeIn, inBoth, liveIn, enter, leave}
-use Rattle.model.specs.Machine.{effect}
 
 -- ---- bools
 not-false : (b : Bool) → not b ≡ false → b ≡ true
@@ -138,11 +136,11 @@ module _ (w : Wiring) (owner : ℕ) (fed : Bool) (t i o : ℕ) (e : o ≡ owner)
     port-unfed h = rw (eq-eqb owner t (sym e ∙ g), h, ← f)
 
 unfoldable pub takeBuffer : Ports → Bool → ℕ → Ports
-takeBuffer p mine i = cond mine (putInput p i (bufferOf p i)) p
+takeBuffer p mine i = cond mine (putInput p i (bufferValue p i)) p
 
 -- the ports when the input ports below n have been looked at
 abbrev pub freezing : Timing → Wiring → Ports → Bool → ℕ → ℕ → List Value → List Value
-freezing m w p fed t i l = cond (isPortOf w (inputOwner m i) fed t i) (store maxInputs l i (bufferOf p i)) l
+freezing m w p fed t i l = cond (isPortOf w (inputOwner m i) fed t i) (store maxInputs l i (bufferValue p i)) l
 
 unfoldable pub frozenBelow : Timing → Wiring → Ports → Bool → ℕ → ℕ → Ports
 frozenBelow m w p fed t n = setInput p (foldBelow n (freezing m w p fed t) (p .input))
@@ -153,11 +151,11 @@ module _ (m : Timing) (w : Wiring) (p : Ports) (fed : Bool) (t : ℕ) where
   frozen-none = refl
 
   frozen-more : (i : ℕ) → takeBuffer (frozenBelow m w p fed t i) (isPortOf w (inputOwner m i) fed t i) i ≡ frozenBelow m w p fed t (i + 1)
-  unfolding takeBuffer frozenBelow bufferOf
+  unfolding takeBuffer frozenBelow bufferValue
   frozen-more i =
       rw (fold-next i (freezing m w p fed t) (p .input)) (go (isPortOf w (inputOwner m i) fed t i) (foldBelow i (freezing m w p fed t) (p .input)))
     where
-      go : (b : Bool) (l : List Value) → takeBuffer (setInput p l) b i ≡ setInput p (cond b (store maxInputs l i (bufferOf p i)) l)
+      go : (b : Bool) (l : List Value) → takeBuffer (setInput p l) b i ≡ setInput p (cond b (store maxInputs l i (bufferValue p i)) l)
       go true l = refl
       go false l = refl
 
@@ -190,20 +188,20 @@ module _ (p : Ports) (o : Operand) where
 
   module _ (b i : ℕ) (v : Value) (e : b ≡ bitsOf (o .value .0)) (f : i ≡ b) (n : o .tag ≡ 0 → ⊥) where
     pub operand-input : o .tag ≡ 1 → v ≡ item maxInputs (p .input) i (natural 0) → v ≡ operandValue p o
-    unfolding operandValue inputOf
+    unfolding operandValue inputValue
     operand-input g h = h ∙ rw (f, e, ne-eqb _ _ n, eq-eqb _ _ g)
 
     pub operand-local : (o .tag ≡ 1 → ⊥) → v ≡ item maxLocals (p .local) i (natural 0) → v ≡ operandValue p o
-    unfolding operandValue localOf
+    unfolding operandValue localValue
     operand-local g h = h ∙ rw (f, e, ne-eqb _ _ n, ne-eqb _ _ g)
 
 module _ (p : Ports) (a : Atom) (i : ℕ) (v : Value) (e : i ≡ a .number) where
   pub left-input : a .tag ≡ 1 → v ≡ item maxInputs (p .input) i (natural 0) → v ≡ leftValue p a
-  unfolding leftValue inputOf
+  unfolding leftValue inputValue
   left-input g h = h ∙ rw (e, eq-eqb _ _ g)
 
   pub left-local : (a .tag ≡ 1 → ⊥) → v ≡ item maxLocals (p .local) i (natural 0) → v ≡ leftValue p a
-  unfolding leftValue localOf
+  unfolding leftValue localValue
   left-local g h = h ∙ rw (e, ne-eqb _ _ g)
 
 -- the items of arrays
@@ -271,20 +269,20 @@ module _ (l : List Atom) (p : Ports) (k : ℕ) where
   guard-all j n u h e = let q : n ≡ j = omega arith in rw (q, e)
 
 -- transition x is one of thread t from a behaviour state
-unfoldable pub leaves : Transition → ℕ → ℕ → Bool
-leaves x t from = eqb (x .thread) t && eqb (x .from) from
+unfoldable pub startsFrom : Transition → ℕ → ℕ → Bool
+startsFrom x t from = eqb (x .thread) t && eqb (x .from) from
 
 abbrev pub openAt : List Transition → List Atom → Ports → ℕ → ℕ → ℕ → Bool
 openAt list atom p from t k =
     eqb (transitionIn list k .thread) t && (eqb (transitionIn list k .from) from && guardHolds atom p k (transitionIn list k .atoms))
 
-module _ (list : List Transition) (atom : List Atom) (p : Ports) (from t k : ℕ) (x : Transition) (r : Bool) (e : x ≡ transitionIn list k) (f : r ≡ leaves x t from) where
+module _ (list : List Transition) (atom : List Atom) (p : Ports) (from t k : ℕ) (x : Transition) (r : Bool) (e : x ≡ transitionIn list k) (f : r ≡ startsFrom x t from) where
   pub open-not : r ≡ false → openAt list atom p from t k ≡ false
-  unfolding leaves
+  unfolding startsFrom
   open-not h = rw (← e) (and-shut (eqb (x .thread) t) (eqb (x .from) from) (guardHolds atom p k (x .atoms)) (sym f ∙ h))
 
   pub open-is : (n : ℕ) (h v : Bool) → r ≡ true → n ≡ x .atoms → h ≡ guardHolds atom p k n → h ≡ v → openAt list atom p from t k ≡ v
-  unfolding leaves
+  unfolding startsFrom
   open-is n h v i j l o =
       rw (← e) (and-open (eqb (x .thread) t) (eqb (x .from) from) (guardHolds atom p k (x .atoms)) (sym f ∙ i) ∙ rw j at (sym l ∙ o))
 
@@ -382,11 +380,11 @@ unfoldable pub carriesFrom : Connection → ℕ → Bool → ℕ → ℕ → Boo
 carriesFrom x owner live kind t = eqb (x .kind) kind && (eqb owner t && live)
 
 unfoldable pub sendOne : Ports → Connection → Bool → Ports
-sendOne p x goes = cond goes (putBuffer p (x .target) (outputOf p (x .source))) p
+sendOne p x goes = cond goes (putBuffer p (x .target) (outputValue p (x .source))) p
 
 -- the ports when the connections below n have been looked at
 abbrev pub sending : Timing → State → ℕ → ℕ → Ports → ℕ → List Value → List Value
-sending m s kind t p c l = cond (carries m s kind t c) (store maxInputs l (connectionAt m c .target) (outputOf p (connectionAt m c .source))) l
+sending m s kind t p c l = cond (carries m s kind t c) (store maxInputs l (connectionAt m c .target) (outputValue p (connectionAt m c .source))) l
 
 unfoldable pub sentBelow : Timing → State → ℕ → ℕ → Ports → ℕ → Ports
 sentBelow m s kind t p n = setBuffer p (foldBelow n (sending m s kind t p) (p .buffer))
@@ -397,11 +395,11 @@ module _ (m : Timing) (s : State) (kind t : ℕ) (p : Ports) where
   sent-none = refl
 
   sent-more : (c : ℕ) → sendOne (sentBelow m s kind t p c) (connectionAt m c) (carries m s kind t c) ≡ sentBelow m s kind t p (c + 1)
-  unfolding sendOne sentBelow outputOf
+  unfolding sendOne sentBelow outputValue
   sent-more c =
       rw (fold-next c (sending m s kind t p) (p .buffer)) (go (carries m s kind t c) (connectionAt m c) (foldBelow c (sending m s kind t p) (p .buffer)))
     where
-      go : (b : Bool) (x : Connection) (l : List Value) → sendOne (setBuffer p l) x b ≡ setBuffer p (cond b (store maxInputs l (x .target) (outputOf p (x .source))) l)
+      go : (b : Bool) (x : Connection) (l : List Value) → sendOne (setBuffer p l) x b ≡ setBuffer p (cond b (store maxInputs l (x .target) (outputValue p (x .source))) l)
       go true x l = refl
       go false x l = refl
 
@@ -531,26 +529,3 @@ pub live-is : (m : Timing) (n c old new : ℕ) (r : Bool) → n ≡ min (m .conn
     r ≡ inBoth (connectionAt m c .modes) old new
 unfolding connectionAt
 live-is m n c old new r e h f = f ∙ rw (lt-ltb c maxConnections (omega arith))
-
--- ---- one event but COMPLETE, which alone asks for the behaviours
-unfoldable pub timedEffect : Timing → State → Event → State
-timedEffect m s e =
-    let t = e .id in
-    cond (eqb (e .kind) 1) (withCode s t waitingDispatch)
-    (cond (eqb (e .kind) 2) (withCode s t waitingMode)
-    (cond (eqb (e .kind) 3) (dispatch m s t)
-    (cond (eqb (e .kind) 4) (start m s t (e .amount))
-    (cond (eqb (e .kind) 6) (meetDeadline m s t)
-    (cond (eqb (e .kind) 7) (miss m s t)
-    (cond (eqb (e .kind) 8) (request m s t)
-    (cond (eqb (e .kind) 9) (enter m s t)
-    (cond (eqb (e .kind) 10) (leave m s t) s))))))))
-
-module _ (m : Model) (s : State) (e : Event) where
-  pub effect-timed : (e .kind ≡ 5 → ⊥) → timedEffect (m .timing) s e ≡ effect m s e
-  unfolding timedEffect effect
-  effect-timed h = rw (ne-eqb (e .kind) 5 h)
-
-  pub effect-complete : (t : ℕ) (r : State) → e .kind ≡ 5 → t ≡ e .id → r ≡ complete m s t → r ≡ effect m s e
-  unfolding effect
-  effect-complete t r h f g = g ∙ rw (h, f)

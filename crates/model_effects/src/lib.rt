@@ -12,9 +12,6 @@ use model::put_input;
 use model::put_local;
 use model::put_output;
 use model::value_at;
-use numbers::usize_of_u8;
-use numbers::usize_of_u16;
-use numbers::usize_of_u32;
 use model::with_behavior;
 use model::with_cpu;
 use model::with_dispatch;
@@ -38,13 +35,14 @@ use numbers::bits;
 use numbers::combine;
 use numbers::compares;
 use numbers::one_more;
-use records::Event;
+use numbers::usize_of_u8;
+use numbers::usize_of_u16;
+use numbers::usize_of_u32;
 use records::Operand;
 ghost use mathlib.Core.Path.{_≡_};
 ghost use Rattle.model_format.specs.Model.{noOperand, noTransition, noAtom, noAssignment};
 ghost use Rattle.model.specs.State as state;
 ghost use Rattle.model.specs.Effects as effects;
-ghost use Rattle.model.specs.Machine as machine;
 ghost use Rattle.model_effects.specs.Laws as laws;
 
 // The connections with their Flags: all that a loop over them asks of a model and a state.
@@ -130,7 +128,7 @@ fn freeze(m: Timing, s: State, fed: bool, t: usize) -> Ports
     p
 }
 
-fn dispatch(m: Timing, s: State, t: usize) -> State
+pub fn dispatch(m: Timing, s: State, t: usize) -> State
     ensures { λ r. ⌜ r ≡ effects.dispatch m s t ⌝ }
 {
     let c = s.clock;
@@ -145,7 +143,7 @@ fn dispatch(m: Timing, s: State, t: usize) -> State
 }
 
 // The processor holds the thread's number, a byte.
-fn start(m: Timing, s: State, id: u8, n: u32) -> State
+pub fn start(m: Timing, s: State, id: u8, n: u32) -> State
     ensures { λ r. ⌜ r ≡ effects.start m s id n ⌝ }
 {
     let t = usize_of_u8(id);
@@ -267,8 +265,8 @@ fn guard_holds(l: [Atom; 256], p: Ports, k: usize, n: usize) -> bool
 }
 
 // Transition x is one of thread t, from the behaviour state given.
-fn leaves(x: Transition, t: usize, from: u8) -> bool
-    ensures { λ r. ⌜ r ≡ laws.leaves x t from ⌝ }
+fn starts_from(x: Transition, t: usize, from: u8) -> bool
+    ensures { λ r. ⌜ r ≡ laws.startsFrom x t from ⌝ }
 {
     let thread = usize_of_u8(x.thread);
     let here = x.from;
@@ -289,7 +287,7 @@ fn first_open(
     let mut k: usize = 0;
     while k < n {
         let x = if k < 64 { list[k] } else { blank_transition() };
-        if leaves(x, t, from) {
+        if starts_from(x, t, from) {
             let atoms = usize_of_u8(x.atoms);
             if guard_holds(atom, p, k, atoms) {
                 return k;
@@ -449,7 +447,7 @@ pub fn complete(m: Model, s: State, t: usize) -> State
     q
 }
 
-fn meet_deadline(m: Timing, s: State, t: usize) -> State
+pub fn meet_deadline(m: Timing, s: State, t: usize) -> State
     ensures { λ r. ⌜ r ≡ effects.meetDeadline m s t ⌝ }
 {
     let code = rest_code(s, t);
@@ -460,7 +458,7 @@ fn meet_deadline(m: Timing, s: State, t: usize) -> State
     q
 }
 
-fn miss(m: Timing, s: State, t: usize) -> State
+pub fn miss(m: Timing, s: State, t: usize) -> State
     ensures { λ r. ⌜ r ≡ effects.miss m s t ⌝ }
 {
     let x = s.threads;
@@ -475,7 +473,7 @@ fn miss(m: Timing, s: State, t: usize) -> State
 
 // ---- modes
 // Pending holds the mode transition's number, a byte.
-fn request(m: Timing, s: State, id: u8) -> State
+pub fn request(m: Timing, s: State, id: u8) -> State
     ensures { λ r. ⌜ r ≡ effects.request m s id ⌝ }
 {
     let x = switch_at(m, usize_of_u8(id));
@@ -528,7 +526,7 @@ pub fn live_in(m: Timing, old: u8, new: u8, l: [bool; 32]) -> [bool; 32]
     a
 }
 
-fn enter(m: Timing, s: State, q: usize) -> State
+pub fn enter(m: Timing, s: State, q: usize) -> State
     ensures { λ r. ⌜ r ≡ effects.enter m s q ⌝ }
 {
     let x = switch_at(m, q);
@@ -552,7 +550,7 @@ fn enter(m: Timing, s: State, q: usize) -> State
     r
 }
 
-fn leave(m: Timing, s: State, q: usize) -> State
+pub fn leave(m: Timing, s: State, q: usize) -> State
     ensures { λ r. ⌜ r ≡ effects.leave m s q ⌝ }
 {
     let x = switch_at(m, q);
@@ -566,38 +564,4 @@ fn leave(m: Timing, s: State, q: usize) -> State
     r.clock = d;
     r.live = live;
     r
-}
-
-// ---- one event
-// All but COMPLETE, which alone asks for the behaviours.
-pub fn timed_effect(m: Timing, s: State, e: Event) -> State
-    ensures { λ r. ⌜ r ≡ laws.timedEffect m s e ⌝ }
-{
-    let id = e.id;
-    let n = e.amount;
-    let t = usize_of_u8(id);
-    let kind = e.kind;
-    match kind {
-        1 => with_thread_code(s, t, 1),
-        2 => with_thread_code(s, t, 0),
-        3 => dispatch(m, s, t),
-        4 => start(m, s, id, n),
-        6 => meet_deadline(m, s, t),
-        7 => miss(m, s, t),
-        8 => request(m, s, id),
-        9 => enter(m, s, t),
-        10 => leave(m, s, t),
-        _ => s,
-    }
-}
-
-pub fn effect(m: Model, s: State, e: Event) -> State
-    ensures { λ r. ⌜ r ≡ machine.effect m s e ⌝ }
-{
-    if e.kind == 5 {
-        let t = usize_of_u8(e.id);
-        return complete(m, s, t);
-    }
-    let x = m.timing;
-    timed_effect(x, s, e)
 }

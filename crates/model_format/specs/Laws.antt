@@ -3,17 +3,15 @@ use mathlib.Core.Path.{_≡_, sym, _∙_, ap}
 use mathlib.Core.Bool.{Bool, true, false, cond, _&&_}
 use mathlib.Core.List.{List}
 use Prim.Native.Nat.{ℕ, _+_, _<_, _≤_, min}
-use native.Mathlib.Decide.{decLt}
 use native.Mathlib.Omega.{arith}
 use lib.ListN.{getD, length}
 use borrow.Author.Tests.{lt-ltb, le-ltb, ne-eqb}
-use Rattle.numbers.specs.Lists.{item, store, anyBelow, foldBelow}
+use Rattle.numbers.specs.Lists.{item, anyBelow, foldBelow}
 use Rattle.numbers.specs.ListLaws.{any-next, any-some, fold-next}
 use Rattle.numbers.specs.Multiples.{lcmUpTo}
 use Rattle.records.specs.declared.Notation.the-variants as notations
 use Rattle.records.specs.Format.{recordSize}
 use Rattle.records.specs.Events.{lastClock}
-use Rattle.model_format.specs.declared.Thread.{Thread}
 use Rattle.model_format.specs.declared.Timing.{Timing}
 use Rattle.model_format.specs.declared.Record.the-variants.{Cut, Unknown}
 use Rattle.model_format.specs.Format.{recordOf, recordOfWhole}
@@ -26,13 +24,6 @@ module _ {A : Type 0} (room : ℕ) (l : List A) (i n : ℕ) (d : A) (e : i ≡ m
 
   pub drawn-past : room ≤ i → item room l n d ≡ d
   drawn-past h = rw (le-ltb n room (omega arith))
-
-  pub drawn-store : store room l i d ≡ store room l n d
-  drawn-store = go (decLt i room)
-    where
-      go : Dec (i < room) → store room l i d ≡ store room l n d
-      go (yes h) = let q : i ≡ n = omega arith in rw q
-      go (no h) = rw (le-ltb i room (omega arith), le-ltb n room (omega arith))
 
 -- ---- the record of a part: k is its kind byte, m the size of a record of that kind
 module _ (x : List ℕ) (k m : ℕ) (f : k ≡ getD x 0 0) (e : m ≡ recordSize notations.Model k) where
@@ -51,13 +42,6 @@ module _ (x : List ℕ) (k m : ℕ) (f : k ≡ getD x 0 0) (e : m ≡ recordSize
 -- ---- hyperperiods, a thread at a time
 abbrev pub withPeriod : Timing → ℕ → ℕ → ℕ → ℕ → ℕ
 withPeriod m old new t h = cond (criticalIn (threadAt m t) old && criticalIn (threadAt m t) new) (lcmUpTo lastClock h (threadAt m t .period .0)) h
-
-module _ (m : Timing) (old new t h : ℕ) (x : Thread) (a b : Bool) (e : x ≡ threadAt m t) (f : a ≡ criticalIn x old) (g : b ≡ criticalIn x new) where
-  pub period-in : (a && b) ≡ true → lcmUpTo lastClock h (x .period .0) ≡ withPeriod m old new t h
-  period-in i = rw (← e, ← f, ← g, i)
-
-  pub period-out : (a && b) ≡ false → h ≡ withPeriod m old new t h
-  period-out i = rw (← e, ← f, ← g, i)
 
 -- the threads below t
 abbrev pub periodsBelow : Timing → ℕ → ℕ → ℕ → ℕ

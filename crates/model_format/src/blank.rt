@@ -31,7 +31,7 @@ pub fn no_thread() -> Thread
     }
 }
 
-pub fn no_local() -> Local
+fn no_local() -> Local
     ensures { λ r. ⌜ r ≡ model.noLocal ⌝ }
 {
     let zero = Value(0);
@@ -64,7 +64,7 @@ pub fn no_switch() -> ModeTransition
     }
 }
 
-pub fn no_transition() -> Transition
+fn no_transition() -> Transition
     ensures { λ r. ⌜ r ≡ model.noTransition ⌝ }
 {
     Transition {
@@ -86,7 +86,7 @@ fn no_operand() -> Operand
     }
 }
 
-pub fn no_atom() -> Atom
+fn no_atom() -> Atom
     ensures { λ r. ⌜ r ≡ model.noAtom ⌝ }
 {
     let right = no_operand();
@@ -98,7 +98,7 @@ pub fn no_atom() -> Atom
     }
 }
 
-pub fn no_assignment() -> Assignment
+fn no_assignment() -> Assignment
     ensures { λ r. ⌜ r ≡ model.noAssignment ⌝ }
 {
     let first = no_operand();

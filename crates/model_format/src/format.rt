@@ -18,7 +18,7 @@ use records::operand_at;
 ghost use mathlib.Core.Path.{_≡_};
 ghost use Rattle.model_format.specs.Format as format;
 
-pub fn head_of(x: &[u8]) -> Head
+fn head_of(x: &[u8]) -> Head
     ensures { λ r. ⌜ r ≡ format.headOf (now (x .entry)) ⌝ }
 {
     let modes = byte_at(x, 1);
@@ -29,7 +29,7 @@ pub fn head_of(x: &[u8]) -> Head
     }
 }
 
-pub fn thread_of(x: &[u8]) -> Thread
+fn thread_of(x: &[u8]) -> Thread
     ensures { λ r. ⌜ r ≡ format.threadOf (now (x .entry)) ⌝ }
 {
     let period = duration_at(x, 1);
@@ -50,7 +50,7 @@ pub fn thread_of(x: &[u8]) -> Thread
     }
 }
 
-pub fn local_of(x: &[u8]) -> Local
+fn local_of(x: &[u8]) -> Local
     ensures { λ r. ⌜ r ≡ format.localOf (now (x .entry)) ⌝ }
 {
     let owner = byte_at(x, 1);
@@ -61,7 +61,7 @@ pub fn local_of(x: &[u8]) -> Local
     }
 }
 
-pub fn connection_of(x: &[u8]) -> Connection
+fn connection_of(x: &[u8]) -> Connection
     ensures { λ r. ⌜ r ≡ format.connectionOf (now (x .entry)) ⌝ }
 {
     let kind = byte_at(x, 1);
@@ -77,7 +77,7 @@ pub fn connection_of(x: &[u8]) -> Connection
 }
 
 // Its hyperperiods are set when it is accepted.
-pub fn switch_of(x: &[u8]) -> ModeTransition
+fn switch_of(x: &[u8]) -> ModeTransition
     ensures { λ r. ⌜ r ≡ format.switchOf (now (x .entry)) ⌝ }
 {
     let from = byte_at(x, 1);
@@ -91,7 +91,7 @@ pub fn switch_of(x: &[u8]) -> ModeTransition
     }
 }
 
-pub fn transition_of(x: &[u8]) -> Transition
+fn transition_of(x: &[u8]) -> Transition
     ensures { λ r. ⌜ r ≡ format.transitionOf (now (x .entry)) ⌝ }
 {
     let thread = byte_at(x, 1);
@@ -106,7 +106,7 @@ pub fn transition_of(x: &[u8]) -> Transition
     }
 }
 
-pub fn atom_of(x: &[u8]) -> Atom
+fn atom_of(x: &[u8]) -> Atom
     ensures { λ r. ⌜ r ≡ format.atomOf (now (x .entry)) ⌝ }
 {
     let op = byte_at(x, 1);
@@ -121,7 +121,7 @@ pub fn atom_of(x: &[u8]) -> Atom
     }
 }
 
-pub fn assignment_of(x: &[u8]) -> Assignment
+fn assignment_of(x: &[u8]) -> Assignment
     ensures { λ r. ⌜ r ≡ format.assignmentOf (now (x .entry)) ⌝ }
 {
     let tag = byte_at(x, 1);

@@ -16,22 +16,21 @@ use Rattle.records.specs.Events.{eventOf, isBroken, lastClock}
 use Rattle.records.specs.declared.Notation.the-variants.{Script}
 use Rattle.records.specs.Format.{partLengthAt, parts}
 use Rattle.records.specs.Refusals.{isNone, inScript, noRefusal}
-use Rattle.records.specs.Run.{Ended, Tally, runFrom, tallyFrom, tally}
+use Rattle.records.specs.Run.{runFrom, tallyFrom}
 use Rattle.records.specs.Walk.{slice-part, run-end, run-on, run-refused, tally-end, tally-taken, tally-refused}
 use Rattle.model_format.specs.declared.Timing.{Timing}
 use Rattle.model_format.specs.declared.Model.{Model}
 use Rattle.model_format.specs.Model.{maxThreads}
 use Rattle.model.specs.declared.State.{State}
 use Rattle.model.specs.declared.Stepped.{Stepped}
-use Rattle.model_machine.specs.declared.Ran.{Ran}
-use Rattle.model_machine.specs.declared.Tallied.{Tallied}
-use Rattle.model.specs.State.{nowOf, withNow}
-use Rattle.model.specs.Tests.{execution, canActivate, canDeactivate, canDispatch, startFault, canComplete, canMeetDeadline, canMiss, canEnter, canLeave, isBusy}
-use Rattle.model.specs.Effects.{tick, complete}
-use Rattle.model.specs.Quiet.{moreBy, spending, spentBy, withSpents, later, Quiet}
-use Rattle.model.specs.QuietLaws.{later-none, later-next}
-use Rattle.model_effects.specs.Laws.{fold-room, timedEffect, effect-timed, effect-complete}
-use Rattle.model.specs.Machine.{startState, isEnabled, effect, refuse, take, ticks, step, machineOf, runModel}
+use Rattle.model.specs.State.{nowOf, withNow, withCode}
+use Rattle.model.specs.Tests.{waitingMode, waitingDispatch, execution, canActivate, canDeactivate, canDispatch, startFault, canComplete, canMeetDeadline, canMiss, canEnter, canLeave, isBusy}
+use Rattle.model.specs.Effects.{dispatch, start, complete, meetDeadline, miss, request, enter, leave, tick}
+use Rattle.model_machine.specs.Quiet.{moreBy, spending, spentBy, withSpents, later, Quiet}
+use Rattle.model_machine.specs.QuietLaws.{later-none, later-next}
+use Rattle.model_effects.specs.Laws.{fold-room}
+use Rattle.model.specs.Machine.{startState, refuse, accept, ticks, onActivate, onDeactivate, onDispatch, onStart, onComplete, onDeadline, onMiss, onRequest, onEnter, onLeave, step, machineOf, runModel}
+use Rattle.model_machine.specs.Runs.{tallyModel}
 
 -- ---- Spent q ticks later
 pub spent-begin : (q : ℕ) (code : List ℕ) (old : List Duration) → old ≡ spentBy q code old 0
@@ -66,7 +65,7 @@ later-by m s q l e = rw e
 
 -- ---- TICK n from s₀, of which k ticks are left at x
 module _ (m : Timing) (s₀ x : State) where
-  none-left : ticks m s₀ 0 x ≡ take x
+  none-left : ticks m s₀ 0 x ≡ accept x
   unfolding ticks
   none-left = refl
 
@@ -88,7 +87,7 @@ passes m s₀ x (suc i) r h l =
     rw p (passes m s₀ x i (suc r) (λ j k. h j (omega arith)) (omega arith) ∙ rw (h i (omega arith), now-below m x i (omega arith), later-next m i x))
 
 module _ (m : Timing) (s₀ x : State) (n k : ℕ) (inv : ticks m s₀ k x ≡ ticks m s₀ n s₀) where
-  pub ticks-end : k ≤ 0 → take x ≡ ticks m s₀ n s₀
+  pub ticks-end : k ≤ 0 → accept x ≡ ticks m s₀ n s₀
   ticks-end h = let p : k ≡ 0 = omega arith in sym (ap (λ (j : ℕ). ticks m s₀ j x) p ∙ none-left m s₀ x) ∙ inv
 
   module _ (h : 0 < k) (b : Bool) (e : b ≡ isBusy m x) where
@@ -108,93 +107,160 @@ module _ (m : Timing) (s₀ x : State) (n k : ℕ) (inv : ticks m s₀ k x ≡ t
           free zero i = rw (later-none m x) (sym e ∙ g)
           free (suc j) i = c (suc j) (omega arith) i
 
--- ---- which event: t is its id
-module _ (m : Timing) (s : State) (e : Event) (t : ℕ) (w : t ≡ e .id) where
-  pub enabled-activate : (b : Bool) → e .kind ≡ 1 → b ≡ canActivate s t → (ltb t (m .threads) && b) ≡ isEnabled m s e
-  unfolding isEnabled
-  enabled-activate b k f = rw (k, f, w)
+-- ---- an event that is accepted, as x, and one that is not enabled: c is what its test gave
+module _ (n : ℕ) (s : State) (t : ℕ) (c : Bool) (f : c ≡ canActivate s t) where
+  pub activate-made : (x : State) → (ltb t n && c) ≡ true → x ≡ withCode s t waitingDispatch → accept x ≡ onActivate n s t
+  unfolding onActivate
+  activate-made x h g = rw (← f, h, g)
 
-  pub enabled-deactivate : (b : Bool) → e .kind ≡ 2 → b ≡ canDeactivate s t → (ltb t (m .threads) && b) ≡ isEnabled m s e
-  unfolding isEnabled
-  enabled-deactivate b k f = rw (k, f, w)
+  pub activate-failed : (ltb t n && c) ≡ false → refuse NotEnabled s ≡ onActivate n s t
+  unfolding onActivate
+  activate-failed h = rw (← f, h)
 
-  pub enabled-dispatch : (b : Bool) → e .kind ≡ 3 → b ≡ canDispatch m s t → (ltb t (m .threads) && b) ≡ isEnabled m s e
-  unfolding isEnabled
-  enabled-dispatch b k f = rw (k, f, w)
+module _ (n : ℕ) (s : State) (t : ℕ) (c : Bool) (f : c ≡ canDeactivate s t) where
+  pub deactivate-made : (x : State) → (ltb t n && c) ≡ true → x ≡ withCode s t waitingMode → accept x ≡ onDeactivate n s t
+  unfolding onDeactivate
+  deactivate-made x h g = rw (← f, h, g)
 
-  pub enabled-complete : (b : Bool) → e .kind ≡ 5 → b ≡ canComplete s t → (ltb t (m .threads) && b) ≡ isEnabled m s e
-  unfolding isEnabled
-  enabled-complete b k f = rw (k, f, w)
+  pub deactivate-failed : (ltb t n && c) ≡ false → refuse NotEnabled s ≡ onDeactivate n s t
+  unfolding onDeactivate
+  deactivate-failed h = rw (← f, h)
 
-  pub enabled-deadline : (b : Bool) → e .kind ≡ 6 → b ≡ canMeetDeadline m s t → (ltb t (m .threads) && b) ≡ isEnabled m s e
-  unfolding isEnabled
-  enabled-deadline b k f = rw (k, f, w)
+module _ (m : Timing) (s : State) (t : ℕ) (c : Bool) (f : c ≡ canDispatch m s t) where
+  pub dispatch-made : (x : State) → (ltb t (m .threads) && c) ≡ true → x ≡ dispatch m s t → accept x ≡ onDispatch m s t
+  unfolding onDispatch
+  dispatch-made x h g = rw (← f, h, g)
 
-  pub enabled-miss : (b : Bool) → e .kind ≡ 7 → b ≡ canMiss m s t → (ltb t (m .threads) && b) ≡ isEnabled m s e
-  unfolding isEnabled
-  enabled-miss b k f = rw (k, f, w)
+  pub dispatch-failed : (ltb t (m .threads) && c) ≡ false → refuse NotEnabled s ≡ onDispatch m s t
+  unfolding onDispatch
+  dispatch-failed h = rw (← f, h)
 
-  pub enabled-enter : (b : Bool) → e .kind ≡ 9 → b ≡ canEnter m s t → (ltb t (m .switches) && b) ≡ isEnabled m s e
-  unfolding isEnabled
-  enabled-enter b k f = rw (k, f, w)
+module _ (m : Model) (s : State) (t : ℕ) (c : Bool) (f : c ≡ canComplete s t) where
+  pub complete-made : (x : State) → (ltb t (m .timing .threads) && c) ≡ true → x ≡ complete m s t → accept x ≡ onComplete m s t
+  unfolding onComplete
+  complete-made x h g = rw (← f, h, g)
 
-  pub enabled-leave : (b : Bool) → e .kind ≡ 10 → b ≡ canLeave m s t → (ltb t (m .switches) && b) ≡ isEnabled m s e
-  unfolding isEnabled
-  enabled-leave b k f = rw (k, f, w)
+  pub complete-failed : (ltb t (m .timing .threads) && c) ≡ false → refuse NotEnabled s ≡ onComplete m s t
+  unfolding onComplete
+  complete-failed h = rw (← f, h)
 
-  pub enabled-start : (n : ℕ) → e .kind ≡ 4 → n ≡ startFault m s t (e .amount) → eqb n 0 ≡ isEnabled m s e
-  unfolding isEnabled
-  enabled-start n k f = rw (k, f, w)
+module _ (m : Timing) (s : State) (t : ℕ) (c : Bool) (f : c ≡ canMeetDeadline m s t) where
+  pub deadline-made : (x : State) → (ltb t (m .threads) && c) ≡ true → x ≡ meetDeadline m s t → accept x ≡ onDeadline m s t
+  unfolding onDeadline
+  deadline-made x h g = rw (← f, h, g)
 
-  pub enabled-request : e .kind ≡ 8 → ltb t (m .switches) ≡ isEnabled m s e
-  unfolding isEnabled
-  enabled-request k = rw (k, w)
+  pub deadline-failed : (ltb t (m .threads) && c) ≡ false → refuse NotEnabled s ≡ onDeadline m s t
+  unfolding onDeadline
+  deadline-failed h = rw (← f, h)
 
--- the kinds that the match leaves
-pub enabled-none : (m : Timing) (s : State) (e : Event) → (e .kind ≡ 1 → ⊥) → (e .kind ≡ 2 → ⊥) → (e .kind ≡ 3 → ⊥) → (e .kind ≡ 4 → ⊥) → (e .kind ≡ 5 → ⊥) →
-    (e .kind ≡ 6 → ⊥) → (e .kind ≡ 7 → ⊥) → (e .kind ≡ 8 → ⊥) → (e .kind ≡ 9 → ⊥) → (e .kind ≡ 10 → ⊥) → false ≡ isEnabled m s e
-unfolding isEnabled
-enabled-none m s e a b c d f g h i j k =
-    rw (ne-eqb (e .kind) 1 a, ne-eqb (e .kind) 2 b, ne-eqb (e .kind) 3 c, ne-eqb (e .kind) 4 d, ne-eqb (e .kind) 5 f, ne-eqb (e .kind) 6 g, ne-eqb (e .kind) 7 h, ne-eqb (e .kind) 8 i, ne-eqb (e .kind) 9 j, ne-eqb (e .kind) 10 k)
+module _ (m : Timing) (s : State) (t : ℕ) (c : Bool) (f : c ≡ canMiss m s t) where
+  pub miss-made : (x : State) → (ltb t (m .threads) && c) ≡ true → x ≡ miss m s t → accept x ≡ onMiss m s t
+  unfolding onMiss
+  miss-made x h g = rw (← f, h, g)
 
--- ---- one event: b says whether it is broken, d whether it is enabled
+  pub miss-failed : (ltb t (m .threads) && c) ≡ false → refuse NotEnabled s ≡ onMiss m s t
+  unfolding onMiss
+  miss-failed h = rw (← f, h)
+
+module _ (m : Timing) (s : State) (q : ℕ) (c : Bool) (f : c ≡ canEnter m s q) where
+  pub enter-made : (x : State) → (ltb q (m .switches) && c) ≡ true → x ≡ enter m s q → accept x ≡ onEnter m s q
+  unfolding onEnter
+  enter-made x h g = rw (← f, h, g)
+
+  pub enter-failed : (ltb q (m .switches) && c) ≡ false → refuse NotEnabled s ≡ onEnter m s q
+  unfolding onEnter
+  enter-failed h = rw (← f, h)
+
+module _ (m : Timing) (s : State) (q : ℕ) (c : Bool) (f : c ≡ canLeave m s q) where
+  pub leave-made : (x : State) → (ltb q (m .switches) && c) ≡ true → x ≡ leave m s q → accept x ≡ onLeave m s q
+  unfolding onLeave
+  leave-made x h g = rw (← f, h, g)
+
+  pub leave-failed : (ltb q (m .switches) && c) ≡ false → refuse NotEnabled s ≡ onLeave m s q
+  unfolding onLeave
+  leave-failed h = rw (← f, h)
+
+-- START, whose test is a number
+module _ (m : Timing) (s : State) (id t long n : ℕ) (w : t ≡ id) (f : n ≡ startFault m s t long) where
+  pub start-made : (x : State) → n ≡ 0 → x ≡ start m s id long → accept x ≡ onStart m s id long
+  unfolding onStart
+  start-made x h g = rw (g, ← w, ← f, h)
+
+  pub start-failed : (n ≡ 0 → ⊥) → refuse NotEnabled s ≡ onStart m s id long
+  unfolding onStart
+  start-failed h = rw (← w, ← f, ne-eqb n 0 h)
+
+module _ (m : Timing) (s : State) (id q : ℕ) (w : q ≡ id) where
+  pub request-made : (x : State) → q < m .switches → x ≡ request m s id → accept x ≡ onRequest m s id
+  unfolding onRequest
+  request-made x h g = rw (g, ← w, lt-ltb q (m .switches) h)
+
+  pub request-failed : m .switches ≤ q → refuse NotEnabled s ≡ onRequest m s id
+  unfolding onRequest
+  request-failed h = rw (← w, le-ltb q (m .switches) h)
+
+-- ---- one event: b says whether it is broken, t is its id
 module _ (m : Model) (s : State) (e : Event) (b : Bool) (f : b ≡ isBroken e) where
   pub step-broken : b ≡ true → refuse BrokenEvent s ≡ step m s e
   unfolding step
   step-broken h = rw (← f, h)
 
   module _ (h : b ≡ false) where
-    pub step-tick : (r : Stepped) → e .kind ≡ 11 → r ≡ ticks (m .timing) s (e .amount) s → r ≡ step m s e
+    module _ (t : ℕ) (w : t ≡ e .id) (r : Stepped) where
+      pub step-activate : e .kind ≡ 1 → r ≡ onActivate (m .timing .threads) s t → r ≡ step m s e
+      unfolding step
+      step-activate k g = rw (← f, h, k, g, w)
+
+      pub step-deactivate : e .kind ≡ 2 → r ≡ onDeactivate (m .timing .threads) s t → r ≡ step m s e
+      unfolding step
+      step-deactivate k g = rw (← f, h, k, g, w)
+
+      pub step-dispatch : e .kind ≡ 3 → r ≡ onDispatch (m .timing) s t → r ≡ step m s e
+      unfolding step
+      step-dispatch k g = rw (← f, h, k, g, w)
+
+      pub step-complete : e .kind ≡ 5 → r ≡ onComplete m s t → r ≡ step m s e
+      unfolding step
+      step-complete k g = rw (← f, h, k, g, w)
+
+      pub step-deadline : e .kind ≡ 6 → r ≡ onDeadline (m .timing) s t → r ≡ step m s e
+      unfolding step
+      step-deadline k g = rw (← f, h, k, g, w)
+
+      pub step-miss : e .kind ≡ 7 → r ≡ onMiss (m .timing) s t → r ≡ step m s e
+      unfolding step
+      step-miss k g = rw (← f, h, k, g, w)
+
+      pub step-enter : e .kind ≡ 9 → r ≡ onEnter (m .timing) s t → r ≡ step m s e
+      unfolding step
+      step-enter k g = rw (← f, h, k, g, w)
+
+      pub step-leave : e .kind ≡ 10 → r ≡ onLeave (m .timing) s t → r ≡ step m s e
+      unfolding step
+      step-leave k g = rw (← f, h, k, g, w)
+
+    module _ (r : Stepped) where
+      pub step-start : e .kind ≡ 4 → r ≡ onStart (m .timing) s (e .id) (e .amount) → r ≡ step m s e
+      unfolding step
+      step-start k g = rw (← f, h, k, g)
+
+      pub step-request : e .kind ≡ 8 → r ≡ onRequest (m .timing) s (e .id) → r ≡ step m s e
+      unfolding step
+      step-request k g = rw (← f, h, k, g)
+
+      pub step-tick : e .kind ≡ 11 → r ≡ ticks (m .timing) s (e .amount) s → r ≡ step m s e
+      unfolding step
+      step-tick k g = rw (← f, h, k, g)
+
+    -- the kinds that the match leaves
+    pub step-unknown : (e .kind ≡ 1 → ⊥) → (e .kind ≡ 2 → ⊥) → (e .kind ≡ 3 → ⊥) → (e .kind ≡ 4 → ⊥) → (e .kind ≡ 5 → ⊥) → (e .kind ≡ 6 → ⊥) →
+        (e .kind ≡ 7 → ⊥) → (e .kind ≡ 8 → ⊥) → (e .kind ≡ 9 → ⊥) → (e .kind ≡ 10 → ⊥) → (e .kind ≡ 11 → ⊥) → refuse BrokenEvent s ≡ step m s e
     unfolding step
-    step-tick r k g = rw (← f, h, k, g)
+    step-unknown k₁ k₂ k₃ k₄ k₅ k₆ k₇ k₈ k₉ k₁₀ k₁₁ =
+        let n = e .kind in
+        rw (← f, h, ne-eqb n 1 k₁, ne-eqb n 2 k₂, ne-eqb n 3 k₃, ne-eqb n 4 k₄, ne-eqb n 5 k₅, ne-eqb n 6 k₆, ne-eqb n 7 k₇, ne-eqb n 8 k₈, ne-eqb n 9 k₉, ne-eqb n 10 k₁₀, ne-eqb n 11 k₁₁)
 
-    module _ (k : e .kind ≡ 11 → ⊥) (d : Bool) (g : d ≡ isEnabled (m .timing) s e) where
-      pub step-refused : d ≡ false → refuse NotEnabled s ≡ step m s e
-      unfolding step
-      step-refused i = rw (← f, h, ne-eqb (e .kind) 11 k, ← g, i)
-
-      pub step-taken : (x : State) → d ≡ true → x ≡ effect m s e → take x ≡ step m s e
-      unfolding step
-      step-taken x i j = rw (← f, h, ne-eqb (e .kind) 11 k, ← g, i, j)
-
-      pub step-timed : (x : State) → d ≡ true → (e .kind ≡ 5 → ⊥) → x ≡ timedEffect (m .timing) s e → take x ≡ step m s e
-      step-timed x i l j = step-taken x i (j ∙ effect-timed m s e l)
-
-    -- COMPLETE of the thread t, whose test gives c
-    module _ (k : e .kind ≡ 5) (t : ℕ) (w : t ≡ e .id) (c : Bool) (g : c ≡ canComplete s t) where
-      other-kind : e .kind ≡ 11 → ⊥
-      other-kind z = omega (arith, k, z)
-
-      pub step-complete : (x : State) → (ltb t (m .timing .threads) && c) ≡ true → x ≡ complete m s t → take x ≡ step m s e
-      step-complete x i j = step-taken other-kind (ltb t (m .timing .threads) && c) (enabled-complete (m .timing) s e t w c k g) x i (effect-complete m s e t x k w j)
-
-      pub step-incomplete : (ltb t (m .timing .threads) && c) ≡ false → refuse NotEnabled s ≡ step m s e
-      step-incomplete i = step-refused other-kind (ltb t (m .timing .threads) && c) (enabled-complete (m .timing) s e t w c k g) i
-
--- ---- a run, as the declared struct has it
-abbrev pub endedOf : Ran → Ended State
-endedOf r = record { taken = r .taken; refusal = r .refusal; state = r .state }
-
+-- ---- a run
 pub model-begins : (m : Model) (script : List ℕ) (s : State) → s ≡ startState (m .timing) → runFrom (machineOf m) s 0 0 (parts Script (drop 0 script)) ≡ runModel m script
 unfolding runModel
 model-begins m script s e = rw e
@@ -213,14 +279,7 @@ module _ (m : Model) (script : List ℕ) (s : State) (k p : ℕ) (inv : runFrom 
     model-goes-on i =
         run-on (machineOf m) script p s n v h e (rw slice-part at f) k (o .answer) (o .state) (ap (λ (r : Stepped). r .answer) g) (ap (λ (r : Stepped). r .state) g) i ∙ inv
 
--- ---- the run that goes on after refusals, as the declared struct has it
-abbrev pub tallyOf : Tallied → Tally State
-tallyOf r = record { taken = r .taken; refused = r .refused; state = r .state }
-
--- the whole of it
-abbrev pub tallyModel : Model → List ℕ → Tally State
-tallyModel m script = tally (machineOf m) (startState (m .timing)) script
-
+-- ---- the run that goes on after refusals
 pub tally-begins : (m : Model) (script : List ℕ) (s : State) → s ≡ startState (m .timing) → tallyFrom (machineOf m) s 0 0 (parts Script (drop 0 script)) ≡ tallyModel m script
 tally-begins m script s e = rw e
 

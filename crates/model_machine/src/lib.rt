@@ -1,14 +1,14 @@
 // A model's machine: its start, one event, and a run.
 
+mod events;
 mod machine;
 mod start;
 mod tally;
+mod time;
 
 pub use machine::clock_of;
-pub use machine::is_enabled;
 pub use machine::run_model;
 pub use machine::step;
-pub use machine::ticks;
 use model::State;
 use records::Refusal;
 pub use start::start_state;

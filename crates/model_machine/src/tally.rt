@@ -11,11 +11,11 @@ use records::part_length_at;
 ghost use mathlib.Core.Path.{_≡_};
 ghost use Rattle.records.specs.Run.{tally};
 ghost use Rattle.model.specs.Machine as machine;
-ghost use Rattle.model_machine.specs.Laws as laws;
+ghost use Rattle.model_machine.specs.Runs as runs;
 
 // The run of a model over a whole script: the event after a refused one meets the state that was there before.
 pub fn run_on(m: Model, script: &[u8]) -> Tallied
-    ensures { λ r. ⌜ laws.tallyOf r ≡ tally (machine.machineOf m) (machine.startState (m .timing)) (now (script .entry)) ⌝ }
+    ensures { λ r. ⌜ runs.tallyOf r ≡ tally (machine.machineOf m) (machine.startState (m .timing)) (now (script .entry)) ⌝ }
 {
     let x = m.timing;
     let mut s = start_state(x);

@@ -37,7 +37,8 @@ use Rattle.model_format.specs.Reading.{lastTransition, causeOf, withCounts, nex
 use Rattle.model_causes.specs.declared.Stand.{Stand}
 use Rattle.model_causes.specs.declared.Found.{Found}
 use Rattle.model_causes.specs.declared.Four.{Four}
-use Rattle.model_causes.specs.Laws.{timingOf, nothing, foundIn, timingCause, behaviorCause, Owners, openIn, timing-judged, behavior-judged}
+use Rattle.model_causes.specs.Causes.{timingOf, nothing, foundIn, timingCause, behaviorCause, Owners}
+use Rattle.model_causes.specs.Laws.{openIn, timing-judged, behavior-judged}
 use Rattle.model_reader.specs.declared.Start.{Start}
 use Rattle.model_reader.specs.declared.Half.{Half}
 

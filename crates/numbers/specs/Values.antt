@@ -74,6 +74,7 @@ compares op a b =
     (cond (eqb op 3) (not (lessValue a b))
     (cond (eqb op 4) (lessValue b a) (not (lessValue b a))))))
 
--- one more; a counter of 32 bits stays at its last number, which no run from the start reaches
+-- one more, for Spent and Missed of a model's thread: 32 bits hold each, so it stays at their last number, which no run from the start
+-- reaches
 unfoldable pub oneMore : ℕ → ℕ
 oneMore n = cond (ltb n 4294967295) (n + 1) n

@@ -238,7 +238,7 @@ pub fn put32(d: &mut [u8], at: usize, n: u32)
     put_after(d, at, 3, (n / 256 / 256 / 256 % 256) as u8);
 }
 
-// One more, and no more than 32 bits hold.
+// One more, and no more than 32 bits hold: for Missed of a model's thread. Spent, the definition's other use, gains many ticks at once.
 pub fn one_more(n: u32) -> u32
     ensures { λ r. ⌜ r ≡ values.oneMore n ⌝ }
 {

@@ -5,12 +5,12 @@ use mathlib.Core.List.{List, [], _∷_}
 use Prim.Native.Nat.{ℕ, zero, suc, _+_, _<_}
 use native.Mathlib.Omega.{arith}
 use lib.ListN.{length}
-use lib.Dec.{eqb, ltb}
+use lib.Dec.{ltb}
 use Rattle.records.specs.declared.Event.{Event}
 use Rattle.records.specs.declared.Cause.{Cause}
 use Rattle.records.specs.declared.Cause.the-variants.{ConflictingRules}
 use Rattle.records.specs.Refusals.{numberOf}
-use Rattle.records.specs.Events.{eventOf, isBroken, tickKind, lastClock}
+use Rattle.records.specs.Events.{eventOf, lastClock}
 use Rattle.records.specs.declared.Notation.the-variants.{Script}
 use Rattle.records.specs.Format.{parts}
 use Rattle.records.specs.Run.{Machine, stagesFrom}
@@ -21,7 +21,8 @@ use Rattle.model.specs.declared.Stepped.{Stepped}
 use Rattle.model.specs.State.{nowOf}
 use Rattle.model.specs.Tests.{isBusy}
 use Rattle.model.specs.Effects.{tick}
-use Rattle.model.specs.Machine.{isEnabled, ticks, step, machineOf}
+use Rattle.model.specs.Machine.{attempt, ticks, step, machineOf}
+use Rattle.model.specs.MachineLaws.{step-is}
 use Rattle.table.specs.declared.Variables.{Variables}
 use Rattle.table.specs.Machine.{tableStages}
 use Rattle.table_format.specs.All.{All}
@@ -44,10 +45,13 @@ ticks-fine m s₀ zero s = omega arith
 ticks-fine m s₀ (suc n) s =
     fine (isBusy m s) _ _ (omega arith) (fine (ltb (nowOf s) lastClock) _ _ (ticks-fine m s₀ n (tick m s)) (omega arith))
 
+attempt-fine : (b : Bool) (x s : State) → NoConflict (attempt b x s .answer)
+unfolding numberOf
+attempt-fine b x s = fine b _ _ (omega arith) (omega arith)
+
 pub step-fine : (m : Model) (s : State) (e : Event) → NoConflict (step m s e .answer)
-unfolding step numberOf
-step-fine m s e =
-    fine (isBroken e) _ _ (omega arith) (fine (eqb (e .kind) tickKind) _ _ (ticks-fine (m .timing) s (e .amount) s) (fine (isEnabled (m .timing) s e) _ _ (omega arith) (omega arith)))
+unfolding numberOf
+step-fine m s e = step-is (λ r. NoConflict (r .answer)) s (λ b x. attempt-fine b x s) m e (omega arith) (ticks-fine (m .timing) s (e .amount) s)
 
 -- whatever goes in lockstep with a model answers like it
 pub never-conflicts : (m : Model) (b : Machine Variables) (l : List (List ℕ)) (d : Dispatched) (s : State) (v : Variables) (p : ℕ) → Lockstep (m .timing) (machineOf m) b d s v l →

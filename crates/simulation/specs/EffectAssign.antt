@@ -19,7 +19,7 @@ use Rattle.model_format.specs.Model.{maxOutputs, assignmentAt}
 use Rattle.model_format.specs.Reading.{namesItem}
 use Rattle.model_format.specs.WellFormed.{GoodTiming, GoodAssignment}
 use Rattle.model.specs.declared.State.{State}
-use Rattle.model.specs.State.{outputOf}
+use Rattle.model.specs.State.{outputValue}
 use Rattle.model.specs.Effects.{assignedValue, assign}
 use Rattle.table_format.specs.declared.Update.{Update}
 use Rattle.table_format.specs.Variables.{outputVar, localVar}
@@ -198,7 +198,7 @@ module _ (m : Timing) (g : GoodTiming m) (b : Behavior) (k count : ℕ)
           go true = sent-stored (assignedExpression (assignmentAt b k j)) x (assignedValue (s .ports) (assignmentAt b k j)) l (assignmentAt b k j .number) (assigned-same j p) r
           go false = r
 
-      pub sent-same : ValuesShown 224 (m .outputs) (s .ports .output) v → worth n v (sentExpression b k count o) ≡ outputOf (assign b (s .ports) k count) o
-      unfolding sentExpression assign outputOf
+      pub sent-same : ValuesShown 224 (m .outputs) (s .ports .output) v → worth n v (sentExpression b k count o) ≡ outputValue (assign b (s .ports) k count) o
+      unfolding sentExpression assign outputValue
       sent-same c =
           fold-related Sent count sendNext storeNext (copied (variable (outputVar o))) (s .ports .output) (c .sized, variable-worth n v (outputVar o) ∙ c .shows o few) sent-next .1

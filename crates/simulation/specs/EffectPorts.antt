@@ -15,7 +15,7 @@ use Rattle.model_format.specs.Model.{maxConnections, inputOwner, connectionAt, 
 use Rattle.model_format.specs.WellFormed.{GoodTiming}
 use Rattle.model.specs.declared.Ports.{Ports}
 use Rattle.model.specs.declared.State.{State}
-use Rattle.model.specs.State.{isLive, bufferOf, outputOf}
+use Rattle.model.specs.State.{isLive, bufferValue, outputValue}
 use Rattle.model.specs.Effects.{isFedImmediately, isPort, freeze, carries, send}
 use Rattle.table_format.specs.declared.Update.{Update}
 use Rattle.table_format.specs.Variables.{noVariable, flagVar, inputVar, bufferVar, outputVar}
@@ -52,15 +52,15 @@ module _ (m : Timing) (g : GoodTiming m) (kind t : ℕ) (from : ℕ → Expressi
   send-apart = apart-join (λ c. bufferVar (connectionAt m c .target)) sendOne (m .connections) send-single (λ c e l b q. g .single c e l b (omega arith))
 
   module _ (n : ℕ) (s : State) (p : Ports) (v w : List Value) (live : LiveShown m (s .live) v)
-      (new : (o : ℕ) → o < m .outputs → worth n v (from o) ≡ outputOf p o) where
+      (new : (o : ℕ) → o < m .outputs → worth n v (from o) ≡ outputValue p o) where
     send-same : (c : ℕ) → c < m .connections → (i : ℕ) → i < 32 → (x : Value) →
-        updated n v (sendOne c) (192 + i) x ≡ cond (carries m s kind t c && eqb i (connectionAt m c .target)) (outputOf p (connectionAt m c .source)) x
+        updated n v (sendOne c) (192 + i) x ≡ cond (carries m s kind t c && eqb i (connectionAt m c .target)) (outputValue p (connectionAt m c .source)) x
     unfolding carries
     send-same c l i b x =
         let few : m .connections ≤ maxConnections = g .connections in
         updated-only n v (isKind m kind c && eqb (sourceThread m c) t) _ (192 + i) x ∙
         rw (applies-live m s v live c (omega arith), shifted 192 i (connectionAt m c .target), new (connectionAt m c .source) (g .source c l))
-        (go (isKind m kind c) (eqb (sourceThread m c) t) (isLive s c) (eqb i (connectionAt m c .target)) (outputOf p (connectionAt m c .source)))
+        (go (isKind m kind c) (eqb (sourceThread m c) t) (isLive s c) (eqb i (connectionAt m c .target)) (outputValue p (connectionAt m c .source)))
       where
         go : (a b e z : Bool) (y : Value) → cond ((a && b) && (e && z)) y x ≡ cond ((a && (b && e)) && z) y x
         go true true e z y = refl
@@ -72,13 +72,13 @@ module _ (m : Timing) (g : GoodTiming m) (kind t : ℕ) (from : ℕ → Expressi
         ValuesShown 192 (m .inputs) (send m s kind t p .buffer) w
     unfolding send
     send-shown h e =
-        column-filled n v w (m .connections) sendOne _ (carries m s kind t) (λ c. connectionAt m c .target) (λ c. outputOf p (connectionAt m c .source))
+        column-filled n v w (m .connections) sendOne _ (carries m s kind t) (λ c. connectionAt m c .target) (λ c. outputValue p (connectionAt m c .source))
         (λ c l x. refl) (λ c l q. g .target c l) send-same h e
 
 -- an output port as it was
 pub old-output : (m : Timing) → GoodTiming m → (n : ℕ) (p : Ports) (v : List Value) → ValuesShown 224 (m .outputs) (p .output) v →
-    (o : ℕ) → o < m .outputs → worth n v (copied (variable (outputVar o))) ≡ outputOf p o
-unfolding outputOf
+    (o : ℕ) → o < m .outputs → worth n v (copied (variable (outputVar o))) ≡ outputValue p o
+unfolding outputValue
 old-output m g n p v h o l = let few : m .outputs ≤ 32 = g .outputs in variable-worth n v (outputVar o) ∙ h .shows o (omega arith)
 
 -- ---- the one immediate connection into an input port
@@ -132,16 +132,16 @@ module _ (m : Timing) (g : GoodTiming m) (s : State) (i : ℕ) where
 -- ---- inputs: the updates that a rule has for each port, and the ports that take their buffers
 -- what the updates of port c make of input i: its buffer, where it is c and the test holds
 abbrev pub Takes : ℕ → List Value → Ports → Bool → List Update → ℕ → Type 0
-Takes n v p b us c = (i : ℕ) → i < 32 → (x : Value) → updated n v us (inputVar i) x ≡ cond (b && eqb i c) (bufferOf p c) x
+Takes n v p b us c = (i : ℕ) → i < 32 → (x : Value) → updated n v us (inputVar i) x ≡ cond (b && eqb i c) (bufferValue p c) x
 
 module _ (m : Timing) (g : GoodTiming m) (n : ℕ) (s : State) (v : List Value) (live : LiveShown m (s .live) v) (buffers : ValuesShown 192 (m .inputs) (s .ports .buffer) v)
     (c : ℕ) (l : c < m .inputs) where
-  buffer-taken : worth n v (takeBuffer c) ≡ bufferOf (s .ports) c
-  unfolding bufferOf
+  buffer-taken : worth n v (takeBuffer c) ≡ bufferValue (s .ports) c
+  unfolding bufferValue
   buffer-taken = let few : m .inputs ≤ 32 = g .inputs in variable-worth n v (bufferVar c) ∙ buffers .shows c (omega arith)
 
   -- an update of input c that applies where b
-  one-takes : (u : Update) (b : Bool) → u .target ≡ inputVar c → applies v u ≡ b → newValue n v u ≡ bufferOf (s .ports) c → Takes n v (s .ports) b (u ∷ []) c
+  one-takes : (u : Update) (b : Bool) → u .target ≡ inputVar c → applies v u ≡ b → newValue n v u ≡ bufferValue (s .ports) c → Takes n v (s .ports) b (u ∷ []) c
   unfolding updated
   one-takes u b t a e i h x = rw (a, e, t, shifted 160 i c)
 
@@ -188,11 +188,11 @@ module _ (m : Timing) (g : GoodTiming m) (t : ℕ) (port : ℕ → List Update) 
       ValuesShown 160 (m .inputs) (freeze m s fed t .input) w
   unfolding freeze isPort updated
   freeze-shown n s fed v w takes h e =
-      column-filled n v w (m .inputs) portOne _ (isPort m s fed t) (λ c. c) (bufferOf (s .ports)) (λ c l x. refl) (λ c l q. l)
+      column-filled n v w (m .inputs) portOne _ (isPort m s fed t) (λ c. c) (bufferValue (s .ports)) (λ c l x. refl) (λ c l q. l)
       (λ c l i b x. go c i x (eqb (inputOwner m c) t) (cond fed (isFedImmediately m s c) (not (isFedImmediately m s c))) (takes c l i b x)) h e
     where
-      go : (c i : ℕ) (x : Value) (a b : Bool) → updated n v (port c) (160 + i) x ≡ cond (b && eqb i c) (bufferOf (s .ports) c) x →
-          updated n v (cond a (port c) []) (160 + i) x ≡ cond ((a && b) && eqb i c) (bufferOf (s .ports) c) x
+      go : (c i : ℕ) (x : Value) (a b : Bool) → updated n v (port c) (160 + i) x ≡ cond (b && eqb i c) (bufferValue (s .ports) c) x →
+          updated n v (cond a (port c) []) (160 + i) x ≡ cond ((a && b) && eqb i c) (bufferValue (s .ports) c) x
       go c i x true b r = r
       go c i x false b r = refl
 

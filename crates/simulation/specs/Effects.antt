@@ -24,7 +24,7 @@ use Rattle.model.specs.declared.Clock.{Clock}
 use Rattle.model.specs.declared.Threads.{Threads}
 use Rattle.model.specs.declared.Ports.{Ports}
 use Rattle.model.specs.declared.State.{State}
-use Rattle.model.specs.State.{isActive, codeOf, dispatchTime, lengthOf, spentOf, behaviorOf, missedOf, isLive, inputOf, bufferOf, outputOf, localOf, nowOf}
+use Rattle.model.specs.State.{isActive, codeOf, dispatchTime, lengthOf, spentOf, behaviorOf, missedOf, isLive, inputValue, bufferValue, outputValue, localValue, nowOf}
 use Rattle.model.specs.Tests.{waitingExecution, execution, completed, dueOf}
 use Rattle.table_format.specs.declared.Update.{Update}
 use Rattle.table_format.specs.Variables.{variables, nowVar, modeVar, phaseVar, pendingVar, enteredVar, cpuVar, activeVar, stateVar, dispatchVar, dueVar, endVar, behaviorVar, missedVar, flagVar, inputVar, bufferVar, outputVar, localVar}
@@ -132,7 +132,7 @@ pub record InParts (m : Timing) (d : Dispatched) (s : State) (v : List Value) : 
 
 -- ---- the invariant, taken apart
 pub in-parts : (m : Timing) (d : Dispatched) (s : State) (v : List Value) → Match m d s v → InParts m d s v
-unfolding dueOf isActive codeOf dispatchTime lengthOf spentOf behaviorOf missedOf isLive inputOf bufferOf outputOf localOf
+unfolding dueOf isActive codeOf dispatchTime lengthOf spentOf behaviorOf missedOf isLive inputValue bufferValue outputValue localValue
 in-parts m d s v h = record {
   size = h .size;
   ticks = h .reached .clock;
@@ -211,7 +211,7 @@ module _ (m : Timing) (d : Dispatched) (s : State) (v : List Value) (few : m .th
       })
 
   pub whole : Match m d s v
-  unfolding dueOf isLive inputOf bufferOf outputOf localOf
+  unfolding dueOf isLive inputValue bufferValue outputValue localValue
   whole = record {
     size = h .size;
     sized = record {

@@ -19,7 +19,7 @@ use Rattle.model_format.specs.Model.{maxThreads, maxInputs, maxLocals, transiti
 use Rattle.model_format.specs.Reading.{namesItem}
 use Rattle.model_format.specs.WellFormed.{GoodTiming, GoodOperand, GoodAtom, WellFormed}
 use Rattle.model.specs.declared.State.{State}
-use Rattle.model.specs.State.{codeOf, lengthOf, spentOf, behaviorOf, inputOf, localOf}
+use Rattle.model.specs.State.{codeOf, lengthOf, spentOf, behaviorOf, inputValue, localValue}
 use Rattle.model.specs.Effects.{leftValue, atomHolds, isOpen, firstOpen, operandValue as modelValue}
 use Rattle.model.specs.Tests.{execution, canComplete}
 use Rattle.table_format.specs.declared.Atom as table-atom
@@ -47,11 +47,11 @@ negated-op (suc (suc (suc (suc (suc (suc op)))))) x y b = absurd (omega arith)
 module _ (m : Timing) (d : Dispatched) (s : State) (v : List Value) (g : GoodTiming m) (h : Match m d s v) where
   -- an input port or a local
   pub place-same : (tag n : ℕ) → ((tag ≡ 1 → ⊥) → tag ≡ 2) → namesItem m tag n ≡ true →
-      valueOf v (variableOf tag n) ≡ cond (eqb tag 1) (inputOf (s .ports) n) (localOf (s .ports) n)
+      valueOf v (variableOf tag n) ≡ cond (eqb tag 1) (inputValue (s .ports) n) (localValue (s .ports) n)
   unfolding variableOf namesItem
   place-same tag n q e = go (ℕ-discrete tag 1)
     where
-      go : Dec (tag ≡ 1) → valueOf v (variableOf tag n) ≡ cond (eqb tag 1) (inputOf (s .ports) n) (localOf (s .ports) n)
+      go : Dec (tag ≡ 1) → valueOf v (variableOf tag n) ≡ cond (eqb tag 1) (inputValue (s .ports) n) (localValue (s .ports) n)
       go (yes a) =
           let l : n < m .inputs = ltb-true n (m .inputs) (rw a at e) in
           let k : m .inputs ≤ maxInputs = g .inputs in

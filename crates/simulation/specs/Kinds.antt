@@ -1,13 +1,13 @@
 -- One event on both machines, by its kind: what each machine does, in one equation.
 use mathlib.Core.Path.{_≡_, refl}
-use mathlib.Core.Bool.{Bool, true, false, cond, _&&_}
+use mathlib.Core.Bool.{Bool, true, false, _&&_}
 use mathlib.Core.List.{List}
 use Prim.Native.Nat.{ℕ}
 use lib.Dec.{eqb, ltb}
 use borrow.Author.Tests.{eqb-true}
 use native.Mathlib.Omega.{arith}
 use Rattle.records.specs.declared.Event.{Event}
-use Rattle.records.specs.declared.Cause.the-variants.{BrokenEvent, NotEnabled}
+use Rattle.records.specs.declared.Cause.the-variants.{BrokenEvent}
 use Rattle.records.specs.declared.Notation.the-variants.{Script}
 use Rattle.records.specs.Format.{recordSize}
 use Rattle.records.specs.Events.{isBroken}
@@ -16,61 +16,56 @@ use Rattle.model.specs.declared.State.{State}
 use Rattle.model.specs.State.{withCode}
 use Rattle.model.specs.Tests.{waitingMode, waitingDispatch, canActivate, canDeactivate, canDispatch, canStart, canComplete, canMeetDeadline, canMiss, canEnter, canLeave}
 use Rattle.model.specs.Effects.{dispatch, start, complete, meetDeadline, miss, request, enter, leave}
-use Rattle.model.specs.declared.Stepped as model-stepped
 use Rattle.model.specs.Machine as model-machine
-use Rattle.model.specs.Machine.{isEnabled, effect}
+use Rattle.model.specs.Machine.{onActivate, onDeactivate, onDispatch, onStart, onComplete, onDeadline, onMiss, onRequest, onEnter, onLeave}
 use Rattle.table_format.specs.Table.{Rule}
 use Rattle.table.specs.declared.Variables.{Variables}
 use Rattle.table.specs.Rules.{enabledRules}
 use Rattle.table.specs.Machine as table-machine
-
--- what the model does where a test c chooses
-abbrev pub byTest : Bool → State → State → model-stepped.Stepped
-byTest c r s = cond c (model-machine.take r) (model-machine.refuse NotEnabled s)
 
 module _ (m : Model) (s : State) (e : Event) where
   pub model-broken : isBroken e ≡ true → model-machine.step m s e ≡ model-machine.refuse BrokenEvent s
   unfolding model-machine.step
   model-broken b = rw b
 
-  pub model-activate : e .kind ≡ 1 → model-machine.step m s e ≡ byTest (ltb (e .id) (m .timing .threads) && canActivate s (e .id)) (withCode s (e .id) waitingDispatch) s
-  unfolding model-machine.step isEnabled effect isBroken recordSize
+  pub model-activate : e .kind ≡ 1 → model-machine.step m s e ≡ model-machine.attempt (ltb (e .id) (m .timing .threads) && canActivate s (e .id)) (withCode s (e .id) waitingDispatch) s
+  unfolding model-machine.step onActivate isBroken recordSize
   model-activate k = rw k
 
-  pub model-deactivate : e .kind ≡ 2 → model-machine.step m s e ≡ byTest (ltb (e .id) (m .timing .threads) && canDeactivate s (e .id)) (withCode s (e .id) waitingMode) s
-  unfolding model-machine.step isEnabled effect isBroken recordSize
+  pub model-deactivate : e .kind ≡ 2 → model-machine.step m s e ≡ model-machine.attempt (ltb (e .id) (m .timing .threads) && canDeactivate s (e .id)) (withCode s (e .id) waitingMode) s
+  unfolding model-machine.step onDeactivate isBroken recordSize
   model-deactivate k = rw k
 
-  pub model-dispatch : e .kind ≡ 3 → model-machine.step m s e ≡ byTest (ltb (e .id) (m .timing .threads) && canDispatch (m .timing) s (e .id)) (dispatch (m .timing) s (e .id)) s
-  unfolding model-machine.step isEnabled effect isBroken recordSize
+  pub model-dispatch : e .kind ≡ 3 → model-machine.step m s e ≡ model-machine.attempt (ltb (e .id) (m .timing .threads) && canDispatch (m .timing) s (e .id)) (dispatch (m .timing) s (e .id)) s
+  unfolding model-machine.step onDispatch isBroken recordSize
   model-dispatch k = rw k
 
-  pub model-start : e .kind ≡ 4 → model-machine.step m s e ≡ byTest (canStart (m .timing) s (e .id) (e .amount)) (start (m .timing) s (e .id) (e .amount)) s
-  unfolding model-machine.step isEnabled effect isBroken recordSize
+  pub model-start : e .kind ≡ 4 → model-machine.step m s e ≡ model-machine.attempt (canStart (m .timing) s (e .id) (e .amount)) (start (m .timing) s (e .id) (e .amount)) s
+  unfolding model-machine.step onStart isBroken recordSize
   model-start k = rw k
 
-  pub model-complete : e .kind ≡ 5 → model-machine.step m s e ≡ byTest (ltb (e .id) (m .timing .threads) && canComplete s (e .id)) (complete m s (e .id)) s
-  unfolding model-machine.step isEnabled effect isBroken recordSize
+  pub model-complete : e .kind ≡ 5 → model-machine.step m s e ≡ model-machine.attempt (ltb (e .id) (m .timing .threads) && canComplete s (e .id)) (complete m s (e .id)) s
+  unfolding model-machine.step onComplete isBroken recordSize
   model-complete k = rw k
 
-  pub model-deadline : e .kind ≡ 6 → model-machine.step m s e ≡ byTest (ltb (e .id) (m .timing .threads) && canMeetDeadline (m .timing) s (e .id)) (meetDeadline (m .timing) s (e .id)) s
-  unfolding model-machine.step isEnabled effect isBroken recordSize
+  pub model-deadline : e .kind ≡ 6 → model-machine.step m s e ≡ model-machine.attempt (ltb (e .id) (m .timing .threads) && canMeetDeadline (m .timing) s (e .id)) (meetDeadline (m .timing) s (e .id)) s
+  unfolding model-machine.step onDeadline isBroken recordSize
   model-deadline k = rw k
 
-  pub model-miss : e .kind ≡ 7 → model-machine.step m s e ≡ byTest (ltb (e .id) (m .timing .threads) && canMiss (m .timing) s (e .id)) (miss (m .timing) s (e .id)) s
-  unfolding model-machine.step isEnabled effect isBroken recordSize
+  pub model-miss : e .kind ≡ 7 → model-machine.step m s e ≡ model-machine.attempt (ltb (e .id) (m .timing .threads) && canMiss (m .timing) s (e .id)) (miss (m .timing) s (e .id)) s
+  unfolding model-machine.step onMiss isBroken recordSize
   model-miss k = rw k
 
-  pub model-request : e .kind ≡ 8 → model-machine.step m s e ≡ byTest (ltb (e .id) (m .timing .switches)) (request (m .timing) s (e .id)) s
-  unfolding model-machine.step isEnabled effect isBroken recordSize
+  pub model-request : e .kind ≡ 8 → model-machine.step m s e ≡ model-machine.attempt (ltb (e .id) (m .timing .switches)) (request (m .timing) s (e .id)) s
+  unfolding model-machine.step onRequest isBroken recordSize
   model-request k = rw k
 
-  pub model-enter : e .kind ≡ 9 → model-machine.step m s e ≡ byTest (ltb (e .id) (m .timing .switches) && canEnter (m .timing) s (e .id)) (enter (m .timing) s (e .id)) s
-  unfolding model-machine.step isEnabled effect isBroken recordSize
+  pub model-enter : e .kind ≡ 9 → model-machine.step m s e ≡ model-machine.attempt (ltb (e .id) (m .timing .switches) && canEnter (m .timing) s (e .id)) (enter (m .timing) s (e .id)) s
+  unfolding model-machine.step onEnter isBroken recordSize
   model-enter k = rw k
 
-  pub model-leave : e .kind ≡ 10 → model-machine.step m s e ≡ byTest (ltb (e .id) (m .timing .switches) && canLeave (m .timing) s (e .id)) (leave (m .timing) s (e .id)) s
-  unfolding model-machine.step isEnabled effect isBroken recordSize
+  pub model-leave : e .kind ≡ 10 → model-machine.step m s e ≡ model-machine.attempt (ltb (e .id) (m .timing .switches) && canLeave (m .timing) s (e .id)) (leave (m .timing) s (e .id)) s
+  unfolding model-machine.step onLeave isBroken recordSize
   model-leave k = rw k
 
   pub model-tick : e .kind ≡ 11 → isBroken e ≡ false → model-machine.step m s e ≡ model-machine.ticks (m .timing) s (e .amount) s

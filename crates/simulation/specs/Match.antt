@@ -11,7 +11,7 @@ use Rattle.model_format.specs.declared.Timing.{Timing}
 use Rattle.model_format.specs.Model.{maxThreads, maxInputs, maxOutputs, maxLocals, maxConnections}
 use Rattle.model_format.specs.Reading.{longestTime}
 use Rattle.model.specs.declared.State.{State}
-use Rattle.model.specs.State.{isActive, codeOf, dispatchTime, lengthOf, spentOf, behaviorOf, missedOf, isLive, inputOf, bufferOf, outputOf, localOf, nowOf}
+use Rattle.model.specs.State.{isActive, codeOf, dispatchTime, lengthOf, spentOf, behaviorOf, missedOf, isLive, inputValue, bufferValue, outputValue, localValue, nowOf}
 use Rattle.model.specs.Tests.{waitingExecution, execution, completed, dueOf}
 use Rattle.table.specs.Rules.{valueOf}
 use Rattle.table_format.specs.Variables.{variables, nowVar, modeVar, phaseVar, pendingVar, enteredVar, cpuVar, activeVar, stateVar, dispatchVar, dueVar, endVar, behaviorVar, missedVar, flagVar, inputVar, bufferVar, outputVar, localVar}
@@ -41,10 +41,10 @@ pub record Blank (m : Timing) (s : State) : Type 0 where
   pub behavior : (t : ℕ) → m .threads ≤ t → behaviorOf s t ≡ 0
   pub missed : (t : ℕ) → m .threads ≤ t → missedOf s t ≡ 0
   pub live : (c : ℕ) → m .connections ≤ c → isLive s c ≡ false
-  pub input : (i : ℕ) → m .inputs ≤ i → inputOf (s .ports) i ≡ natural 0
-  pub buffer : (i : ℕ) → m .inputs ≤ i → bufferOf (s .ports) i ≡ natural 0
-  pub output : (o : ℕ) → m .outputs ≤ o → outputOf (s .ports) o ≡ natural 0
-  pub local : (v : ℕ) → m .locals ≤ v → localOf (s .ports) v ≡ natural 0
+  pub input : (i : ℕ) → m .inputs ≤ i → inputValue (s .ports) i ≡ natural 0
+  pub buffer : (i : ℕ) → m .inputs ≤ i → bufferValue (s .ports) i ≡ natural 0
+  pub output : (o : ℕ) → m .outputs ≤ o → outputValue (s .ports) o ≡ natural 0
+  pub local : (v : ℕ) → m .locals ≤ v → localValue (s .ports) v ≡ natural 0
 
 -- facts of every state that a run reaches
 pub record Reached (m : Timing) (d : Dispatched) (s : State) : Type 0 where
@@ -80,7 +80,7 @@ pub record Match (m : Timing) (d : Dispatched) (s : State) (v : List Value) : Ty
   pub behavior : (t : ℕ) → t < maxThreads → valueOf v (behaviorVar t) ≡ natural (behaviorOf s t)
   pub missed : (t : ℕ) → t < maxThreads → valueOf v (missedVar t) ≡ natural (missedOf s t)
   pub flag : (c : ℕ) → c < maxConnections → valueOf v (flagVar c) ≡ natural (bit (isLive s c))
-  pub input : (i : ℕ) → i < maxInputs → valueOf v (inputVar i) ≡ inputOf (s .ports) i
-  pub buffer : (i : ℕ) → i < maxInputs → valueOf v (bufferVar i) ≡ bufferOf (s .ports) i
-  pub output : (o : ℕ) → o < maxOutputs → valueOf v (outputVar o) ≡ outputOf (s .ports) o
-  pub local : (i : ℕ) → i < maxLocals → valueOf v (localVar i) ≡ localOf (s .ports) i
+  pub input : (i : ℕ) → i < maxInputs → valueOf v (inputVar i) ≡ inputValue (s .ports) i
+  pub buffer : (i : ℕ) → i < maxInputs → valueOf v (bufferVar i) ≡ bufferValue (s .ports) i
+  pub output : (o : ℕ) → o < maxOutputs → valueOf v (outputVar o) ≡ outputValue (s .ports) o
+  pub local : (i : ℕ) → i < maxLocals → valueOf v (localVar i) ≡ localValue (s .ports) i

@@ -13,7 +13,7 @@ use Rattle.model_format.specs.declared.Timing.{Timing}
 use Rattle.model_format.specs.Model.{maxThreads, maxConnections, maxInputs, maxOutputs, maxLocals}
 use Rattle.model_format.specs.WellFormed.{GoodTiming}
 use Rattle.model.specs.declared.State.{State}
-use Rattle.model.specs.State.{isActive, codeOf, dispatchTime, behaviorOf, missedOf, isLive, inputOf, bufferOf, outputOf, localOf}
+use Rattle.model.specs.State.{isActive, codeOf, dispatchTime, behaviorOf, missedOf, isLive, inputValue, bufferValue, outputValue, localValue}
 use Rattle.table_format.specs.Variables.{variables, activeVar, stateVar, dispatchVar, dueVar, endVar, behaviorVar, missedVar, flagVar, inputVar, bufferVar, outputVar, localVar}
 use Rattle.table.specs.Rules.{valueOf}
 use Rattle.translate.specs.Shown.{bit, inBlock, standsFor}
@@ -62,10 +62,10 @@ blocks m s =
     record { base = behaviorVar 0; count = m .threads; worth = λ t. natural (behaviorOf s t) } ∷
     record { base = missedVar 0; count = m .threads; worth = λ t. natural (missedOf s t) } ∷
     record { base = flagVar 0; count = m .connections; worth = λ c. natural (bit (isLive s c)) } ∷
-    record { base = inputVar 0; count = m .inputs; worth = inputOf (s .ports) } ∷
-    record { base = bufferVar 0; count = m .inputs; worth = bufferOf (s .ports) } ∷
-    record { base = outputVar 0; count = m .outputs; worth = outputOf (s .ports) } ∷
-    record { base = localVar 0; count = m .locals; worth = localOf (s .ports) } ∷ []
+    record { base = inputVar 0; count = m .inputs; worth = inputValue (s .ports) } ∷
+    record { base = bufferVar 0; count = m .inputs; worth = bufferValue (s .ports) } ∷
+    record { base = outputVar 0; count = m .outputs; worth = outputValue (s .ports) } ∷
+    record { base = localVar 0; count = m .locals; worth = localValue (s .ports) } ∷ []
 
 stands-pick : (m : Timing) (s : State) (j : ℕ) → 6 ≤ j → standsFor m s j ≡ pick (blocks m s) j
 unfolding standsFor pick
@@ -127,19 +127,19 @@ module _ (m : Timing) (g : GoodTiming m) (s : State) (b : Blank m s) where
   unfolding Avoids
   stands-flag i l = stands-block m s 5 i refl (omega arith) (omega arith) (omega arith) (λ e. ap (λ c. natural (bit c)) (b .live i e))
 
-  pub stands-input : (i : ℕ) → i < maxInputs → standsFor m s (inputVar i) ≡ inputOf (s .ports) i
+  pub stands-input : (i : ℕ) → i < maxInputs → standsFor m s (inputVar i) ≡ inputValue (s .ports) i
   unfolding Avoids
   stands-input i l = stands-block m s 6 i refl (omega arith) (omega arith) (omega arith) (b .input i)
 
-  pub stands-buffer : (i : ℕ) → i < maxInputs → standsFor m s (bufferVar i) ≡ bufferOf (s .ports) i
+  pub stands-buffer : (i : ℕ) → i < maxInputs → standsFor m s (bufferVar i) ≡ bufferValue (s .ports) i
   unfolding Avoids
   stands-buffer i l = stands-block m s 7 i refl (omega arith) (omega arith) (omega arith) (b .buffer i)
 
-  pub stands-output : (i : ℕ) → i < maxOutputs → standsFor m s (outputVar i) ≡ outputOf (s .ports) i
+  pub stands-output : (i : ℕ) → i < maxOutputs → standsFor m s (outputVar i) ≡ outputValue (s .ports) i
   unfolding Avoids
   stands-output i l = stands-block m s 8 i refl (omega arith) (omega arith) (omega arith) (b .output i)
 
-  pub stands-local : (i : ℕ) → i < maxLocals → standsFor m s (localVar i) ≡ localOf (s .ports) i
+  pub stands-local : (i : ℕ) → i < maxLocals → standsFor m s (localVar i) ≡ localValue (s .ports) i
   unfolding Avoids
   stands-local i l = stands-block m s 9 i refl (omega arith) (omega arith) (omega arith) (b .local i)
 

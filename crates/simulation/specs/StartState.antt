@@ -19,7 +19,7 @@ use Rattle.model_format.specs.declared.Model.{Model}
 use Rattle.model_format.specs.Model.{maxThreads, maxInputs, maxOutputs, maxLocals, maxConnections, threadAt, localAt, connectionAt, inMode}
 use Rattle.model_format.specs.WellFormed.{GoodTiming, WellFormed}
 use Rattle.model.specs.declared.State.{State}
-use Rattle.model.specs.State.{isActive, codeOf, dispatchTime, behaviorOf, missedOf, isLive, inputOf, bufferOf, outputOf, localOf}
+use Rattle.model.specs.State.{isActive, codeOf, dispatchTime, behaviorOf, missedOf, isLive, inputValue, bufferValue, outputValue, localValue}
 use Rattle.model.specs.Effects.{activeIn, inBoth, liveIn}
 use Rattle.model.specs.Machine.{startState}
 use Rattle.table_format.specs.declared.InitialValue.{InitialValue}
@@ -88,7 +88,7 @@ module _ (m : Timing) where
   begins = startState m
 
   start-blank : Blank m begins
-  unfolding startState activeIn liveIn isActive codeOf dispatchTime behaviorOf missedOf isLive inputOf bufferOf outputOf localOf
+  unfolding startState activeIn liveIn isActive codeOf dispatchTime behaviorOf missedOf isLive inputValue bufferValue outputValue localValue
   start-blank = record {
     active = λ t. filled-blank maxThreads false (λ c. inMode (threadAt m c .modes) (m .initial)) (m .threads) t;
     code = λ t l. item-blank maxThreads 0 t;
@@ -135,8 +135,8 @@ module _ (m : Timing) where
       local = λ i l. rw (stands-local m g begins start-blank i l) (ports-plain i .3);
     })
       where
-        ports-plain : (i : ℕ) → Plain (inputOf (begins .ports) i) × Plain (bufferOf (begins .ports) i) × Plain (outputOf (begins .ports) i) × Plain (localOf (begins .ports) i)
-        ports-plain i = unfold startState inputOf bufferOf outputOf localOf in (
+        ports-plain : (i : ℕ) → Plain (inputValue (begins .ports) i) × Plain (bufferValue (begins .ports) i) × Plain (outputValue (begins .ports) i) × Plain (localValue (begins .ports) i)
+        ports-plain i = unfold startState inputValue bufferValue outputValue localValue in (
           rw (item-blank maxInputs (natural 0) i) (plain-natural 0),
           rw (item-blank maxInputs (natural 0) i) (plain-natural 0),
           rw (item-blank maxOutputs (natural 0) i) (plain-natural 0),
@@ -201,7 +201,7 @@ module _ (x : ℕ → Value) (plain : (j : ℕ) → j < variables → Plain (x j
 -- ---- the match
 module _ (m : Timing) (g : GoodTiming m) (v : List Value) (size : length v ≡ variables) (stands : (j : ℕ) → j < variables → valueOf v j ≡ standsFor m (startState m) j) where
   start-parts : InParts m noneYet (startState m) v
-  unfolding startState activeIn liveIn isLive inputOf bufferOf outputOf localOf standsFor
+  unfolding startState activeIn liveIn isLive inputValue bufferValue outputValue localValue standsFor
   start-parts = let s = startState m in let b = start-blank m in record {
     size = size;
     ticks = omega arith;

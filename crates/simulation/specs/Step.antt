@@ -22,7 +22,6 @@ use Rattle.translate.specs.Parts.{Body, stamped}
 use Rattle.simulation.specs.Compared.{Dispatched, andAfter}
 use Rattle.simulation.specs.Match.{Match}
 use Rattle.simulation.specs.Effects.{Does, after-other, after-refused}
-use Rattle.simulation.specs.Kinds.{byTest}
 
 -- what the two machines gave to an event: the same answer, and states that match, with the event among those taken
 pub record After (m : Timing) (d : Dispatched) (e : Event) (r : model-stepped.Stepped) (q : table-stepped.Stepped) : Type 0 where
@@ -43,23 +42,23 @@ module _ (m : Timing) (d : Dispatched) (s r : State) (v : Variables) (e : Event)
   refused-both = record { answer = refl; states = refused-states e NotEnabled refl h }
 
   fired : (b : Body) (k : ℕ) → table-machine.allowsLength e (record { head = record { kind = k; id = e .id; low = b .low; high = b .high }; clauses = b .clauses; updates = b .updates }) ≡ true →
-      Does m (andAfter d e None) r (e .amount) (v .value) (b .updates) → After m d e (model-machine.take r) (table-machine.fire v e (stamped k (e .id) (b ∷ [])))
+      Does m (andAfter d e None) r (e .amount) (v .value) (b .updates) → After m d e (model-machine.accept r) (table-machine.fire v e (stamped k (e .id) (b ∷ [])))
   unfolding table-machine.fire stamped
   fired b k a x = rw (a, x .consistent) (record { answer = refl; states = x .matches })
 
   pub by-rule : (c : Bool) (b : Body) (k : ℕ) → eqb (e .kind) startKind ≡ false → (c ≡ true → Does m (andAfter d e None) r (e .amount) (v .value) (b .updates)) →
-      After m d e (byTest c r s) (table-machine.fire v e (stamped k (e .id) (cond c (b ∷ []) [])))
+      After m d e (model-machine.attempt c r s) (table-machine.fire v e (stamped k (e .id) (cond c (b ∷ []) [])))
   unfolding table-machine.allowsLength table-machine.fire stamped
   by-rule true b k n x = fired b k (rw n) (x refl)
   by-rule false b k n x = refused-both
 
   -- START: the rule is enabled before its length is looked at
   pub by-start : (c : Bool) (b : Body) (k : ℕ) → e .kind ≡ startKind → (c ≡ true → (leb (b .low) (e .amount) && leb (e .amount) (b .high)) ≡ true → Does m (andAfter d e None) r (e .amount) (v .value) (b .updates)) →
-      After m d e (byTest (c && (leb (b .low) (e .amount) && leb (e .amount) (b .high))) r s) (table-machine.fire v e (stamped k (e .id) (cond c (b ∷ []) [])))
+      After m d e (model-machine.attempt (c && (leb (b .low) (e .amount) && leb (e .amount) (b .high))) r s) (table-machine.fire v e (stamped k (e .id) (cond c (b ∷ []) [])))
   unfolding table-machine.allowsLength table-machine.fire stamped
   by-start true b k n x = by-length (leb (b .low) (e .amount) && leb (e .amount) (b .high)) refl
     where
-      by-length : (a : Bool) → (leb (b .low) (e .amount) && leb (e .amount) (b .high)) ≡ a → After m d e (byTest a r s) (table-machine.fire v e (stamped k (e .id) (b ∷ [])))
+      by-length : (a : Bool) → (leb (b .low) (e .amount) && leb (e .amount) (b .high)) ≡ a → After m d e (model-machine.attempt a r s) (table-machine.fire v e (stamped k (e .id) (b ∷ [])))
       by-length true f = fired b k (rw (n, f)) (x refl f)
       by-length false f =
           let a : table-machine.allowsLength e (record { head = record { kind = k; id = e .id; low = b .low; high = b .high }; clauses = b .clauses; updates = b .updates }) ≡ false = rw (n, f) in

@@ -6,7 +6,7 @@ use Rattle.numbers.specs.declared.Value.{Value}
 use Rattle.numbers.specs.Values.{natural}
 use Rattle.model_format.specs.declared.Timing.{Timing}
 use Rattle.model.specs.declared.State.{State}
-use Rattle.model.specs.State.{isActive, codeOf, dispatchTime, behaviorOf, missedOf, isLive, inputOf, bufferOf, outputOf, localOf, nowOf}
+use Rattle.model.specs.State.{isActive, codeOf, dispatchTime, behaviorOf, missedOf, isLive, inputValue, bufferValue, outputValue, localValue, nowOf}
 use Rattle.table_format.specs.Variables.{nowVar, modeVar, phaseVar, pendingVar, enteredVar, cpuVar, activeVar, stateVar, dispatchVar, behaviorVar, missedVar, flagVar, inputVar, bufferVar, outputVar, localVar}
 
 -- 1 where the test passes
@@ -33,7 +33,7 @@ standsFor m s j =
     (cond (inBlock (behaviorVar 0) (m .threads) j) (natural (behaviorOf s (j - behaviorVar 0)))
     (cond (inBlock (missedVar 0) (m .threads) j) (natural (missedOf s (j - missedVar 0)))
     (cond (inBlock (flagVar 0) (m .connections) j) (natural (bit (isLive s (j - flagVar 0))))
-    (cond (inBlock (inputVar 0) (m .inputs) j) (inputOf (s .ports) (j - inputVar 0))
-    (cond (inBlock (bufferVar 0) (m .inputs) j) (bufferOf (s .ports) (j - bufferVar 0))
-    (cond (inBlock (outputVar 0) (m .outputs) j) (outputOf (s .ports) (j - outputVar 0))
-    (cond (inBlock (localVar 0) (m .locals) j) (localOf (s .ports) (j - localVar 0)) (natural 0))))))))))))))))
+    (cond (inBlock (inputVar 0) (m .inputs) j) (inputValue (s .ports) (j - inputVar 0))
+    (cond (inBlock (bufferVar 0) (m .inputs) j) (bufferValue (s .ports) (j - bufferVar 0))
+    (cond (inBlock (outputVar 0) (m .outputs) j) (outputValue (s .ports) (j - outputVar 0))
+    (cond (inBlock (localVar 0) (m .locals) j) (localValue (s .ports) (j - localVar 0)) (natural 0))))))))))))))))

@@ -16,7 +16,7 @@ use Rattle.model_format.specs.declared.Timing.{Timing}
 use Rattle.model_format.specs.declared.Model.{Model}
 use Rattle.model_format.specs.Model.{maxThreads, maxInputs, maxOutputs, maxLocals, threadAt, localAt}
 use Rattle.model_format.specs.WellFormed.{GoodTiming, WellFormed}
-use Rattle.model.specs.State.{isActive, codeOf, dispatchTime, behaviorOf, missedOf, isLive, inputOf, bufferOf, outputOf, localOf}
+use Rattle.model.specs.State.{isActive, codeOf, dispatchTime, behaviorOf, missedOf, isLive, inputValue, bufferValue, outputValue, localValue}
 use Rattle.model.specs.Machine.{startState}
 use Rattle.table_format.specs.Variables.{variables, nowVar, modeVar, phaseVar, pendingVar, enteredVar, cpuVar, activeVar, stateVar, dispatchVar, behaviorVar, missedVar, flagVar, inputVar, bufferVar, outputVar, localVar}
 use Rattle.table_format.specs.Table.{tableOf}
@@ -61,8 +61,8 @@ module _ (m : Timing) (g : GoodTiming m) where
       (λ t l h k. all-store IsByte maxThreads l t (threadAt m t .first) k (omega (arith, g .thread t h .first))))
       (omega arith)
 
-  local-fits : (v : ℕ) → FitsValue (localOf (startState m .ports) v)
-  unfolding localOf startState
+  local-fits : (v : ℕ) → FitsValue (localValue (startState m .ports) v)
+  unfolding localValue startState
   local-fits v =
       all-item FitsValue maxLocals (startState m .ports .local) v (natural 0)
       (fold-keeps (All FitsValue) (m .locals) (λ v l. store maxLocals l v (localAt m v .start)) (replicate maxLocals (natural 0))
@@ -70,16 +70,16 @@ module _ (m : Timing) (g : GoodTiming m) where
       (λ v l h k. all-store FitsValue maxLocals l v (localAt m v .start) k (g .local v h)))
       (small-fits 0 (omega arith))
 
-  input-fits : (i : ℕ) → FitsValue (inputOf (startState m .ports) i)
-  unfolding inputOf startState
+  input-fits : (i : ℕ) → FitsValue (inputValue (startState m .ports) i)
+  unfolding inputValue startState
   input-fits i = blank-item FitsValue maxInputs i (natural 0) (small-fits 0 (omega arith))
 
-  buffer-fits : (i : ℕ) → FitsValue (bufferOf (startState m .ports) i)
-  unfolding bufferOf startState
+  buffer-fits : (i : ℕ) → FitsValue (bufferValue (startState m .ports) i)
+  unfolding bufferValue startState
   buffer-fits i = blank-item FitsValue maxInputs i (natural 0) (small-fits 0 (omega arith))
 
-  output-fits : (o : ℕ) → FitsValue (outputOf (startState m .ports) o)
-  unfolding outputOf startState
+  output-fits : (o : ℕ) → FitsValue (outputValue (startState m .ports) o)
+  unfolding outputValue startState
   output-fits o = blank-item FitsValue maxOutputs o (natural 0) (small-fits 0 (omega arith))
 
   start-fits : (j : ℕ) → FitsValue (standsFor m (startState m) j)

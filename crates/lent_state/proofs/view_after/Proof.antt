@@ -1,6 +1,6 @@
 use borrow.Author.Needs.{needs}
 use borrow.Author.Tests.{not-true, not-false}
-use Rattle.lent_state.specs.View.{after-refused, after-taken}
+use Rattle.lent_state.specs.Laws.{after-refused, after-taken}
 use Rattle.lent_state.proofs.view_after.Statement.{statement}
 use Rattle.lent_state.proofs.view_after.Tie as tie
 
@@ -10,11 +10,11 @@ is-none-requires c κs = search needs
 returns : tie.Need-returns
 returns c = after-refused _ _ _ (c .before .is-none .ensures) (not-true _ (c .if1 .taken))
 
-one-more-requires : tie.Need-one-more-requires
-one-more-requires c κs = search needs
+next-count-requires : tie.Need-next-count-requires
+next-count-requires c κs = search needs
 
 returns-2 : tie.Need-returns-2
-returns-2 c = after-taken _ _ _ (c .before .before .before .before .before .is-none .ensures) _ (not-false _ (c .before .before .before .before .if1 .left)) (c .one-more .ensures)
+returns-2 c = after-taken _ _ _ (c .before .before .before .before .before .is-none .ensures) _ (not-false _ (c .before .before .before .before .if1 .left)) (c .next-count .ensures)
 
 pub view-after-spec : {M : Type 1} → statement M
-view-after-spec = tie.close (tie.spec is-none-requires returns one-more-requires returns-2)
+view-after-spec = tie.close (tie.spec is-none-requires returns next-count-requires returns-2)

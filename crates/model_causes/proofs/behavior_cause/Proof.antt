@@ -1,5 +1,5 @@
 use mathlib.Core.Path.{_∙_}
-use Rattle.model_causes.specs.Laws as laws
+use Rattle.model_causes.specs.Causes as causes
 use borrow.Author.Needs.{needs}
 use Rattle.model_causes.proofs.behavior_cause.Statement.{statement}
 use Rattle.model_causes.proofs.behavior_cause.Tie as tie
@@ -56,51 +56,51 @@ enum-told-9 : tie.Need-enum-told-9
 enum-told-9 c = search needs
 
 returns : tie.Need-returns
-unfolding laws.behaviorCause
+unfolding causes.behaviorCause
 returns c = rw (c .enum-told .given .1)
 
 returns-2 : tie.Need-returns-2
-unfolding laws.behaviorCause
+unfolding causes.behaviorCause
 returns-2 c = rw (c .enum-told2 .given .1)
 
 returns-3 : tie.Need-returns-3
-unfolding laws.behaviorCause
+unfolding causes.behaviorCause
 returns-3 c = rw (c .enum-told3 .given .1)
 
 returns-4 : tie.Need-returns-4
-unfolding laws.behaviorCause
+unfolding causes.behaviorCause
 returns-4 c = rw (c .enum-told4 .given .1)
 
 returns-5 : tie.Need-returns-5
-unfolding laws.behaviorCause
+unfolding causes.behaviorCause
 returns-5 c = rw (c .enum-told5 .given .1)
 
 returns-6 : tie.Need-returns-6
-unfolding laws.behaviorCause
+unfolding causes.behaviorCause
 returns-6 c = rw (c .enum-told6 .given .1)
 
 returns-7 : tie.Need-returns-7
-unfolding laws.behaviorCause
+unfolding causes.behaviorCause
 returns-7 c = rw (c .enum-told7 .given .1)
 
 returns-8 : tie.Need-returns-8
-unfolding laws.behaviorCause
+unfolding causes.behaviorCause
 returns-8 c = c .transition-cause .ensures ∙ rw (c .before .before .before .before .in-order .ensures, c .before .before .before .before .before .kind-of .ensures, c .before .before .r .given .1)
 
 returns-9 : tie.Need-returns-9
-unfolding laws.behaviorCause
+unfolding causes.behaviorCause
 returns-9 c = c .atom-cause .ensures ∙ rw (c .before .before .before .before .in-order .ensures, c .before .before .before .before .before .kind-of .ensures, c .before .before .r2 .given .1)
 
 returns-10 : tie.Need-returns-10
-unfolding laws.behaviorCause
+unfolding causes.behaviorCause
 returns-10 c = c .assignment-cause .ensures ∙ rw (c .before .before .before .before .in-order .ensures, c .before .before .before .before .before .kind-of .ensures, c .before .before .r3 .given .1)
 
 returns-11 : tie.Need-returns-11
-unfolding laws.behaviorCause
+unfolding causes.behaviorCause
 returns-11 c = rw (c .enum-told8 .given .1)
 
 returns-12 : tie.Need-returns-12
-unfolding laws.behaviorCause
+unfolding causes.behaviorCause
 returns-12 c = rw (c .enum-told9 .given .1)
 
 pub behavior-cause-spec : {M : Type 1} → statement M

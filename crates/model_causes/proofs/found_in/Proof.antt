@@ -1,5 +1,5 @@
 use mathlib.Core.Path.{_∙_}
-use Rattle.model_causes.specs.Laws as laws
+use Rattle.model_causes.specs.Causes as causes
 use borrow.Author.Needs.{needs}
 use Rattle.model_causes.proofs.found_in.Statement.{statement}
 use Rattle.model_causes.proofs.found_in.Tie as tie
@@ -80,51 +80,51 @@ nothing-requires-10 : tie.Need-nothing-requires-10
 nothing-requires-10 c κs = search needs
 
 returns : tie.Need-returns
-unfolding laws.foundIn
+unfolding causes.foundIn
 returns c = c .nothing .ensures ∙ rw (c .before .enum-told .given .1)
 
 returns-2 : tie.Need-returns-2
-unfolding laws.foundIn
+unfolding causes.foundIn
 returns-2 c = c .nothing2 .ensures ∙ rw (c .before .enum-told2 .given .1)
 
 returns-3 : tie.Need-returns-3
-unfolding laws.foundIn
+unfolding causes.foundIn
 returns-3 c = c .nothing3 .ensures ∙ rw (c .before .enum-told3 .given .1)
 
 returns-4 : tie.Need-returns-4
-unfolding laws.foundIn
+unfolding causes.foundIn
 returns-4 c = c .nothing4 .ensures ∙ rw (c .before .enum-told4 .given .1)
 
 returns-5 : tie.Need-returns-5
-unfolding laws.foundIn
+unfolding causes.foundIn
 returns-5 c = c .nothing5 .ensures ∙ rw (c .before .enum-told5 .given .1)
 
 returns-6 : tie.Need-returns-6
-unfolding laws.foundIn
+unfolding causes.foundIn
 returns-6 c = rw (c .is-connected .ensures, c .before .before .r .given .1)
 
 returns-7 : tie.Need-returns-7
-unfolding laws.foundIn
+unfolding causes.foundIn
 returns-7 c = rw (c .hyperperiod2 .ensures, c .before .hyperperiod .ensures, c .before .before .before .r2 .given .1)
 
 returns-8 : tie.Need-returns-8
-unfolding laws.foundIn
+unfolding causes.foundIn
 returns-8 c = c .nothing6 .ensures ∙ rw (c .before .enum-told6 .given .1)
 
 returns-9 : tie.Need-returns-9
-unfolding laws.foundIn
+unfolding causes.foundIn
 returns-9 c = c .nothing7 .ensures ∙ rw (c .before .enum-told7 .given .1)
 
 returns-10 : tie.Need-returns-10
-unfolding laws.foundIn
+unfolding causes.foundIn
 returns-10 c = c .nothing8 .ensures ∙ rw (c .before .enum-told8 .given .1)
 
 returns-11 : tie.Need-returns-11
-unfolding laws.foundIn
+unfolding causes.foundIn
 returns-11 c = c .nothing9 .ensures ∙ rw (c .before .enum-told9 .given .1)
 
 returns-12 : tie.Need-returns-12
-unfolding laws.foundIn
+unfolding causes.foundIn
 returns-12 c = c .nothing10 .ensures ∙ rw (c .before .enum-told10 .given .1)
 
 pub found-in-spec : {M : Type 1} → statement M

@@ -1,4 +1,4 @@
-use Rattle.model_causes.specs.Laws as laws
+use Rattle.model_causes.specs.Causes as causes
 use borrow.Author.Needs.{needs}
 use Rattle.model_causes.proofs.is_assigned.Statement.{statement}
 use Rattle.model_causes.proofs.is_assigned.Tie as tie
@@ -16,7 +16,7 @@ same-target-requires-4 : tie.Need-same-target-requires-4
 same-target-requires-4 c κs = search needs
 
 returns : tie.Need-returns
-unfolding laws.assignedIn
+unfolding causes.assignedIn
 returns c = rw (c .same-target4 .ensures, c .before .same-target3 .ensures, c .before .before .same-target2 .ensures, c .before .before .before .same-target .ensures)
 
 pub is-assigned-spec : {M : Type 1} → statement M

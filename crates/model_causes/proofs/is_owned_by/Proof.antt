@@ -1,5 +1,5 @@
 use borrow.Author.Tests.{ne-eqb}
-use Rattle.model_causes.specs.Laws as laws
+use Rattle.model_causes.specs.Causes as causes
 use borrow.Author.Needs.{needs}
 use Rattle.model_causes.proofs.is_owned_by.Statement.{statement}
 use Rattle.model_causes.proofs.is_owned_by.Tie as tie
@@ -14,19 +14,19 @@ owner-at-requires-3 : tie.Need-owner-at-requires-3
 owner-at-requires-3 c κs = search needs
 
 returns : tie.Need-returns
-unfolding laws.ownedBy
+unfolding causes.ownedBy
 returns c = rw (c .before .match .keys1, c .owner-at .ensures)
 
 returns-2 : tie.Need-returns-2
-unfolding laws.ownedBy
+unfolding causes.ownedBy
 returns-2 c = rw (c .before .match .keys2, c .owner-at2 .ensures)
 
 returns-3 : tie.Need-returns-3
-unfolding laws.ownedBy
+unfolding causes.ownedBy
 returns-3 c = rw (c .before .match .keys3, c .owner-at3 .ensures)
 
 returns-4 : tie.Need-returns-4
-unfolding laws.ownedBy
+unfolding causes.ownedBy
 returns-4 c =
     let r = c .match .rest in
     simp (ne-eqb _ _ (r .0 .0 .1), ne-eqb _ _ (r .0 .1), ne-eqb _ _ (r .1))

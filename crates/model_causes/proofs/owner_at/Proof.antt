@@ -1,5 +1,5 @@
 use borrow.Author.Tests.{lt-ltb, le-ltb}
-use Rattle.model_causes.specs.Laws as laws
+use Rattle.model_causes.specs.Causes as causes
 use borrow.Author.Needs.{needs}
 use Rattle.model_causes.proofs.owner_at.Statement.{statement}
 use Rattle.model_causes.proofs.owner_at.Tie as tie
@@ -11,11 +11,11 @@ element-copy-out-result : tie.Need-element-copy-out-result
 element-copy-out-result c = search needs
 
 returns : tie.Need-returns
-unfolding laws.ownerAt
+unfolding causes.ownerAt
 returns c = rw (lt-ltb _ _ (c .before .if1 .taken))
 
 returns-2 : tie.Need-returns-2
-unfolding laws.ownerAt
+unfolding causes.ownerAt
 returns-2 c = rw (le-ltb _ _ (c .if1 .left))
 
 pub owner-at-spec : {M : Type 1} → statement M

@@ -2,7 +2,8 @@ use mathlib.Core.Path.{_≡_, refl}
 use Prim.Native.Nat.{_≤_, _-_}
 use native.Mathlib.Omega.{arith}
 use lib.ListN.{length, length-set}
-use Rattle.model_causes.specs.Laws.{OwnersBelow, owners-none, owners-next, owners-all}
+use Rattle.model_causes.specs.Causes.{OwnersBelow}
+use Rattle.model_causes.specs.Laws.{owners-none, owners-next, owners-all}
 use borrow.Author.Needs.{needs}
 use Rattle.model_causes.proofs.owners_of.Statement.{statement}
 use Rattle.model_causes.proofs.owners_of.Tie as tie

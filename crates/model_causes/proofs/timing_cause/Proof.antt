@@ -1,5 +1,5 @@
 use mathlib.Core.Path.{_∙_}
-use Rattle.model_causes.specs.Laws as laws
+use Rattle.model_causes.specs.Causes as causes
 use borrow.Author.Needs.{needs}
 use Rattle.model_causes.proofs.timing_cause.Statement.{statement}
 use Rattle.model_causes.proofs.timing_cause.Tie as tie
@@ -68,51 +68,51 @@ enum-told-5 : tie.Need-enum-told-5
 enum-told-5 c = search needs
 
 returns : tie.Need-returns
-unfolding laws.timingCause
+unfolding causes.timingCause
 returns c = c .head-cause .ensures ∙ rw (c .before .before .before .before .in-order .ensures, c .before .before .before .before .before .kind-of .ensures, c .before .before .r .given .1)
 
 returns-2 : tie.Need-returns-2
-unfolding laws.timingCause
+unfolding causes.timingCause
 returns-2 c = c .thread-cause .ensures ∙ rw (c .before .before .before .before .in-order .ensures, c .before .before .before .before .before .kind-of .ensures, c .before .before .r2 .given .1)
 
 returns-3 : tie.Need-returns-3
-unfolding laws.timingCause
+unfolding causes.timingCause
 returns-3 c = c .port-cause .ensures ∙ rw (c .before .before .before .before .in-order .ensures, c .before .before .before .before .before .kind-of .ensures, c .before .before .r3 .given .1)
 
 returns-4 : tie.Need-returns-4
-unfolding laws.timingCause
+unfolding causes.timingCause
 returns-4 c = c .port-cause2 .ensures ∙ rw (c .before .before .before .before .in-order .ensures, c .before .before .before .before .before .kind-of .ensures, c .before .before .r4 .given .1)
 
 returns-5 : tie.Need-returns-5
-unfolding laws.timingCause
+unfolding causes.timingCause
 returns-5 c = c .port-cause3 .ensures ∙ rw (c .before .before .before .before .in-order .ensures, c .before .before .before .before .before .kind-of .ensures, c .before .before .r5 .given .1)
 
 returns-6 : tie.Need-returns-6
-unfolding laws.timingCause
+unfolding causes.timingCause
 returns-6 c = c .connection-cause .ensures ∙ rw (c .before .before .before .before .in-order .ensures, c .before .before .before .before .before .kind-of .ensures, c .before .before .r6 .given .1)
 
 returns-7 : tie.Need-returns-7
-unfolding laws.timingCause
+unfolding causes.timingCause
 returns-7 c = c .switch-cause .ensures ∙ rw (c .before .before .before .before .in-order .ensures, c .before .before .before .before .before .kind-of .ensures, c .before .before .r7 .given .1)
 
 returns-8 : tie.Need-returns-8
-unfolding laws.timingCause
+unfolding causes.timingCause
 returns-8 c = rw (c .enum-told .given .1)
 
 returns-9 : tie.Need-returns-9
-unfolding laws.timingCause
+unfolding causes.timingCause
 returns-9 c = rw (c .enum-told2 .given .1)
 
 returns-10 : tie.Need-returns-10
-unfolding laws.timingCause
+unfolding causes.timingCause
 returns-10 c = rw (c .enum-told3 .given .1)
 
 returns-11 : tie.Need-returns-11
-unfolding laws.timingCause
+unfolding causes.timingCause
 returns-11 c = rw (c .enum-told4 .given .1)
 
 returns-12 : tie.Need-returns-12
-unfolding laws.timingCause
+unfolding causes.timingCause
 returns-12 c = rw (c .enum-told5 .given .1)
 
 pub timing-cause-spec : {M : Type 1} → statement M

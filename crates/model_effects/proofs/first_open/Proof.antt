@@ -27,8 +27,8 @@ array-copy-out-x c = search needs
 blank-transition-requires : tie.Need-blank-transition-requires Inv-loop μ-loop
 blank-transition-requires c κs = search needs
 
-leaves-requires : tie.Need-leaves-requires Inv-loop μ-loop
-leaves-requires c κs = search needs
+starts-from-requires : tie.Need-starts-from-requires Inv-loop μ-loop
+starts-from-requires c κs = search needs
 
 usize-of-u8-requires : tie.Need-usize-of-u8-requires Inv-loop μ-loop
 usize-of-u8-requires c κs = search needs
@@ -37,7 +37,7 @@ guard-holds-requires : tie.Need-guard-holds-requires Inv-loop μ-loop
 guard-holds-requires c κs = search needs
 
 returns : tie.Need-returns Inv-loop μ-loop
-returns c = first-is _ (c .before .before .before .before .before .before .before .before .args .t2) (c .before .before .before .before .before .before .before .before .args .atom) (c .before .before .before .before .before .before .before .before .args .p) _ _ _ (c .before .before .before .before .before .before .before .loop .inv .1) (c .before .before .before .before .before .before .loop-test .taken) (open-is (c .before .before .before .before .before .before .before .before .args .t2) (c .before .before .before .before .before .before .before .before .args .atom) (c .before .before .before .before .before .before .before .before .args .p) _ _ _ _ _ (⊎-elim (λ w. transition-within (c .before .before .before .before .before .before .before .before .args .t2) _ _ (w .0 .taken) (w .2)) (λ w. transition-past (c .before .before .before .before .before .before .before .before .args .t2) _ _ (w .0 .left) (w .2 ∙ w .1 .ensures)) (c .before .before .before .before .before .if1 .came)) (c .before .before .before .before .leaves .ensures) _ _ _ (c .before .before .before .if2 .taken) (c .before .before .usize-of-u8 .ensures .0) (c .before .guard-holds .ensures) (c .if3 .taken))
+returns c = first-is _ (c .before .before .before .before .before .before .before .before .args .t2) (c .before .before .before .before .before .before .before .before .args .atom) (c .before .before .before .before .before .before .before .before .args .p) _ _ _ (c .before .before .before .before .before .before .before .loop .inv .1) (c .before .before .before .before .before .before .loop-test .taken) (open-is (c .before .before .before .before .before .before .before .before .args .t2) (c .before .before .before .before .before .before .before .before .args .atom) (c .before .before .before .before .before .before .before .before .args .p) _ _ _ _ _ (⊎-elim (λ w. transition-within (c .before .before .before .before .before .before .before .before .args .t2) _ _ (w .0 .taken) (w .2)) (λ w. transition-past (c .before .before .before .before .before .before .before .before .args .t2) _ _ (w .0 .left) (w .2 ∙ w .1 .ensures)) (c .before .before .before .before .before .if1 .came)) (c .before .before .before .before .starts-from .ensures) _ _ _ (c .before .before .before .if2 .taken) (c .before .before .usize-of-u8 .ensures .0) (c .before .guard-holds .ensures) (c .if3 .taken))
 
 add-k : tie.Need-add-k Inv-loop μ-loop
 add-k c = search needs
@@ -50,8 +50,8 @@ loop-again c = (
   omega arith,
   below-more _ _ (c .before .before .before .before .loop .inv .1)
       (⊎-elim
-      (λ v. open-is (c .before .before .before .before .before .args .t2) (c .before .before .before .before .before .args .atom) (c .before .before .before .before .before .args .p) _ _ _ _ _ (⊎-elim (λ w. transition-within (c .before .before .before .before .before .args .t2) _ _ (w .0 .taken) (w .2)) (λ w. transition-past (c .before .before .before .before .before .args .t2) _ _ (w .0 .left) (w .2 ∙ w .1 .ensures)) (c .before .before .if1 .came)) (c .before .leaves .ensures) _ _ _ (v .0 .taken) (v .1 .ensures .0) (v .2 .ensures) (v .3 .left))
-      (λ v. open-not (c .before .before .before .before .before .args .t2) (c .before .before .before .before .before .args .atom) (c .before .before .before .before .before .args .p) _ _ _ _ _ (⊎-elim (λ w. transition-within (c .before .before .before .before .before .args .t2) _ _ (w .0 .taken) (w .2)) (λ w. transition-past (c .before .before .before .before .before .args .t2) _ _ (w .0 .left) (w .2 ∙ w .1 .ensures)) (c .before .before .if1 .came)) (c .before .leaves .ensures) (v .left))
+      (λ v. open-is (c .before .before .before .before .before .args .t2) (c .before .before .before .before .before .args .atom) (c .before .before .before .before .before .args .p) _ _ _ _ _ (⊎-elim (λ w. transition-within (c .before .before .before .before .before .args .t2) _ _ (w .0 .taken) (w .2)) (λ w. transition-past (c .before .before .before .before .before .args .t2) _ _ (w .0 .left) (w .2 ∙ w .1 .ensures)) (c .before .before .if1 .came)) (c .before .starts-from .ensures) _ _ _ (v .0 .taken) (v .1 .ensures .0) (v .2 .ensures) (v .3 .left))
+      (λ v. open-not (c .before .before .before .before .before .args .t2) (c .before .before .before .before .before .args .atom) (c .before .before .before .before .before .args .p) _ _ _ _ _ (⊎-elim (λ w. transition-within (c .before .before .before .before .before .args .t2) _ _ (w .0 .taken) (w .2)) (λ w. transition-past (c .before .before .before .before .before .args .t2) _ _ (w .0 .left) (w .2 ∙ w .1 .ensures)) (c .before .before .if1 .came)) (c .before .starts-from .ensures) (v .left))
       (c .if2 .came)),
 )
 
@@ -68,7 +68,7 @@ first-open-spec =
     mul-x
     array-copy-out-x
     blank-transition-requires
-    leaves-requires
+    starts-from-requires
     usize-of-u8-requires
     guard-holds-requires
     returns

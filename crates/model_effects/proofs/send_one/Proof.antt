@@ -1,5 +1,5 @@
 use Rattle.model_effects.specs.Laws.{sendOne}
-use Rattle.model.specs.State.{outputOf}
+use Rattle.model.specs.State.{outputValue}
 use borrow.Author.Needs.{needs}
 use Rattle.model_effects.proofs.send_one.Statement.{statement}
 use Rattle.model_effects.proofs.send_one.Tie as tie
@@ -17,7 +17,7 @@ put-buffer-requires : tie.Need-put-buffer-requires
 put-buffer-requires c κs = search needs
 
 returns : tie.Need-returns
-unfolding sendOne outputOf
+unfolding sendOne outputValue
 returns c = rw (c .before .before .before .before .before .if1 .taken, ← c .before .before .before .usize-of-u162 .ensures .0, ← c .before .before .before .before .usize-of-u16 .ensures .0, ← c .before .value-at .ensures) (c .put-buffer .ensures)
 
 returns-2 : tie.Need-returns-2

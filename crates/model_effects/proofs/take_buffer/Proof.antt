@@ -1,5 +1,5 @@
 use Rattle.model_effects.specs.Laws.{takeBuffer}
-use Rattle.model.specs.State.{bufferOf}
+use Rattle.model.specs.State.{bufferValue}
 use borrow.Author.Needs.{needs}
 use Rattle.model_effects.proofs.take_buffer.Statement.{statement}
 use Rattle.model_effects.proofs.take_buffer.Tie as tie
@@ -11,7 +11,7 @@ put-input-requires : tie.Need-put-input-requires
 put-input-requires c κs = search needs
 
 returns : tie.Need-returns
-unfolding takeBuffer bufferOf
+unfolding takeBuffer bufferValue
 returns c = rw (c .before .before .before .if1 .taken, ← c .before .value-at .ensures) (c .put-input .ensures)
 
 returns-2 : tie.Need-returns-2

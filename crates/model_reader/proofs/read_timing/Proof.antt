@@ -17,7 +17,7 @@ use Rattle.model_format.specs.Model.{emptyModel}
 use Rattle.model_format.specs.Reading.{causeOf, nextReading, readModel}
 use Rattle.model_causes.specs.declared.Stand.{Stand}
 use Rattle.model_causes.specs.declared.Found.{Found}
-use Rattle.model_causes.specs.Laws.{timingOf, foundIn, timingCause}
+use Rattle.model_causes.specs.Causes.{timingOf, foundIn, timingCause}
 use Rattle.model_reader.specs.Laws.{standing, readOn, read-begin, begun-late, begun-end, stopped-at, read-on, read-refused, end-within, roomOf, nothing-found, timing-room, short-periods, timing-cause-is, place-within, head-added, thread-added, input-added, output-added, local-added, connection-added, switch-added}
 use borrow.Author.Needs.{needs}
 use Rattle.model_reader.proofs.read_timing.Statement.{statement}

@@ -4,14 +4,14 @@ use borrow.Author.Needs.{needs}
 use Rattle.model.proofs.tests.can_meet_deadline.Statement.{statement}
 use Rattle.model.proofs.tests.can_meet_deadline.Tie as tie
 
-view-of-requires : tie.Need-view-of-requires
-view-of-requires c κs = search needs
+thread-view-of-requires : tie.Need-thread-view-of-requires
+thread-view-of-requires c κs = search needs
 
 meets-requires : tie.Need-meets-requires
 meets-requires c κs = search needs
 
 returns : tie.Need-returns
-returns c = c .meets .ensures ∙ meet-by _ _ _ _ (c .before .view-of .ensures)
+returns c = c .meets .ensures ∙ meet-by _ _ _ _ (c .before .thread-view-of .ensures)
 
 pub can-meet-deadline-spec : {M : Type 1} → statement M
-can-meet-deadline-spec = tie.close (tie.spec view-of-requires meets-requires returns)
+can-meet-deadline-spec = tie.close (tie.spec thread-view-of-requires meets-requires returns)

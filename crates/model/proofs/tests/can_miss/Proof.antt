@@ -4,14 +4,14 @@ use borrow.Author.Needs.{needs}
 use Rattle.model.proofs.tests.can_miss.Statement.{statement}
 use Rattle.model.proofs.tests.can_miss.Tie as tie
 
-view-of-requires : tie.Need-view-of-requires
-view-of-requires c κs = search needs
+thread-view-of-requires : tie.Need-thread-view-of-requires
+thread-view-of-requires c κs = search needs
 
 misses-requires : tie.Need-misses-requires
 misses-requires c κs = search needs
 
 returns : tie.Need-returns
-returns c = c .misses .ensures ∙ miss-by _ _ _ _ (c .before .view-of .ensures)
+returns c = c .misses .ensures ∙ miss-by _ _ _ _ (c .before .thread-view-of .ensures)
 
 pub can-miss-spec : {M : Type 1} → statement M
-can-miss-spec = tie.close (tie.spec view-of-requires misses-requires returns)
+can-miss-spec = tie.close (tie.spec thread-view-of-requires misses-requires returns)

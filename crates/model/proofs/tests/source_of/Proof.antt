@@ -12,12 +12,12 @@ owner-at-requires c κs = search needs
 usize-of-u8-requires : tie.Need-usize-of-u8-requires
 usize-of-u8-requires c κs = search needs
 
-view-of-requires : tie.Need-view-of-requires
-view-of-requires c κs = search needs
+thread-view-of-requires : tie.Need-thread-view-of-requires
+thread-view-of-requires c κs = search needs
 
 returns : tie.Need-returns
-returns c = source-by _ _ _ _ _ _ _ (c .before .before .before .usize-of-u16 .ensures .0) (c .before .before .owner-at .ensures) (c .before .usize-of-u8 .ensures .0) (c .view-of .ensures)
+returns c = source-by _ _ _ _ _ _ _ (c .before .before .before .usize-of-u16 .ensures .0) (c .before .before .owner-at .ensures) (c .before .usize-of-u8 .ensures .0) (c .thread-view-of .ensures)
 
 pub source-of-spec : {M : Type 1} → statement M
 source-of-spec =
-    tie.close (tie.spec usize-of-u16-requires owner-at-requires usize-of-u8-requires view-of-requires returns)
+    tie.close (tie.spec usize-of-u16-requires owner-at-requires usize-of-u8-requires thread-view-of-requires returns)

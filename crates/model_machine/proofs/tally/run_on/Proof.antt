@@ -7,7 +7,8 @@ use Rattle.records.specs.Format.{parts}
 use Rattle.records.specs.Run.{tallyFrom}
 use Rattle.records.specs.Walk.{next-place}
 use Rattle.model.specs.Machine.{machineOf}
-use Rattle.model_machine.specs.Laws.{tallyModel, tally-begins, tally-ends, tally-takes, tally-refuses}
+use Rattle.model_machine.specs.Runs.{tallyModel}
+use Rattle.model_machine.specs.Laws.{tally-begins, tally-ends, tally-takes, tally-refuses}
 use borrow.Author.Needs.{needs}
 use Rattle.model_machine.proofs.tally.run_on.Statement.{statement}
 use Rattle.model_machine.proofs.tally.run_on.Tie as tie
