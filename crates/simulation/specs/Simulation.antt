@@ -19,16 +19,16 @@ use Rattle.model_format.specs.Accepted.{accepted-well-formed}
 use Rattle.model.specs.declared.State.{State}
 use Rattle.model.specs.Tests as tests
 use Rattle.model.specs.Effects.{tick}
-use Rattle.model.specs.Machine.{startState, runModel, machineOf as modelMachine}
+use Rattle.model.specs.Machine.{startState, runModel, modelStages, machineOf as modelMachine}
 use Rattle.model.specs.Machine as model-machine
 use Rattle.table.specs.declared.Variables.{Variables}
-use Rattle.table.specs.Machine.{startVariables, runTable, machineOf as tableMachine}
+use Rattle.table.specs.Machine.{startVariables, runTable, tableStages, machineOf as tableMachine}
 use Rattle.table.specs.Machine as table-machine
-use Rattle.table_format.specs.Table.{Table, tableOf}
+use Rattle.table_format.specs.Table.{tableOf}
 use Rattle.translate.specs.Rules.{rulesOf}
 use Rattle.translate.specs.Translate.{tableFrom, tableBytes, translated, outputAfter}
 use Rattle.translate.specs.WellFormed.{translation-back}
-use Rattle.simulation.specs.Compared.{Dispatched, noneYet, Lockstep, Demand3, writtenTable, Simulates}
+use Rattle.simulation.specs.Compared.{Dispatched, noneYet, Alike, Lockstep, Demand3, writtenTable, Simulates}
 use Rattle.simulation.specs.Match.{Match}
 use Rattle.simulation.specs.Runs.{Agree, SameEnd, lockstep, same-run}
 use Rattle.simulation.specs.Ticks.{ticks-agree}
@@ -70,16 +70,19 @@ module _ (m : Model) (w : WellFormed m) where
   pub agree : (d : Dispatched) (s : State) (v : Variables) (e : Event) → Match (m .timing) d s (v .value) → Agree (m .timing) (modelMachine m) (tableMachine (rulesOf m)) d s v e
   agree d s v e h = let x = step-after d s v h e in record { answer = x .answer; states = x .states }
 
-  -- the runs of a model and of a table t that is read as the one made from it
-  of-table : (script table : List ℕ) (t : Table) → tableOf table ≡ t → t ≡ tableFrom m → Lockstep (m .timing) (modelMachine m) (tableMachine (tableOf table .rules)) noneYet (startState (m .timing)) (startVariables (tableOf table)) (parts Script script)
-  unfolding tableFrom
-  of-table script table t e f =
-      rw (e, f) (lockstep (m .timing) (modelMachine m) (tableMachine (rulesOf m)) (λ d s v. match-alike (m .timing) (w .timing) d s (v .value)) agree (parts Script script) noneYet (startState (m .timing)) (startVariables (tableFrom m)) (start-match m w))
+  alike : (d : Dispatched) (s : State) (v : Variables) → Match (m .timing) d s (v .value) → Alike (m .timing) d s v
+  alike d s v = match-alike (m .timing) (w .timing) d s (v .value)
+
+  -- the runs of a model and of a table that is read as the one made from it
+  same-stages : (script table : List ℕ) → tableOf table ≡ tableFrom m → Lockstep (m .timing) noneYet (modelStages m script) (tableStages table script)
+  unfolding modelStages tableStages tableFrom
+  same-stages script table e =
+      rw e (lockstep (m .timing) (modelMachine m) (tableMachine (rulesOf m)) alike agree (parts Script script) noneYet (startState (m .timing)) (startVariables (tableFrom m)) 0 (start-match m w))
 
   same-end : (script table : List ℕ) → tableOf table ≡ tableFrom m → SameEnd (runModel m script) (runTable table script)
   unfolding runModel runTable tableFrom
   same-end script table e =
-      rw e (same-run (m .timing) (modelMachine m) (tableMachine (rulesOf m)) (λ d s v. match-alike (m .timing) (w .timing) d s (v .value)) agree (parts Script script) noneYet (startState (m .timing)) (startVariables (tableFrom m)) 0 0 (start-match m w))
+      rw e (same-run (m .timing) (modelMachine m) (tableMachine (rulesOf m)) alike agree (parts Script script) noneYet (startState (m .timing)) (startVariables (tableFrom m)) 0 0 (start-match m w))
 
   pub demand-3 : (script : List ℕ) → Demand3 m script (tableBytes m)
   demand-3 script =
@@ -87,7 +90,8 @@ module _ (m : Model) (w : WellFormed m) where
       let r = same-end script (tableBytes m) (t .1) in
       record {
         accepted = t .0;
-        lockstep = of-table script (tableBytes m) (tableFrom m) (t .1) refl;
+        start = rw (t .1) (alike noneYet (startState (m .timing)) (startVariables (tableFrom m)) (start-match m w));
+        lockstep = same-stages script (tableBytes m) (t .1);
         taken = r .taken;
         refusal = r .refusal;
         clock = r .clock;
