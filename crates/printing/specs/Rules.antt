@@ -6,7 +6,8 @@ use Prim.Native.Nat.{ℕ}
 use lib.ListN.{length, take}
 use Rattle.records.specs.Refusals.{isNone}
 use Rattle.translate.specs.declared.Translation.{Translation}
-use Rattle.translator.specs.Tables.{Translates, was-made, table-is}
+use Rattle.translator.specs.Translates.{Translates}
+use Rattle.translator.specs.Tables.{was-made, table-is}
 use Rattle.listing.specs.Listing.{refusedListing}
 use Rattle.programs.specs.Programs.{room, tableListing, rulesListing}
 use Rattle.writer.specs.Written.{Wrote}

@@ -3,7 +3,7 @@ use mathlib.Core.Path.{_≡_}
 use mathlib.Core.Bool.{Bool, true, false, _&&_, _||_}
 use mathlib.Core.List.{List, [], _∷_}
 use Prim.Native.Nat.{ℕ, _+_, _-_, _<_}
-use lib.ListN.{length, take}
+use lib.ListN.{take}
 use lib.Dec.{eqb}
 use Rattle.numbers.specs.Values.{natural}
 use Rattle.records.specs.declared.Event.{Event}
@@ -25,7 +25,6 @@ use Rattle.table_format.specs.Variables.{variables, dueVar, endVar}
 use Rattle.table_format.specs.Reading.{readTable}
 use Rattle.table_format.specs.Table.{tableOf}
 use Rattle.translate.specs.Shown.{inBlock, standsFor}
-use Rattle.translate.specs.Translate.{translated, outputAfter}
 
 -- "once dispatched": the threads of which a DISPATCH was taken so far
 abbrev pub Dispatched : Type 0
@@ -74,11 +73,6 @@ pub record Demand3 (m : Model) (script table : List ℕ) : Type 0 where
   pub refusal : runModel m script .refusal ≡ runTable table script .refusal
   pub clock : nowOf (runModel m script .state) ≡ clockOf (runTable table script .state)
 
--- the bytes that translating wrote
-abbrev pub writtenTable : List ℕ → List ℕ → List ℕ
-writtenTable model out = take (translated model (length out) .bytes) (outputAfter model out)
-
--- For every model's bytes, script and output: "For every accepted model whose table fits .. over the bytes made."
-abbrev pub Simulates : List ℕ → List ℕ → List ℕ → Type 0
-Simulates model script out =
-    isNone (translated model (length out) .refusal .cause) ≡ true → Demand3 (readModel model .model) script (writtenTable model out)
+-- "the table's run reads just the bytes made": the first so many bytes of an output are a table of the model, as demand 3 has it.
+abbrev pub Simulates : List ℕ → List ℕ → ℕ → List ℕ → Type 0
+Simulates model script bytes after = Demand3 (readModel model .model) script (take bytes after)

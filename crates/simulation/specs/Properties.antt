@@ -6,14 +6,19 @@ use mathlib.Core.List.{List, [], _∷_}
 use mathlib.Core.Logic.{_↔_}
 use Prim.Native.Nat.{ℕ, _+_, _-_, _<_, _≤_}
 use native.Mathlib.Omega.{arith}
+use lib.ListN.{take}
 use lib.Dec.{eqb, ltb, leb}
 use borrow.Author.Tests.{ne-eqb, eqb-true, ltb-true, leb-true}
 use Rattle.numbers.specs.declared.Value.{Value}
 use Rattle.numbers.specs.Values.{natural, sameValue}
+use Rattle.records.specs.Refusals.{isNone}
 use Rattle.records.specs.Run.{Stage}
 use Rattle.model_format.specs.declared.Timing.{Timing}
 use Rattle.model_format.specs.declared.Model.{Model}
 use Rattle.model_format.specs.Model.{maxThreads}
+use Rattle.model_format.specs.Reading.{readModel}
+use Rattle.model_format.specs.WellFormed.{Bytes}
+use Rattle.model_format.specs.Accepted.{accepted-well-formed}
 use Rattle.model.specs.declared.State.{State}
 use Rattle.model.specs.State.{codeOf, lengthOf, spentOf, nowOf}
 use Rattle.model.specs.Tests.{execution, dueOf}
@@ -24,7 +29,7 @@ use Rattle.table.specs.Machine.{startVariables, tableStages}
 use Rattle.table_format.specs.Table.{tableOf}
 use Rattle.table_format.specs.Variables.{variables, activeVar, stateVar, dueVar, endVar}
 use Rattle.translate.specs.Shown.{inBlock, standsFor}
-use Rattle.simulation.specs.Compared.{Dispatched, noneYet, andAfter, isDueOrEnd, Alike, Lockstep, Demand3}
+use Rattle.simulation.specs.Compared.{Dispatched, noneYet, andAfter, isDueOrEnd, Alike, Lockstep, Demand3, Simulates}
 use Rattle.simulation.specs.Stands.{in-block, out-block}
 
 -- The compared variables, as a machine shows them: Due once dispatched, End in code 3, every other one as it stands; 0 where a variable
@@ -142,3 +147,10 @@ property-carries-over m script table h few P =
     let e = same-view (m .timing) few noneYet (startState (m .timing)) (startVariables (tableOf table)) (h .start) in
     let q = after-each (m .timing) few P noneYet (modelStages m script) (tableStages table script) (h .lockstep) in
     ((λ p. (subst P e (p .0), q .0 (p .1))), (λ p. (subst P (sym e) (p .0), q .1 (p .1))))
+
+-- so for whoever has translated: the table that lies in the first n bytes of the output
+pub made-property-carries-over : (model script : List ℕ) (n : ℕ) (after : List ℕ) → Bytes model → isNone (readModel model .refusal .cause) ≡ true → Simulates model script n after → (P : (ℕ → Value) → Type 0) →
+    let m = readModel model .model in
+    Along (modelView (m .timing)) P (startState (m .timing)) (modelStages m script) ↔ Along (tableView (m .timing)) P (startVariables (tableOf (take n after))) (tableStages (take n after) script)
+made-property-carries-over model script n after b e h P =
+    property-carries-over (readModel model .model) script (take n after) h (accepted-well-formed model b e .timing .threads) P
