@@ -44,30 +44,38 @@ pub bytes-known : (s : List ℕ) → ((i : ℕ) → Fits w8 (getD s i 0)) → By
 bytes-known s f i = f i .fits
 
 -- ---- r is what reading the model gave, b whether it was accepted
-module _ (model out : List ℕ) (r : ModelRead) (b : Bool) (e : r ≡ readModel model) (g : b ≡ isNone (r .refusal .cause)) (bytes : Bytes model) where
-  translates : (result : Translation) (after : List ℕ) → result ≡ translated model (length out) → after ≡ outputAfter model out → Translates model out result after
-  translates result after t o = record { told = t; output = o; simulated = λ s w. simulates model out result after t o w bytes s }
-
+module _ (model out : List ℕ) (r : ModelRead) (b : Bool) (e : r ≡ readModel model) (g : b ≡ isNone (r .refusal .cause)) where
+  -- nothing is made, and nothing to be simulated
   pub model-refused : b ≡ false → Translates model out (record { refusal = r .refusal; bytes = 0 }) out
   unfolding translated outputAfter
-  model-refused f = translates (record { refusal = r .refusal; bytes = 0 }) out (rw (← e, ← g, f)) (rw (← e, ← g, f, sym g ∙ f))
-
-  pub model-good : b ≡ true → WellFormed (r .model)
-  model-good f = rw e (accepted-well-formed model bytes (rw (← e) (sym g ∙ f)))
+  model-refused f = record {
+    told = rw (← e, ← g, f);
+    output = rw (← e, ← g, f, sym g ∙ f);
+    simulated = λ s w. absurd (true≢false (sym w ∙ (sym g ∙ f)));
+  }
 
   pub output-short : b ≡ true → (n : ℕ) → n ≡ length (tableBytes (r .model)) → length out < n →
       Translates model out (record { refusal = inModel ShortOutput (length model) (length model); bytes = 0 }) out
   unfolding translated outputAfter numberOf
-  output-short f n k l =
-      translates (record { refusal = inModel ShortOutput (length model) (length model); bytes = 0 }) out (rw (← e, ← g, f, ← k, lt-ltb _ n l)) (rw (← e, ← g, f, ← k, lt-ltb _ n l))
+  output-short f n k l = record {
+    told = rw (← e, ← g, f, ← k, lt-ltb _ n l);
+    output = rw (← e, ← g, f, ← k, lt-ltb _ n l);
+    simulated = λ s w. absurd (true≢false (sym w));
+  }
+
+-- and where the model was accepted
+module _ (model out : List ℕ) (r : ModelRead) (b : Bool) (e : r ≡ readModel model) (g : b ≡ isNone (r .refusal .cause)) (bytes : Bytes model) where
+  pub model-good : b ≡ true → WellFormed (r .model)
+  model-good f = rw e (accepted-well-formed model bytes (rw (← e) (sym g ∙ f)))
 
   pub table-made : b ≡ true → (n : ℕ) → n ≡ length (tableBytes (r .model)) → n ≤ length out → (after : List ℕ) (q : ℕ) →
       Wrote out 0 (tableBytes (r .model)) after q → Translates model out (record { refusal = noRefusal; bytes = n }) after
   unfolding translated outputAfter numberOf
   table-made f n k l after q w =
       let z : 0 + n ≡ n = omega arith in
-      translates (record { refusal = noRefusal; bytes = n }) after (rw (← e, ← g, f, ← k, le-ltb _ n l))
-      (w .bytes ∙ sets-eq (tableBytes (r .model)) out 0 (omega arith) ∙ rw (← e, ← g, f, ← k, le-ltb _ n l, z))
+      let told : record { refusal = noRefusal; bytes = n } ≡ translated model (length out) = rw (← e, ← g, f, ← k, le-ltb _ n l) in
+      let output : after ≡ outputAfter model out = w .bytes ∙ sets-eq (tableBytes (r .model)) out 0 (omega arith) ∙ rw (← e, ← g, f, ← k, le-ltb _ n l, z) in
+      record { told = told; output = output; simulated = λ s made. simulates model out (record { refusal = noRefusal; bytes = n }) after told output made bytes s }
 
   -- an output with room for any table
   pub table-made-at-once : b ≡ true → 394304 ≤ length out → (after : List ℕ) (n : ℕ) → Wrote out 0 (tableBytes (r .model)) after n →
