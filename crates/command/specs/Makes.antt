@@ -9,7 +9,7 @@ use Rattle.io.specs.Counts.{Counts}
 use Rattle.records.specs.Refusals.{isNone}
 use Rattle.translate.specs.declared.Translation.{Translation}
 use Rattle.translate.specs.Translate.{translated, outputAfter}
-use Rattle.translator.specs.Tables.{Translates}
+use Rattle.translator.specs.Translates.{Translates}
 use Rattle.listing.specs.Listing.{refusedListing}
 use Rattle.writer.specs.Written.{Wrote, wrote-nothing}
 use Rattle.command.specs.declared.Made.{Made}

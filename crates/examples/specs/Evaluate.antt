@@ -1,9 +1,15 @@
 -- The definitions opened, so that examples compute. Each function below is the definition it names; unfolding it unfolds all that the
 -- definition rests on.
-use mathlib.Core.List.{List}
+use mathlib.Core.Bool.{cond, _&&_}
+use mathlib.Core.List.{List, [], _∷_}
 use Prim.Native.Nat.{ℕ}
+use lib.Dec.{eqb}
 use Rattle.numbers.specs.declared.Value.{Value}
-use Rattle.table_format.specs.Variables.{nowVar, localVar}
+use Rattle.records.specs.declared.Cause.{Cause}
+use Rattle.table_format.specs.declared.Atom.{Atom}
+use Rattle.table.specs.declared.Variables.{Variables}
+use Rattle.table_format.specs.Table.{Rule}
+use Rattle.table_format.specs.Variables.{variables, nowVar, localVar}
 use Rattle.numbers.specs.Lists as lists
 use Rattle.numbers.specs.Multiples as multiples
 use Rattle.numbers.specs.Values as values
@@ -64,20 +70,45 @@ unfoldable pub tableLocal : List ℕ → List ℕ → ℕ → Value
 unfolding openModel openTable openListing
 tableLocal model script v = table-rules.valueOf (table-machine.runTable (translate-translate.tableBytes (model-reading.readModel model .model)) script .state .value) (localVar v)
 
--- ---- H1 of the first mode transition of a model
+-- ---- the refusal of a model, and that of the table made from it by the table's own reader
+unfoldable pub modelCause : List ℕ → Cause
+unfolding openModel openTable openListing
+modelCause model = model-reading.readModel model .refusal .cause
+
+unfoldable pub tableCause : List ℕ → Cause
+unfolding openModel openTable openListing
+tableCause model = table-reading.readTable (translate-translate.tableBytes (model-reading.readModel model .model)) .cause
+
+-- ---- H1 of the first mode transition of a model; and the clauses of its ENTER rule, as its table's bytes are read
 unfoldable pub firstH1 : List ℕ → ℕ
 unfolding openModel openTable openListing
 firstH1 model = model-model.switchAt (model-reading.readModel model .model .timing) 0 .h1 .0
 
--- ---- the listing of a run from the start, but at a given clock, of a model and of its table
+abbrev clausesOf : ℕ → ℕ → List Rule → List (List Atom)
+clausesOf kind id [] = []
+clausesOf kind id (x ∷ l) = let r = clausesOf kind id l in cond (eqb (x .head .kind) kind && eqb (x .head .id) id) (x .clauses) r
+
+unfoldable pub firstEnter : List ℕ → List (List Atom)
+unfolding openModel openTable openListing
+firstEnter model = clausesOf 9 0 (table-table.tableOf (translate-translate.tableBytes (model-reading.readModel model .model)) .rules)
+
+-- ---- the listing of a run from the start, but at a given clock, of a model and of its table; a refusal prints its line alone
 unfoldable pub modelAt : List ℕ → ℕ → List ℕ → List ℕ
 unfolding openModel openTable openListing
 modelAt model clock script =
-    let m = model-reading.readModel model .model in
-    listing.listing (model-machine.machineOf m) model-state.nowOf (model-state.withNow (model-machine.startState (m .timing)) clock) script
+    let r = model-reading.readModel model in
+    let begin = model-state.withNow (model-machine.startState (r .model .timing)) clock in
+    let lines = listing.listing (model-machine.machineOf (r .model)) model-state.nowOf begin script in
+    cond (refusals.isNone (r .refusal .cause)) lines (listing.refusedListing (r .refusal .cause))
 
+-- of the bytes that are made, as the table's own reader takes them
 unfoldable pub tableAt : List ℕ → ℕ → List ℕ → List ℕ
 unfolding openModel openTable openListing
 tableAt model clock script =
-    let t = translate-translate.tableFrom (model-reading.readModel model .model) in
-    listing.listing (table-machine.machineOf (t .rules)) table-machine.clockOf (record { value = lists.store 288 (table-machine.startVariables t .value) nowVar (values.natural clock) }) script
+    let made = translate-translate.translated model programs.room .refusal .cause in
+    let table = translate-translate.tableBytes (model-reading.readModel model .model) in
+    let c = table-reading.readTable table .cause in
+    let t = table-table.tableOf table in
+    let begin : Variables = record { value = lists.store variables (table-machine.startVariables t .value) nowVar (values.natural clock) } in
+    let lines = listing.listing (table-machine.machineOf (t .rules)) table-machine.clockOf begin script in
+    cond (refusals.isNone made) (cond (refusals.isNone c) lines (listing.refusedListing c)) (listing.refusedListing made)

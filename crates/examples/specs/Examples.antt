@@ -7,7 +7,10 @@ use Prim.Native.String as strings
 use Prim.Native.String.{String}
 use lib.IntN.{negsuc}
 use Rattle.numbers.specs.Values.{u16To, u32To, value, natural, minus}
-use Rattle.examples.specs.Evaluate.{steps, rules, modelLocal, tableLocal, firstH1, modelAt, tableAt}
+use Rattle.records.specs.declared.Cause.the-variants.{None}
+use Rattle.table_format.specs.declared.Atom.{Atom}
+use Rattle.table_format.specs.Variables.{nowVar, phaseVar, pendingVar}
+use Rattle.examples.specs.Evaluate.{steps, rules, modelCause, tableCause, modelLocal, tableLocal, firstH1, firstEnter, modelAt, tableAt}
 
 -- ---- notation
 abbrev ascii : String → List ℕ
@@ -108,6 +111,14 @@ exchange = M ++ (5 ∷ 0 ∷ u32To 1 []) ++ (5 ∷ 0 ∷ u32To 2 []) ++ (8 ∷ 0
 abbrev oneJob : List ℕ
 oneJob = activate ++ dispatch ++ start 1 ++ tick 1 ++ complete
 
+-- neither the model nor its table is refused
+abbrev Accepted : List ℕ → Type 0
+Accepted model = (modelCause model ≡ None) × (tableCause model ≡ None)
+
+locals-accepted : Accepted exchange
+unfolding modelCause tableCause
+locals-accepted = (refl, refl)
+
 locals-before : (modelLocal exchange [] 0 ≡ natural 1) × (modelLocal exchange [] 1 ≡ natural 2) × (tableLocal exchange [] 0 ≡ natural 1) × (tableLocal exchange [] 1 ≡ natural 2)
 unfolding modelLocal tableLocal
 locals-before = (refl, refl, refl, refl)
@@ -121,17 +132,44 @@ zero-minus-least : minus (natural 0) (value (negsuc 2147483647)) ≡ value (negs
 unfolding minus
 zero-minus-least = refl
 
+-- in a run: local 0, 1 at first, is assigned 0 less the least constant
+abbrev negate : List ℕ
+negate = M ++ (5 ∷ 0 ∷ u32To 1 []) ++ (8 ∷ 0 ∷ 0 ∷ 0 ∷ []) ++ (10 ∷ 2 ∷ 0 ∷ 2 ∷ 0 ∷ u32To 0 (0 ∷ u32To 2147483648 []))
+
+negate-accepted : Accepted negate
+unfolding modelCause tableCause
+negate-accepted = (refl, refl)
+
+negated-before : (modelLocal negate [] 0 ≡ natural 1) × (tableLocal negate [] 0 ≡ natural 1)
+unfolding modelLocal tableLocal
+negated-before = (refl, refl)
+
+negated : (modelLocal negate oneJob 0 ≡ value (negsuc 2147483647)) × (tableLocal negate oneJob 0 ≡ value (negsuc 2147483647))
+unfolding modelLocal tableLocal
+negated = (refl, refl)
+
 -- ---- *Critical 4 and 6: H1 12; none: 1.
 abbrev stay : List ℕ
 stay = 7 ∷ 0 ∷ 0 ∷ []
 
-critical-4-and-6 : firstH1 (head ++ thread 4 4 1 1 1 ++ thread 6 6 1 1 1 ++ stay) ≡ 12
-unfolding firstH1
-critical-4-and-6 = refl
+abbrev fourAndSix : ℕ → List ℕ
+fourAndSix critical = head ++ thread 4 4 1 1 critical ++ thread 6 6 1 1 critical ++ stay
 
-critical-none : firstH1 (head ++ thread 4 4 1 1 0 ++ thread 6 6 1 1 0 ++ stay) ≡ 1
-unfolding firstH1
-critical-none = refl
+-- an atom of a variable and a constant
+abbrev atom : ℕ → ℕ → ℕ → Atom
+atom op j n = record { op = op; variable = j; right = record { tag = 0; value = natural n } }
+
+-- the clauses of ENTER: Phase 1, Pending this, Now a multiple
+abbrev enterWith : ℕ → List (List Atom)
+enterWith h = (atom 0 phaseVar 1 ∷ []) ∷ (atom 0 pendingVar 0 ∷ []) ∷ (atom 6 nowVar h ∷ []) ∷ []
+
+critical-4-and-6 : Accepted (fourAndSix 1) × (firstH1 (fourAndSix 1) ≡ 12) × (firstEnter (fourAndSix 1) ≡ enterWith 12)
+unfolding modelCause tableCause firstH1 firstEnter
+critical-4-and-6 = ((refl, refl), refl, refl)
+
+critical-none : Accepted (fourAndSix 0) × (firstH1 (fourAndSix 0) ≡ 1) × (firstEnter (fourAndSix 0) ≡ enterWith 1)
+unfolding modelCause tableCause firstH1 firstEnter
+critical-none = ((refl, refl), refl, refl)
 
 -- ---- *Head alone at 999,999,999: TICK 1 taken, TICK 2: 11.
 head-alone-tick-1 : (modelAt head 999999999 (tick 1) ≡ ascii "1 1000000000 11 1\nend 1 0 1000000000\n") × (tableAt head 999999999 (tick 1) ≡ ascii "1 1000000000 11 1\nend 1 0 1000000000\n")

@@ -12,6 +12,7 @@ use model::State;
 use model_format::Timing;
 use numbers::Value;
 ghost use mathlib.Core.Path.{_≡_};
+ghost use Rattle.numbers.specs.Values.{bitsOf};
 ghost use Rattle.translate.specs.Shown.{inBlock, standsFor};
 ghost use Rattle.initial_values.specs.Blocks as blocks;
 
@@ -101,9 +102,9 @@ fn of_thread(m: Timing, s: State, j: u16) -> Value
     of_count(m, s, j)
 }
 
-// By its bits: a clock figure may lie past the largest value.
+// By its bits, which determine it: a clock figure may lie past the largest value.
 pub fn shown(m: Timing, s: State, j: u16) -> Value
-    ensures { λ r. ⌜ blocks.SameBits r (standsFor m s j) ⌝ }
+    ensures { λ r. ⌜ bitsOf (r .0) ≡ bitsOf (standsFor m s j .0) ⌝ }
 {
     if j < 6 {
         let c = s.clock;

@@ -1,54 +1,19 @@
--- A hyperperiod of positive periods is positive.
-use mathlib.Core.Path.{_≡_}
-use mathlib.Core.Bool.{Bool, true, false, cond, _&&_}
-use Prim.Native.Nat.{ℕ, zero, suc, _/_, _%_, _<_, _≤_}
-use native.Mathlib.Nat.{mod-lt, mod-le, mod-eq-of-lt, le-div-iff-mul-le, mul-le-mul}
+-- Hyperperiods are what their name says: the least common multiple of the periods of the threads that are critical in both modes.
+use mathlib.Core.Path.{_≡_, refl, sym, _∙_}
+use mathlib.Core.Bool.{Bool, true, false, cond, _&&_, true≢false}
+use Prim.Native.Nat.{ℕ, zero, suc, _<_, _≤_, _∣_}
+use native.Mathlib.Nat.{one-dvd, dvd-trans}
 use native.Mathlib.Omega.{arith}
-use native.Mathlib.Decide.{ℕ-discrete, decLt}
-use borrow.Author.Tests.{eq-eqb, ne-eqb}
-use lib.Dec.{eqb, ltb}
+use native.Mathlib.Decide.{decLt}
+use lib.Dec.{ltb}
+use borrow.Author.Tests.{ltb-true, ltb-false}
 use Rattle.numbers.specs.Lists.{foldBelow}
-use Rattle.numbers.specs.Multiples.{gcdIn, gcd, lcm, lcmUpTo}
+use Rattle.numbers.specs.Multiples.{isMultiple, lcm, lcmUpTo, lcm-positive, lcm-divided, lcm-divides, multiple-divides, divides-multiple}
 use Rattle.records.specs.Events.{lastClock}
 use Rattle.model_format.specs.declared.Timing.{Timing}
 use Rattle.model_format.specs.Model.{threadAt, criticalIn, hyperperiod}
 
--- ---- the greatest common divisor lies between 1 and each number that is not 0
-pub gcd-positive : (f a b : ℕ) → 1 ≤ a → 1 ≤ gcdIn f a b
-unfolding gcdIn
-gcd-positive zero a b h = h
-gcd-positive (suc f) a b h = go (gcd-positive f b (a % b)) (ℕ-discrete b 0)
-  where
-    go : (1 ≤ b → 1 ≤ gcdIn f b (a % b)) → Dec (b ≡ 0) → 1 ≤ cond (eqb b 0) a (gcdIn f b (a % b))
-    go ih (yes e) = rw (eq-eqb b 0 e) h
-    go ih (no n) = rw (ne-eqb b 0 n) (ih (omega arith))
-
-pub gcd-small : (f a b : ℕ) → b ≤ f → (1 ≤ b → gcdIn f a b ≤ b) × (1 ≤ a → gcdIn f a b ≤ a)
-unfolding gcdIn
-gcd-small zero a b h = (λ k. absurd (omega arith), λ k. omega arith)
-gcd-small (suc f) a b h = go (gcd-small f b (a % b)) (ℕ-discrete b 0)
-  where
-    go : (a % b ≤ f → (1 ≤ a % b → gcdIn f b (a % b) ≤ a % b) × (1 ≤ b → gcdIn f b (a % b) ≤ b)) → Dec (b ≡ 0) →
-        (1 ≤ b → cond (eqb b 0) a (gcdIn f b (a % b)) ≤ b) × (1 ≤ a → cond (eqb b 0) a (gcdIn f b (a % b)) ≤ a)
-    go ih (yes e) = rw (eq-eqb b 0 e) (λ k. absurd (omega arith), λ k. omega arith)
-    go ih (no n) =
-        let l : a % b < b = mod-lt a (omega arith) in
-        let small = ih (omega arith) in
-        rw (ne-eqb b 0 n) (small .1, λ k. below small k (ℕ-discrete (a % b) 0) (decLt a b))
-      where
-        below : (1 ≤ a % b → gcdIn f b (a % b) ≤ a % b) × (1 ≤ b → gcdIn f b (a % b) ≤ b) → 1 ≤ a → Dec (a % b ≡ 0) → Dec (a < b) → gcdIn f b (a % b) ≤ a
-        below s k (no m) d = let u = mod-le a b in let v = s .0 (omega arith) in omega arith
-        below s k (yes m) (yes d) = let u = mod-eq-of-lt d in absurd (omega arith)
-        below s k (yes m) (no d) = let v = s .1 (omega arith) in omega arith
-
-pub lcm-positive : (a b : ℕ) → 1 ≤ a → 1 ≤ b → 1 ≤ lcm a b
-unfolding lcm
-lcm-positive a b h k =
-    let p = gcd-positive b a b h in
-    let s = gcd-small b a b (omega arith) .1 h in
-    let q : 1 ≤ a / gcd a b = le-div-iff-mul-le {k = gcd a b} {x = 1} {y = a} p .1 (omega arith) in
-    omega (arith, mul-le-mul q k)
-
+-- ---- a hyperperiod of positive periods is positive
 cond-positive : (b : Bool) (m n : ℕ) → 1 ≤ m → 1 ≤ n → 1 ≤ cond b m n
 cond-positive true m n h k = h
 cond-positive false m n h k = k
@@ -68,3 +33,78 @@ hyperperiod-positive m old new w =
     fold-positive (m .threads) (λ t h. cond (criticalIn (threadAt m t) old && criticalIn (threadAt m t) new) (lcmUpTo lastClock h (threadAt m t .period .0)) h) 1 (omega arith)
     (λ t h b k. cond-positive (criticalIn (threadAt m t) old && criticalIn (threadAt m t) new) (lcmUpTo lastClock h (threadAt m t .period .0)) h
     (up-to-positive lastClock h (threadAt m t .period .0) k (w t b)) k)
+
+-- ---- the fold over any periods of which some are chosen, one after the other
+module _ (limit : ℕ) (chosen : ℕ → Bool) (period : ℕ → ℕ) where
+  abbrev withNext : ℕ → ℕ → ℕ
+  withNext t h = cond (chosen t) (lcmUpTo limit h (period t)) h
+
+  -- h is the least common multiple of the chosen ones among the first n
+  record Least (n h : ℕ) : Type 0 where
+    positive : 1 ≤ h
+    common : (t : ℕ) → t < n → chosen t ≡ true → period t ∣ h
+    least : (k : ℕ) → ((t : ℕ) → t < n → chosen t ≡ true → period t ∣ k) → h ∣ k
+
+  left-out : (n h : ℕ) → chosen n ≡ false → Least n h → Least (suc n) h
+  left-out n h e l = record { positive = l .positive; common = λ t b x. go t b x (decLt t n); least = λ k w. l .least k (λ t b x. w t (omega arith) x) }
+    where
+      go : (t : ℕ) → t < suc n → chosen t ≡ true → Dec (t < n) → period t ∣ h
+      go t b x (yes d) = l .common t d x
+      go t b x (no d) = let z : t ≡ n = omega arith in absurd (true≢false (sym x ∙ rw z e))
+
+  taken-in : (n h : ℕ) → chosen n ≡ true → 1 ≤ period n → Least n h → Least (suc n) (lcm h (period n))
+  taken-in n h e p l =
+      let d = lcm-divided h (period n) in
+      record {
+        positive = lcm-positive h (period n) (l .positive) p;
+        common = λ t b x. go t b x (decLt t n) d;
+        least = λ k w. lcm-divides h (period n) k (l .positive) (l .least k (λ t b x. w t (omega arith) x)) (w n (omega arith) e);
+      }
+    where
+      go : (t : ℕ) → t < suc n → chosen t ≡ true → Dec (t < n) → (h ∣ lcm h (period n)) × (period n ∣ lcm h (period n)) → period t ∣ lcm h (period n)
+      go t b x (yes f) d = dvd-trans (period t) (l .common t f x) (d .0)
+      go t b x (no f) d = let z : t ≡ n = omega arith in rw z (d .1)
+
+  one-more : (n h : ℕ) (b c : Bool) → chosen n ≡ b → ltb limit h ≡ c → 1 ≤ period n → (h ≤ limit → Least n h) → withNext n h ≤ limit → Least (suc n) (withNext n h)
+  unfolding lcmUpTo
+  one-more n h true true e f p l w = let x : h ≤ limit = rw (e, f) at w in let y = ltb-true limit h f in absurd (omega arith)
+  one-more n h true false e f p l w = rw (e, f) (taken-in n h e p (l (ltb-false limit h f)))
+  one-more n h false c e f p l w = rw e (left-out n h e (l (rw e at w)))
+
+  all-of : (n : ℕ) → ((t : ℕ) → t < n → 1 ≤ period t) → foldBelow n withNext 1 ≤ limit → Least n (foldBelow n withNext 1)
+  unfolding foldBelow
+  all-of zero p w = record { positive = omega arith; common = λ t b x. absurd (omega arith); least = λ k x. one-dvd k }
+  all-of (suc n) p w =
+      let h = foldBelow n withNext 1 in
+      one-more n h (chosen n) (ltb limit h) refl refl (p n (omega arith)) (all-of n (λ t b. p t (omega arith))) w
+
+  none-of : (n : ℕ) → ((t : ℕ) → t < n → chosen t ≡ false) → foldBelow n withNext 1 ≡ 1
+  unfolding foldBelow
+  none-of zero w = refl
+  none-of (suc n) w = rw (w n (omega arith)) (none-of n (λ t b. w t (omega arith)))
+
+-- ---- "H1 is the least common multiple of the old mode's critical periods, H2 of those critical in old and new mode; 1 if none", of every
+-- hyperperiod that is not refused as too long
+module _ (m : Timing) (old new : ℕ) where
+  -- the thread's period counts
+  abbrev pub criticalInBoth : ℕ → Bool
+  criticalInBoth t = criticalIn (threadAt m t) old && criticalIn (threadAt m t) new
+
+  abbrev pub periodOf : ℕ → ℕ
+  periodOf t = threadAt m t .period .0
+
+  module _ (positive : (t : ℕ) → t < m .threads → 1 ≤ periodOf t) (within : hyperperiod m old new ≤ lastClock) where
+    least-of : Least lastClock criticalInBoth periodOf (m .threads) (hyperperiod m old new)
+    unfolding hyperperiod
+    least-of = all-of lastClock criticalInBoth periodOf (m .threads) positive within
+
+    pub hyperperiod-common : (t : ℕ) → t < m .threads → criticalInBoth t ≡ true → isMultiple (hyperperiod m old new) (periodOf t) ≡ true
+    hyperperiod-common t b x = divides-multiple (hyperperiod m old new) (periodOf t) (positive t b) (least-of .common t b x)
+
+    pub hyperperiod-least : (n : ℕ) → ((t : ℕ) → t < m .threads → criticalInBoth t ≡ true → isMultiple n (periodOf t) ≡ true) → isMultiple n (hyperperiod m old new) ≡ true
+    hyperperiod-least n w =
+        divides-multiple n (hyperperiod m old new) (least-of .positive) (least-of .least n (λ t b x. multiple-divides n (periodOf t) (w t b x)))
+
+  pub hyperperiod-none : ((t : ℕ) → t < m .threads → criticalInBoth t ≡ false) → hyperperiod m old new ≡ 1
+  unfolding hyperperiod
+  hyperperiod-none w = none-of lastClock criticalInBoth periodOf (m .threads) w

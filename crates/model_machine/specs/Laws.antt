@@ -16,7 +16,7 @@ use Rattle.records.specs.Events.{eventOf, isBroken, lastClock}
 use Rattle.records.specs.declared.Notation.the-variants.{Script}
 use Rattle.records.specs.Format.{partLengthAt, parts}
 use Rattle.records.specs.Refusals.{isNone, inScript, noRefusal}
-use Rattle.records.specs.Run.{runFrom, tallyFrom}
+use Rattle.records.specs.Run.{runFrom, stagesFrom, tallyFrom}
 use Rattle.records.specs.Walk.{slice-part, run-end, run-on, run-refused, tally-end, tally-taken, tally-refused}
 use Rattle.model_format.specs.declared.Timing.{Timing}
 use Rattle.model_format.specs.declared.Model.{Model}
@@ -280,19 +280,19 @@ module _ (m : Model) (script : List ℕ) (s : State) (k p : ℕ) (inv : runFrom 
         run-on (machineOf m) script p s n v h e (rw slice-part at f) k (o .answer) (o .state) (ap (λ (r : Stepped). r .answer) g) (ap (λ (r : Stepped). r .state) g) i ∙ inv
 
 -- ---- the run that goes on after refusals
-pub tally-begins : (m : Model) (script : List ℕ) (s : State) → s ≡ startState (m .timing) → tallyFrom (machineOf m) s 0 0 (parts Script (drop 0 script)) ≡ tallyModel m script
+pub tally-begins : (m : Model) (script : List ℕ) (s : State) → s ≡ startState (m .timing) → tallyFrom s 0 0 (stagesFrom (machineOf m) s 0 (parts Script (drop 0 script))) ≡ tallyModel m script
 tally-begins m script s e = rw e
 
 -- k events are taken and r refused, and the next part begins at p
-module _ (m : Model) (script : List ℕ) (s : State) (k r p : ℕ) (inv : tallyFrom (machineOf m) s k r (parts Script (drop p script)) ≡ tallyModel m script) where
+module _ (m : Model) (script : List ℕ) (s : State) (k r p : ℕ) (inv : tallyFrom s k r (stagesFrom (machineOf m) s p (parts Script (drop p script))) ≡ tallyModel m script) where
   pub tally-ends : length script ≤ p → record { taken = k; refused = r; state = s } ≡ tallyModel m script
   tally-ends h = tally-end (machineOf m) script p s k r h ∙ inv
 
   module _ (n : ℕ) (v : Event) (o : Stepped) (h : p < length script) (e : n ≡ partLengthAt Script script p) (f : v ≡ eventOf (front (p + n - p) (drop p script))) (g : o ≡ step m s v) where
-    pub tally-takes : isNone (o .answer) ≡ true → tallyFrom (machineOf m) (o .state) (k + 1) r (parts Script (drop (p + n) script)) ≡ tallyModel m script
+    pub tally-takes : isNone (o .answer) ≡ true → tallyFrom (o .state) (k + 1) r (stagesFrom (machineOf m) (o .state) (p + n) (parts Script (drop (p + n) script))) ≡ tallyModel m script
     tally-takes i =
         tally-taken (machineOf m) script p s n v h e (rw slice-part at f) k r (o .answer) (o .state) (ap (λ (x : Stepped). x .answer) g) (ap (λ (x : Stepped). x .state) g) i ∙ inv
 
-    pub tally-refuses : isNone (o .answer) ≡ false → tallyFrom (machineOf m) (o .state) k (r + 1) (parts Script (drop (p + n) script)) ≡ tallyModel m script
+    pub tally-refuses : isNone (o .answer) ≡ false → tallyFrom (o .state) k (r + 1) (stagesFrom (machineOf m) (o .state) (p + n) (parts Script (drop (p + n) script))) ≡ tallyModel m script
     tally-refuses i =
         tally-refused (machineOf m) script p s n v h e (rw slice-part at f) k r (o .answer) (o .state) (ap (λ (x : Stepped). x .answer) g) (ap (λ (x : Stepped). x .state) g) i ∙ inv

@@ -14,8 +14,9 @@ ghost use Rattle.model.specs.State.{nowOf};
 ghost use Rattle.model.specs.Machine.{startState, machineOf};
 ghost use Rattle.table_format.specs.Table.{tableOf};
 ghost use Rattle.table.specs.Machine as table-machine;
-ghost use Rattle.programs.specs.Programs.{room, stepsListing, tableListing, rulesListing};
+ghost use Rattle.programs.specs.Programs.{room, stepsListing, tableListing};
 ghost use Rattle.writer.specs.Written.{Wrote};
+ghost use Rattle.printing.specs.ListsRules.{ListsRules};
 
 fn put_text(d: &mut [u8], at: usize, t: &[u8]) -> usize
     ensures { λ r. ⌜ Wrote (now (d .entry)) at (now (t .entry)) (now (d .exit)) r ⌝ }
@@ -149,7 +150,7 @@ fn table_room() -> [u8; 65536]
 
 // What `rules` prints: the run of the table made from the model that the bytes hold, or the last line alone where none is made.
 pub fn rules_listing(model: &[u8], script: &[u8], d: &mut [u8]) -> usize
-    ensures { λ r. ⌜ Wrote (now (d .entry)) 0 (rulesListing (now (model .entry)) (now (script .entry))) (now (d .exit)) r ⌝ }
+    ensures { λ r. ⌜ ListsRules (now (model .entry)) (now (script .entry)) (now (d .entry)) (now (d .exit)) r ⌝ }
 {
     let mut table = table_room();
     let r = translator::translate(model, &mut table);

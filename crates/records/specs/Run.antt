@@ -52,20 +52,18 @@ stagesFrom m s p (x ∷ l) =
 abbrev pub stages : {S : Type 0} → Machine S → S → List ℕ → List (Stage S)
 stages m s script = stagesFrom m s 0 (parts Script script)
 
--- The same loop for a caller who wants its end: how many events were taken, how many refused, and the state that it leaves.
+-- The end of that loop: how many events were taken, how many refused, and the state that it leaves.
 pub record Tally (S : Type 0) : Type 0 where
   pub taken : ℕ
   pub refused : ℕ
   pub state : S
 
-unfoldable pub tallyFrom : {S : Type 0} → Machine S → S → ℕ → ℕ → List (List ℕ) → Tally S
-tallyFrom m s k r [] = record { taken = k; refused = r; state = s }
-tallyFrom m s k r (x ∷ l) =
-    let e = eventOf x in
-    let c = m .answer s e in
-    let more = tallyFrom m (m .after s e) (k + 1) r l in
-    let fewer = tallyFrom m (m .after s e) k (r + 1) l in
-    cond (isNone c) more fewer
+unfoldable pub tallyFrom : {S : Type 0} → S → ℕ → ℕ → List (Stage S) → Tally S
+tallyFrom s k r [] = record { taken = k; refused = r; state = s }
+tallyFrom s k r (x ∷ l) =
+    let taken = tallyFrom (x .state) (k + 1) r l in
+    let refused = tallyFrom (x .state) k (r + 1) l in
+    cond (isNone (x .answer)) taken refused
 
 abbrev pub tally : {S : Type 0} → Machine S → S → List ℕ → Tally S
-tally m s script = tallyFrom m s 0 0 (parts Script script)
+tally m s script = tallyFrom s 0 0 (stages m s script)

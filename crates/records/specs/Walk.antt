@@ -109,21 +109,11 @@ module _ {S : Type 0} (mac : Machine S) (s : List ℕ) (p : ℕ) (a : S) where
   unfolding stagesFrom
   stages-end h = rw (parts-end Script s p h)
 
-  pub tally-end : (k r : ℕ) → length s ≤ p → record { taken = k; refused = r; state = a } ≡ tallyFrom mac a k r (parts Script (drop p s))
+  pub tally-end : (k r : ℕ) → length s ≤ p → record { taken = k; refused = r; state = a } ≡ tallyFrom a k r (stagesFrom mac a p (parts Script (drop p s)))
   unfolding tallyFrom
-  tally-end k r h = rw (parts-end Script s p h)
+  tally-end k r h = rw (← stages-end h)
 
   module _ (m : ℕ) (v : Event) (h : p < length s) (e : m ≡ partLengthAt Script s p) (f : v ≡ eventOf (take m (drop p s))) where
-    pub tally-taken : (k r : ℕ) (c : Cause) (b : S) → c ≡ mac .answer a v → b ≡ mac .after a v → isNone c ≡ true →
-        tallyFrom mac b (k + 1) r (parts Script (drop (p + m) s)) ≡ tallyFrom mac a k r (parts Script (drop p s))
-    unfolding tallyFrom
-    tally-taken k r c b g w n = rw (parts-at Script s p m h e, ← f, ← g, n, w)
-
-    pub tally-refused : (k r : ℕ) (c : Cause) (b : S) → c ≡ mac .answer a v → b ≡ mac .after a v → isNone c ≡ false →
-        tallyFrom mac b k (r + 1) (parts Script (drop (p + m) s)) ≡ tallyFrom mac a k r (parts Script (drop p s))
-    unfolding tallyFrom
-    tally-refused k r c b g w n = rw (parts-at Script s p m h e, ← f, ← g, n, w)
-
     pub run-on : (k : ℕ) (c : Cause) (b : S) → c ≡ mac .answer a v → b ≡ mac .after a v → isNone c ≡ true →
         runFrom mac b (k + 1) (p + m) (parts Script (drop (p + m) s)) ≡ runFrom mac a k p (parts Script (drop p s))
     unfolding runFrom
@@ -139,3 +129,13 @@ module _ {S : Type 0} (mac : Machine S) (s : List ℕ) (p : ℕ) (a : S) where
         ≡ stagesFrom mac a p (parts Script (drop p s))
     unfolding stagesFrom
     stages-on c b g n = rw (parts-at Script s p m h e, ← f, ← g, ← n, part-size Script s p m h e)
+
+    pub tally-taken : (k r : ℕ) (c : Cause) (b : S) → c ≡ mac .answer a v → b ≡ mac .after a v → isNone c ≡ true →
+        tallyFrom b (k + 1) r (stagesFrom mac b (p + m) (parts Script (drop (p + m) s))) ≡ tallyFrom a k r (stagesFrom mac a p (parts Script (drop p s)))
+    unfolding tallyFrom
+    tally-taken k r c b g w n = rw (← stages-on c b g w, n)
+
+    pub tally-refused : (k r : ℕ) (c : Cause) (b : S) → c ≡ mac .answer a v → b ≡ mac .after a v → isNone c ≡ false →
+        tallyFrom b k (r + 1) (stagesFrom mac b (p + m) (parts Script (drop (p + m) s))) ≡ tallyFrom a k r (stagesFrom mac a p (parts Script (drop p s)))
+    unfolding tallyFrom
+    tally-refused k r c b g w n = rw (← stages-on c b g w, n)

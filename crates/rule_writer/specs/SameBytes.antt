@@ -21,9 +21,18 @@ pub record SameBytes (o p : Operand) : Type 0 where
 pub same-as : {o p : Operand} → o ≡ p → SameBytes o p
 same-as e = rw e (record { tag = refl; bits = refl })
 
+-- The constant that has the bits of n: n itself, or, where n lies past the largest value, n less 2^32.
+abbrev pub constantBits : ℕ → Operand
+constantBits n = record { tag = 0; value = value (signed n) }
+
+-- its bytes are those of n
+pub constant-bytes : (n : ℕ) → Fits w32 n → SameBytes (constantBits n) (record { tag = 0; value = natural n })
+constant-bytes n f = record { tag = refl; bits = ofZ-toZ w32 n f }
+
+pub constant-same : (n : ℕ) (o : Operand) → Fits w32 n → o ≡ constantBits n → SameBytes o (record { tag = 0; value = natural n })
+constant-same n o f e = rw e (constant-bytes n f)
+
 -- ---- v is the value that the code has made of 32 bits
-pub constant-same : (n : ℕ) (v : Value) → Fits w32 n → v ≡ value (signed n) → SameBytes (record { tag = 0; value = v }) (record { tag = 0; value = natural n })
-constant-same n v f e = rw e (record { tag = refl; bits = ofZ-toZ w32 n f })
 
 pub variable-is : (j : ℕ) (v : Value) → j < 65536 → v ≡ value (signed j) → _≡_ {A = Operand} (record { tag = 1; value = v }) (record { tag = 1; value = natural j })
 variable-is j v h e = let q = toZ-pos w32 j (omega arith) in rw (e, q)

@@ -28,7 +28,7 @@ ghost use Rattle.table_format.specs.Variables.{noVariable};
 ghost use Rattle.table_format.specs.Format.{recordTo};
 ghost use Rattle.writer.specs.Written.{Wrote};
 ghost use Rattle.rule_writer.specs.Lists.{WroteAtoms, WroteClauses, WroteUpdates};
-ghost use Rattle.rule_writer.specs.SameBytes.{SameBytes};
+ghost use Rattle.rule_writer.specs.SameBytes.{constantBits};
 use numbers::Value;
 use records::Operand;
 use table_format::Atom;
@@ -38,7 +38,7 @@ use table_format::Update;
 
 // A constant by its bits, which are all that is written of it.
 pub fn constant(n: u32) -> Operand
-    ensures { λ r. ⌜ SameBytes r (record { tag = 0; value = natural n }) ⌝ }
+    ensures { λ r. ⌜ r ≡ constantBits n ⌝ }
 {
     let v = numbers::value_of(n);
     Operand { tag: 0, value: v }

@@ -3,31 +3,28 @@ use mathlib.Core.Path.{_≡_}
 use mathlib.Core.Bool.{Bool, true, false, _&&_, _||_}
 use mathlib.Core.List.{List, [], _∷_}
 use Prim.Native.Nat.{ℕ, _+_, _-_, _<_}
-use lib.ListN.{length, take}
+use lib.ListN.{take}
 use lib.Dec.{eqb}
 use Rattle.numbers.specs.Values.{natural}
 use Rattle.records.specs.declared.Event.{Event}
 use Rattle.records.specs.declared.Cause.{Cause}
-use Rattle.records.specs.declared.Notation.the-variants.{Script}
-use Rattle.records.specs.Format.{parts}
 use Rattle.records.specs.Refusals.{isNone, noRefusal}
-use Rattle.records.specs.Events.{eventOf, dispatchKind}
-use Rattle.records.specs.Run.{Machine}
+use Rattle.records.specs.Events.{dispatchKind}
+use Rattle.records.specs.Run.{Stage}
 use Rattle.model_format.specs.declared.Timing.{Timing}
 use Rattle.model_format.specs.declared.Model.{Model}
 use Rattle.model_format.specs.Reading.{readModel}
 use Rattle.model.specs.declared.State.{State}
 use Rattle.model.specs.State.{codeOf, lengthOf, spentOf, nowOf}
 use Rattle.model.specs.Tests.{execution, dueOf}
-use Rattle.model.specs.Machine.{startState, runModel, machineOf as modelMachine}
+use Rattle.model.specs.Machine.{startState, runModel, modelStages}
 use Rattle.table.specs.declared.Variables.{Variables}
 use Rattle.table.specs.Rules.{valueOf}
-use Rattle.table.specs.Machine.{startVariables, clockOf, runTable, machineOf as tableMachine}
+use Rattle.table.specs.Machine.{startVariables, clockOf, runTable, tableStages}
 use Rattle.table_format.specs.Variables.{variables, dueVar, endVar}
 use Rattle.table_format.specs.Reading.{readTable}
 use Rattle.table_format.specs.Table.{tableOf}
 use Rattle.translate.specs.Shown.{inBlock, standsFor}
-use Rattle.translate.specs.Translate.{translated, outputAfter}
 
 -- "once dispatched": the threads of which a DISPATCH was taken so far
 abbrev pub Dispatched : Type 0
@@ -50,30 +47,32 @@ pub record Alike (m : Timing) (d : Dispatched) (s : State) (v : Variables) : Typ
   pub due : (t : ℕ) → t < m .threads → d t ≡ true → valueOf (v .value) (dueVar t) ≡ natural (dueOf m s t)
   pub end : (t : ℕ) → t < m .threads → codeOf s t ≡ execution → valueOf (v .value) (endVar t) ≡ natural (nowOf s + (lengthOf s t - spentOf s t))
 
--- "At the start and after each event", taken or refused, the states are alike, and each event, given to both in the states that the one
--- before left, gets the same answer. The parts of the list are the same by themselves: both machines are given part after part.
-unfoldable pub Lockstep : Timing → Machine State → Machine Variables → Dispatched → State → Variables → List (List ℕ) → Type 0
-Lockstep m a b d s v [] = Alike m d s v
-Lockstep m a b d s v (x ∷ l) =
-    Alike m d s v ×
-    (a .answer s (eventOf x) ≡ b .answer v (eventOf x)) ×
-    Lockstep m a b (andAfter d (eventOf x) (a .answer s (eventOf x))) (a .after s (eventOf x)) (b .after v (eventOf x)) l
+-- Two stages of one event: the same event, answer and part of the list, and after it the states are alike.
+pub record SameStage (m : Timing) (d : Dispatched) (x : Stage State) (y : Stage Variables) : Type 0 where
+  pub event : x .event ≡ y .event
+  pub answer : x .answer ≡ y .answer
+  pub start : x .start ≡ y .start
+  pub end : x .end ≡ y .end
+  pub alike : Alike m d (x .state) (y .state)
 
--- Demand 3 of a model, an event list and a table: the table's own reader accepts it; the two machines go in lockstep; the runs that stop
--- at the first refusal tell the same count, the same refusal with its part, and the same clock.
+-- "Where events go on after a refused one, from the states it left, answers and variables agree as before": the stages of the model and
+-- of the table, one by one to the end of both.
+unfoldable pub Lockstep : Timing → Dispatched → List (Stage State) → List (Stage Variables) → Type 0
+Lockstep m d [] [] = Unit {0}
+Lockstep m d [] (y ∷ r) = ⊥
+Lockstep m d (x ∷ l) [] = ⊥
+Lockstep m d (x ∷ l) (y ∷ r) = let f = andAfter d (x .event) (x .answer) in SameStage m f x y × Lockstep m f l r
+
+-- Demand 3 of a model, an event list and a table: the table's own reader accepts it; the states are alike at the start, and the two go in
+-- lockstep; the runs that stop at the first refusal tell the same count, the same refusal with its part, and the same clock.
 pub record Demand3 (m : Model) (script table : List ℕ) : Type 0 where
   pub accepted : readTable table ≡ noRefusal
-  pub lockstep :
-      Lockstep (m .timing) (modelMachine m) (tableMachine (tableOf table .rules)) noneYet (startState (m .timing)) (startVariables (tableOf table)) (parts Script script)
+  pub start : Alike (m .timing) noneYet (startState (m .timing)) (startVariables (tableOf table))
+  pub lockstep : Lockstep (m .timing) noneYet (modelStages m script) (tableStages table script)
   pub taken : runModel m script .taken ≡ runTable table script .taken
   pub refusal : runModel m script .refusal ≡ runTable table script .refusal
   pub clock : nowOf (runModel m script .state) ≡ clockOf (runTable table script .state)
 
--- the bytes that translating wrote
-abbrev pub writtenTable : List ℕ → List ℕ → List ℕ
-writtenTable model out = take (translated model (length out) .bytes) (outputAfter model out)
-
--- For every model's bytes, script and output: "For every accepted model whose table fits .. over the bytes made."
-abbrev pub Simulates : List ℕ → List ℕ → List ℕ → Type 0
-Simulates model script out =
-    isNone (translated model (length out) .refusal .cause) ≡ true → Demand3 (readModel model .model) script (writtenTable model out)
+-- "the table's run reads just the bytes made": the first so many bytes of an output are a table of the model, as demand 3 has it.
+abbrev pub Simulates : List ℕ → List ℕ → ℕ → List ℕ → Type 0
+Simulates model script bytes after = Demand3 (readModel model .model) script (take bytes after)

@@ -13,7 +13,7 @@ use Rattle.records.specs.Refusals.{numberOf}
 use Rattle.records.specs.Events.{eventOf, lastClock}
 use Rattle.records.specs.declared.Notation.the-variants.{Script}
 use Rattle.records.specs.Format.{parts}
-use Rattle.records.specs.Run.{Machine, stagesFrom}
+use Rattle.records.specs.Run.{Stage, stagesFrom}
 use Rattle.model_format.specs.declared.Timing.{Timing}
 use Rattle.model_format.specs.declared.Model.{Model}
 use Rattle.model.specs.declared.State.{State}
@@ -21,7 +21,7 @@ use Rattle.model.specs.declared.Stepped.{Stepped}
 use Rattle.model.specs.State.{nowOf}
 use Rattle.model.specs.Tests.{isBusy}
 use Rattle.model.specs.Effects.{tick}
-use Rattle.model.specs.Machine.{attempt, ticks, step, machineOf}
+use Rattle.model.specs.Machine.{attempt, ticks, step, startState, machineOf, modelStages}
 use Rattle.model.specs.MachineLaws.{step-is}
 use Rattle.table.specs.declared.Variables.{Variables}
 use Rattle.table.specs.Machine.{tableStages}
@@ -29,7 +29,7 @@ use Rattle.table_format.specs.All.{All}
 use Rattle.model_format.specs.WellFormed.{WellFormed}
 use Rattle.translate.specs.Translate.{tableBytes}
 use Rattle.simulation.specs.Simulation.{demand-3}
-use Rattle.simulation.specs.Compared.{Dispatched, andAfter, Lockstep}
+use Rattle.simulation.specs.Compared.{Dispatched, noneYet, andAfter, Lockstep, Demand3}
 
 -- neither 12 nor 13, nor any number past them
 abbrev pub NoConflict : Cause → Type 0
@@ -53,16 +53,25 @@ pub step-fine : (m : Model) (s : State) (e : Event) → NoConflict (step m s e .
 unfolding numberOf
 step-fine m s e = step-is (λ r. NoConflict (r .answer)) s (λ b x. attempt-fine b x s) m e (omega arith) (ticks-fine (m .timing) s (e .amount) s)
 
--- whatever goes in lockstep with a model answers like it
-pub never-conflicts : (m : Model) (b : Machine Variables) (l : List (List ℕ)) (d : Dispatched) (s : State) (v : Variables) (p : ℕ) → Lockstep (m .timing) (machineOf m) b d s v l →
-    All (λ x. NoConflict (x .answer)) (stagesFrom b v p l)
-unfolding stagesFrom Lockstep
-never-conflicts m b [] d s v p h = tt
-never-conflicts m b (x ∷ l) d s v p h =
-    let e = eventOf x in
-    (subst (λ (c : Cause). NoConflict c) (h .1) (step-fine m s e), never-conflicts m b l (andAfter d e (step m s e .answer)) (step m s e .state) (b .after v e) (p + length x) (h .2))
+stages-fine : (m : Model) (l : List (List ℕ)) (s : State) (p : ℕ) → All (λ x. NoConflict (x .answer)) (stagesFrom (machineOf m) s p l)
+unfolding stagesFrom
+stages-fine m [] s p = tt
+stages-fine m (x ∷ l) s p = (step-fine m s (eventOf x), stages-fine m l (step m s (eventOf x) .state) (p + length x))
 
--- a table made from an accepted model never answers 12 or 13, whatever the events and also after refusals
+-- stages in lockstep have the same answers
+same-answers : (P : Cause → Type 0) (m : Timing) (d : Dispatched) (l : List (Stage State)) (r : List (Stage Variables)) → Lockstep m d l r → All (λ x. P (x .answer)) l → All (λ y. P (y .answer)) r
+unfolding Lockstep
+same-answers P m d [] [] h a = tt
+same-answers P m d [] (y ∷ r) h a = absurd h
+same-answers P m d (x ∷ l) [] h a = absurd h
+same-answers P m d (x ∷ l) (y ∷ r) h a = (subst P (h .0 .answer) (a .0), same-answers P m (andAfter d (x .event) (x .answer)) l r (h .1) (a .1))
+
+-- a table that demand 3 holds of never answers 12 or 13, whatever the events and also after refusals
+pub never-conflicts : (m : Model) (script table : List ℕ) → Demand3 m script table → All (λ x. NoConflict (x .answer)) (tableStages table script)
+never-conflicts m script table h =
+    let fine-stages : All (λ x. NoConflict (x .answer)) (modelStages m script) = unfold modelStages in (stages-fine m (parts Script script) (startState (m .timing)) 0) in
+    same-answers NoConflict (m .timing) noneYet (modelStages m script) (tableStages table script) (h .lockstep) fine-stages
+
+-- so the table made from an accepted model
 pub made-never-conflicts : (m : Model) → WellFormed m → (script : List ℕ) → All (λ x. NoConflict (x .answer)) (tableStages (tableBytes m) script)
-unfolding tableStages
-made-never-conflicts m w script = never-conflicts m _ (parts Script script) _ _ _ 0 (demand-3 m w script .lockstep)
+made-never-conflicts m w script = never-conflicts m script (tableBytes m) (demand-3 m w script)

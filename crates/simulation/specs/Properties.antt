@@ -1,37 +1,36 @@
--- What demand 3 is worth to whoever checks tables: a property of the compared variables holds all along a model's run exactly where it
--- holds all along its table's.
+-- What demand 3 is worth to whoever checks tables: a property of the compared variables holds at the start and after every event of a
+-- model exactly where it does of the table that was made.
 use mathlib.Core.Path.{_≡_, refl, sym, _∙_, ap, subst, fun-ext}
 use mathlib.Core.Bool.{Bool, true, false, cond, _&&_}
 use mathlib.Core.List.{List, [], _∷_}
 use mathlib.Core.Logic.{_↔_}
-use Prim.Native.Nat.{ℕ, _+_, _-_, _<_}
+use Prim.Native.Nat.{ℕ, _+_, _-_, _<_, _≤_}
 use native.Mathlib.Omega.{arith}
+use lib.ListN.{take}
 use lib.Dec.{eqb, ltb, leb}
-use borrow.Author.Tests.{eqb-true, ltb-true, leb-true}
+use borrow.Author.Tests.{ne-eqb, eqb-true, ltb-true, leb-true}
 use Rattle.numbers.specs.declared.Value.{Value}
 use Rattle.numbers.specs.Values.{natural, sameValue}
-use Rattle.records.specs.Events.{eventOf}
-use Rattle.records.specs.Run.{Machine}
+use Rattle.records.specs.Refusals.{isNone}
+use Rattle.records.specs.Run.{Stage}
 use Rattle.model_format.specs.declared.Timing.{Timing}
 use Rattle.model_format.specs.declared.Model.{Model}
 use Rattle.model_format.specs.Model.{maxThreads}
-use Rattle.model_format.specs.WellFormed.{GoodTiming, WellFormed}
+use Rattle.model_format.specs.Reading.{readModel}
+use Rattle.model_format.specs.WellFormed.{Bytes}
+use Rattle.model_format.specs.Accepted.{accepted-well-formed}
 use Rattle.model.specs.declared.State.{State}
 use Rattle.model.specs.State.{codeOf, lengthOf, spentOf, nowOf}
 use Rattle.model.specs.Tests.{execution, dueOf}
-use Rattle.model.specs.Machine.{startState, machineOf as modelMachine}
+use Rattle.model.specs.Machine.{startState, modelStages}
 use Rattle.table.specs.declared.Variables.{Variables}
 use Rattle.table.specs.Rules.{valueOf}
-use Rattle.table.specs.Machine.{startVariables, machineOf as tableMachine}
-use Rattle.table_format.specs.Variables.{variables, stateVar, dueVar, endVar}
+use Rattle.table.specs.Machine.{startVariables, tableStages}
+use Rattle.table_format.specs.Table.{tableOf}
+use Rattle.table_format.specs.Variables.{variables, activeVar, stateVar, dueVar, endVar}
 use Rattle.translate.specs.Shown.{inBlock, standsFor}
-use Rattle.translate.specs.Rules.{rulesOf}
-use Rattle.translate.specs.Translate.{tableFrom}
-use Rattle.simulation.specs.Compared.{Dispatched, noneYet, andAfter, isDueOrEnd}
-use Rattle.simulation.specs.Match.{Match}
-use Rattle.simulation.specs.Stands.{match-alike}
-use Rattle.simulation.specs.StartState.{start-match}
-use Rattle.simulation.specs.Simulation.{agree}
+use Rattle.simulation.specs.Compared.{Dispatched, noneYet, andAfter, isDueOrEnd, Alike, Lockstep, Demand3, Simulates}
+use Rattle.simulation.specs.Stands.{in-block, out-block}
 
 -- The compared variables, as a machine shows them: Due once dispatched, End in code 3, every other one as it stands; 0 where a variable
 -- is not compared.
@@ -48,10 +47,14 @@ tableView m d v j =
     (cond (inBlock (endVar 0) (m .threads) j) (cond (sameValue (valueOf (v .value) (stateVar (j - endVar 0))) (natural execution)) (valueOf (v .value) j) (natural 0))
     (cond (ltb j variables) (valueOf (v .value) j) (natural 0)))
 
--- a property of the view, in every state of the loop over an event list that goes on after refusals
-unfoldable pub Along : {S : Type 0} → Machine S → (Dispatched → S → ℕ → Value) → ((ℕ → Value) → Type 0) → Dispatched → S → List (List ℕ) → Type 0
-Along a view P d s [] = P (view d s)
-Along a view P d s (x ∷ l) = P (view d s) × Along a view P (andAfter d (eventOf x) (a .answer s (eventOf x))) (a .after s (eventOf x)) l
+-- a property of the view, after every event, taken or refused
+unfoldable pub AfterEach : {S : Type 0} → (Dispatched → S → ℕ → Value) → ((ℕ → Value) → Type 0) → Dispatched → List (Stage S) → Type 0
+AfterEach view P d [] = Unit {0}
+AfterEach view P d (x ∷ l) = let f = andAfter d (x .event) (x .answer) in P (view f (x .state)) × AfterEach view P f l
+
+-- "At the start and after each event"
+abbrev pub Along : {S : Type 0} → (Dispatched → S → ℕ → Value) → ((ℕ → Value) → Type 0) → S → List (Stage S) → Type 0
+Along view P s l = P (view noneYet s) × AfterEach view P noneYet l
 
 -- ---- both machines have the same view
 record Inside (base n j : ℕ) : Type 0 where
@@ -69,7 +72,22 @@ inside base n j e = go (leb base j) (ltb j (base + n)) refl refl e
     go true false p q z = absurd (let u : _≡_ {A = ℕ} 0 1 = cc in omega arith)
     go false b p q z = absurd (let u : _≡_ {A = ℕ} 0 1 = cc in omega arith)
 
-module _ (m : Timing) (g : GoodTiming m) (d : Dispatched) (s : State) (v : Variables) (h : Match m d s (v .value)) where
+module _ (m : Timing) (few : m .threads ≤ maxThreads) (d : Dispatched) (s : State) (v : Variables) (h : Alike m d s v) where
+  same-code : (t : ℕ) → t < m .threads → valueOf (v .value) (stateVar t) ≡ natural (codeOf s t)
+  unfolding standsFor
+  same-code t l =
+      h .others (stateVar t) (omega arith) (rw (out-block (dueVar 0) (m .threads) (stateVar t) (λ p q. omega arith), out-block (endVar 0) (m .threads) (stateVar t) (λ p q. omega arith))) ∙
+      rw (
+        ne-eqb (stateVar t) 0 (λ e. omega arith),
+        ne-eqb (stateVar t) 1 (λ e. omega arith),
+        ne-eqb (stateVar t) 2 (λ e. omega arith),
+        ne-eqb (stateVar t) 3 (λ e. omega arith),
+        ne-eqb (stateVar t) 4 (λ e. omega arith),
+        ne-eqb (stateVar t) 5 (λ e. omega arith),
+        out-block (activeVar 0) (m .threads) (stateVar t) (λ p q. omega arith),
+        in-block (stateVar 0) (m .threads) (stateVar t) (omega arith) (omega arith),
+      ) (ap (λ (i : ℕ). natural (codeOf s i)) (omega arith))
+
   same-due : (j : ℕ) → inBlock (dueVar 0) (m .threads) j ≡ true →
       cond (d (j - dueVar 0)) (natural (dueOf m s (j - dueVar 0))) (natural 0) ≡ cond (d (j - dueVar 0)) (valueOf (v .value) j) (natural 0)
   same-due j e = go (d (j - dueVar 0)) refl
@@ -85,8 +103,7 @@ module _ (m : Timing) (g : GoodTiming m) (d : Dispatched) (s : State) (v : Varia
       cond (sameValue (valueOf (v .value) (stateVar (j - endVar 0))) (natural execution)) (valueOf (v .value) j) (natural 0)
   same-end j e =
       let i = inside (endVar 0) (m .threads) j e in
-      let k : j - endVar 0 < maxThreads = let few = g .threads in let y = i .index in omega arith in
-      rw (h .code (j - endVar 0) k) (go (eqb (codeOf s (j - endVar 0)) execution) refl)
+      rw (same-code (j - endVar 0) (i .index)) (go (eqb (codeOf s (j - endVar 0)) execution) refl)
     where
       go : (b : Bool) → eqb (codeOf s (j - endVar 0)) execution ≡ b →
           cond b (natural (nowOf s + (lengthOf s (j - endVar 0) - spentOf s (j - endVar 0)))) (natural 0) ≡ cond b (valueOf (v .value) j) (natural 0)
@@ -99,7 +116,7 @@ module _ (m : Timing) (g : GoodTiming m) (d : Dispatched) (s : State) (v : Varia
   same-other j e = go (ltb j variables) refl
     where
       go : (b : Bool) → ltb j variables ≡ b → cond b (standsFor m s j) (natural 0) ≡ cond b (valueOf (v .value) j) (natural 0)
-      go true f = sym (match-alike m g d s (v .value) h .others j (ltb-true j variables f) e)
+      go true f = sym (h .others j (ltb-true j variables f) e)
       go false f = refl
 
   pub same-view : modelView m d s ≡ tableView m d v
@@ -111,22 +128,29 @@ module _ (m : Timing) (g : GoodTiming m) (d : Dispatched) (s : State) (v : Varia
       go j false true e f = rw (e, f) (same-end j f)
       go j false false e f = rw (e, f) (same-other j (rw (e, f)))
 
-module _ (m : Model) (w : WellFormed m) (P : (ℕ → Value) → Type 0) where
-  abbrev OfModel : Dispatched → State → List (List ℕ) → Type 0
-  OfModel = Along (modelMachine m) (modelView (m .timing)) P
+module _ (m : Timing) (few : m .threads ≤ maxThreads) (P : (ℕ → Value) → Type 0) where
+  after-each : (d : Dispatched) (l : List (Stage State)) (r : List (Stage Variables)) → Lockstep m d l r → AfterEach (modelView m) P d l ↔ AfterEach (tableView m) P d r
+  unfolding AfterEach Lockstep
+  after-each d [] [] h = ((λ p. p), (λ p. p))
+  after-each d [] (y ∷ r) h = absurd h
+  after-each d (x ∷ l) [] h = absurd h
+  after-each d (x ∷ l) (y ∷ r) h =
+      let f = andAfter d (x .event) (x .answer) in
+      let e = same-view m few f (x .state) (y .state) (h .0 .alike) in
+      let q = after-each f l r (h .1) in
+      rw (← h .0 .event, ← h .0 .answer) ((λ p. (subst P e (p .0), q .0 (p .1))), (λ p. (subst P (sym e) (p .0), q .1 (p .1))))
 
-  abbrev OfTable : Dispatched → Variables → List (List ℕ) → Type 0
-  OfTable = Along (tableMachine (rulesOf m)) (tableView (m .timing)) P
+-- of the table that the bytes hold, whoever made them
+pub property-carries-over : (m : Model) (script table : List ℕ) → Demand3 m script table → m .timing .threads ≤ maxThreads → (P : (ℕ → Value) → Type 0) →
+    Along (modelView (m .timing)) P (startState (m .timing)) (modelStages m script) ↔ Along (tableView (m .timing)) P (startVariables (tableOf table)) (tableStages table script)
+property-carries-over m script table h few P =
+    let e = same-view (m .timing) few noneYet (startState (m .timing)) (startVariables (tableOf table)) (h .start) in
+    let q = after-each (m .timing) few P noneYet (modelStages m script) (tableStages table script) (h .lockstep) in
+    ((λ p. (subst P e (p .0), q .0 (p .1))), (λ p. (subst P (sym e) (p .0), q .1 (p .1))))
 
-  carries-over : (l : List (List ℕ)) (d : Dispatched) (s : State) (v : Variables) → Match (m .timing) d s (v .value) → OfModel d s l ↔ OfTable d v l
-  unfolding Along
-  carries-over [] d s v h = let e = same-view (m .timing) (w .timing) d s v h in (subst P e, subst P (sym e))
-  carries-over (x ∷ l) d s v h =
-      let e = same-view (m .timing) (w .timing) d s v h in
-      let a = agree m w d s v (eventOf x) h in
-      let r = carries-over l (andAfter d (eventOf x) (modelMachine m .answer s (eventOf x))) (modelMachine m .after s (eventOf x)) (tableMachine (rulesOf m) .after v (eventOf x)) (a .states) in
-      rw (← a .answer) ((λ p. (subst P e (p .0), r .0 (p .1))), (λ p. (subst P (sym e) (p .0), r .1 (p .1))))
-
-  -- all along the loop over any event list, from the starts
-  pub property-carries-over : (l : List (List ℕ)) → OfModel noneYet (startState (m .timing)) l ↔ OfTable noneYet (startVariables (tableFrom m)) l
-  property-carries-over l = carries-over l noneYet (startState (m .timing)) (startVariables (tableFrom m)) (start-match m w)
+-- so for whoever has translated: the table that lies in the first n bytes of the output
+pub made-property-carries-over : (model script : List ℕ) (n : ℕ) (after : List ℕ) → Bytes model → isNone (readModel model .refusal .cause) ≡ true → Simulates model script n after → (P : (ℕ → Value) → Type 0) →
+    let m = readModel model .model in
+    Along (modelView (m .timing)) P (startState (m .timing)) (modelStages m script) ↔ Along (tableView (m .timing)) P (startVariables (tableOf (take n after))) (tableStages (take n after) script)
+made-property-carries-over model script n after b e h P =
+    property-carries-over (readModel model .model) script (take n after) h (accepted-well-formed model b e .timing .threads) P

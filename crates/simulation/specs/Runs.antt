@@ -9,7 +9,7 @@ use Rattle.numbers.specs.Values.{bitsOf}
 use Rattle.records.specs.declared.Event.{Event}
 use Rattle.records.specs.Refusals.{isNone}
 use Rattle.records.specs.Events.{eventOf}
-use Rattle.records.specs.Run.{Machine, Ended, runFrom}
+use Rattle.records.specs.Run.{Machine, Ended, runFrom, stagesFrom}
 use Rattle.model_format.specs.declared.Timing.{Timing}
 use Rattle.model.specs.declared.State.{State}
 use Rattle.model.specs.State.{nowOf}
@@ -36,12 +36,16 @@ module _ (m : Timing) (a : Machine State) (b : Machine Variables)
     (alike : (d : Dispatched) (s : State) (v : Variables) → Match m d s (v .value) → Alike m d s v)
     (agree : (d : Dispatched) (s : State) (v : Variables) (e : Event) → Match m d s (v .value) → Agree m a b d s v e)
   where
-    pub lockstep : (l : List (List ℕ)) (d : Dispatched) (s : State) (v : Variables) → Match m d s (v .value) → Lockstep m a b d s v l
-    unfolding Lockstep
-    lockstep [] d s v h = alike d s v h
-    lockstep (x ∷ l) d s v h =
-        let g = agree d s v (eventOf x) h in
-        (alike d s v h, g .answer, lockstep l (andAfter d (eventOf x) (a .answer s (eventOf x))) (a .after s (eventOf x)) (b .after v (eventOf x)) (g .states))
+    pub lockstep : (l : List (List ℕ)) (d : Dispatched) (s : State) (v : Variables) (p : ℕ) → Match m d s (v .value) → Lockstep m d (stagesFrom a s p l) (stagesFrom b v p l)
+    unfolding Lockstep stagesFrom
+    lockstep [] d s v p h = tt
+    lockstep (x ∷ l) d s v p h =
+        let e = eventOf x in
+        let g = agree d s v e h in
+        let f = andAfter d e (a .answer s e) in (
+          record { event = refl; answer = g .answer; start = refl; end = refl; alike = alike f (a .after s e) (b .after v e) (g .states) },
+          lockstep l f (a .after s e) (b .after v e) (p + length x) (g .states),
+        )
 
     pub same-run : (l : List (List ℕ)) (d : Dispatched) (s : State) (v : Variables) (k p : ℕ) → Match m d s (v .value) → SameEnd (runFrom a s k p l) (runFrom b v k p l)
     unfolding runFrom

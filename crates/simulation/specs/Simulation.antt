@@ -1,4 +1,4 @@
--- Demand 3: for every accepted model whose table fits and every event list, over the bytes made.
+-- Demand 3: for every accepted model whose table fits and every event list, over "the bytes made".
 use mathlib.Core.Path.{_≡_, refl, sym, _∙_}
 use mathlib.Core.Bool.{Bool, true, false, true≢false}
 use mathlib.Core.List.{List}
@@ -19,16 +19,17 @@ use Rattle.model_format.specs.Accepted.{accepted-well-formed}
 use Rattle.model.specs.declared.State.{State}
 use Rattle.model.specs.Tests as tests
 use Rattle.model.specs.Effects.{tick}
-use Rattle.model.specs.Machine.{startState, runModel, machineOf as modelMachine}
+use Rattle.model.specs.Machine.{startState, runModel, modelStages, machineOf as modelMachine}
 use Rattle.model.specs.Machine as model-machine
 use Rattle.table.specs.declared.Variables.{Variables}
-use Rattle.table.specs.Machine.{startVariables, runTable, machineOf as tableMachine}
+use Rattle.table.specs.Machine.{startVariables, runTable, tableStages, machineOf as tableMachine}
 use Rattle.table.specs.Machine as table-machine
-use Rattle.table_format.specs.Table.{Table, tableOf}
+use Rattle.table_format.specs.Table.{tableOf}
+use Rattle.translate.specs.declared.Translation.{Translation}
 use Rattle.translate.specs.Rules.{rulesOf}
 use Rattle.translate.specs.Translate.{tableFrom, tableBytes, translated, outputAfter}
 use Rattle.translate.specs.WellFormed.{translation-back}
-use Rattle.simulation.specs.Compared.{Dispatched, noneYet, Lockstep, Demand3, writtenTable, Simulates}
+use Rattle.simulation.specs.Compared.{Dispatched, noneYet, Alike, Lockstep, Demand3, Simulates}
 use Rattle.simulation.specs.Match.{Match}
 use Rattle.simulation.specs.Runs.{Agree, SameEnd, lockstep, same-run}
 use Rattle.simulation.specs.Ticks.{ticks-agree}
@@ -70,16 +71,19 @@ module _ (m : Model) (w : WellFormed m) where
   pub agree : (d : Dispatched) (s : State) (v : Variables) (e : Event) → Match (m .timing) d s (v .value) → Agree (m .timing) (modelMachine m) (tableMachine (rulesOf m)) d s v e
   agree d s v e h = let x = step-after d s v h e in record { answer = x .answer; states = x .states }
 
-  -- the runs of a model and of a table t that is read as the one made from it
-  of-table : (script table : List ℕ) (t : Table) → tableOf table ≡ t → t ≡ tableFrom m → Lockstep (m .timing) (modelMachine m) (tableMachine (tableOf table .rules)) noneYet (startState (m .timing)) (startVariables (tableOf table)) (parts Script script)
-  unfolding tableFrom
-  of-table script table t e f =
-      rw (e, f) (lockstep (m .timing) (modelMachine m) (tableMachine (rulesOf m)) (λ d s v. match-alike (m .timing) (w .timing) d s (v .value)) agree (parts Script script) noneYet (startState (m .timing)) (startVariables (tableFrom m)) (start-match m w))
+  alike : (d : Dispatched) (s : State) (v : Variables) → Match (m .timing) d s (v .value) → Alike (m .timing) d s v
+  alike d s v = match-alike (m .timing) (w .timing) d s (v .value)
+
+  -- the runs of a model and of a table that is read as the one made from it
+  same-stages : (script table : List ℕ) → tableOf table ≡ tableFrom m → Lockstep (m .timing) noneYet (modelStages m script) (tableStages table script)
+  unfolding modelStages tableStages tableFrom
+  same-stages script table e =
+      rw e (lockstep (m .timing) (modelMachine m) (tableMachine (rulesOf m)) alike agree (parts Script script) noneYet (startState (m .timing)) (startVariables (tableFrom m)) 0 (start-match m w))
 
   same-end : (script table : List ℕ) → tableOf table ≡ tableFrom m → SameEnd (runModel m script) (runTable table script)
   unfolding runModel runTable tableFrom
   same-end script table e =
-      rw e (same-run (m .timing) (modelMachine m) (tableMachine (rulesOf m)) (λ d s v. match-alike (m .timing) (w .timing) d s (v .value)) agree (parts Script script) noneYet (startState (m .timing)) (startVariables (tableFrom m)) 0 0 (start-match m w))
+      rw e (same-run (m .timing) (modelMachine m) (tableMachine (rulesOf m)) alike agree (parts Script script) noneYet (startState (m .timing)) (startVariables (tableFrom m)) 0 0 (start-match m w))
 
   pub demand-3 : (script : List ℕ) → Demand3 m script (tableBytes m)
   demand-3 script =
@@ -87,36 +91,40 @@ module _ (m : Model) (w : WellFormed m) where
       let r = same-end script (tableBytes m) (t .1) in
       record {
         accepted = t .0;
-        lockstep = of-table script (tableBytes m) (tableFrom m) (t .1) refl;
+        start = rw (t .1) (alike noneYet (startState (m .timing)) (startVariables (tableFrom m)) (start-match m w));
+        lockstep = same-stages script (tableBytes m) (t .1);
         taken = r .taken;
         refusal = r .refusal;
         clock = r .clock;
       }
 
--- ---- over bytes: what translating wrote is the table made
+-- ---- over bytes: r is what translating told, and after the output that it left
 -- a model that was translated was accepted, and its table fitted
-record Translated (model : List ℕ) (room : ℕ) : Type 0 where
-  accepted : isNone (readModel model .refusal .cause) ≡ true
-  bytes : translated model room .bytes ≡ length (tableBytes (readModel model .model))
+pub record Accepted (model : List ℕ) (r : Translation) : Type 0 where
+  pub reading : isNone (readModel model .refusal .cause) ≡ true
+  pub bytes : r .bytes ≡ length (tableBytes (readModel model .model))
 
-was-translated : (model : List ℕ) (room : ℕ) → isNone (translated model room .refusal .cause) ≡ true → Translated model room
+pub was-accepted : (model : List ℕ) (room : ℕ) (r : Translation) → r ≡ translated model room → isNone (r .refusal .cause) ≡ true → Accepted model r
 unfolding translated numberOf
-was-translated model room e = go (isNone (readModel model .refusal .cause)) (ltb room (length (tableBytes (readModel model .model)))) refl refl
+was-accepted model room r t e = go (isNone (readModel model .refusal .cause)) (ltb room (length (tableBytes (readModel model .model)))) refl refl (rw t at e)
   where
-    go : (a b : Bool) → isNone (readModel model .refusal .cause) ≡ a → ltb room (length (tableBytes (readModel model .model))) ≡ b → Translated model room
-    go true true f g = absurd (true≢false (sym (rw (f, g) at e)))
-    go true false f g = record { accepted = f; bytes = rw (f, g) }
-    go false b f g = absurd (true≢false (sym (sym f ∙ rw f at e)))
+    go : (a b : Bool) → isNone (readModel model .refusal .cause) ≡ a → ltb room (length (tableBytes (readModel model .model))) ≡ b →
+        isNone (translated model room .refusal .cause) ≡ true → Accepted model r
+    go true true f g e = absurd (true≢false (sym (rw (f, g) at e)))
+    go true false f g e = record { reading = f; bytes = rw (t, f, g) }
+    go false b f g e = absurd (true≢false (sym (sym f ∙ rw f at e)))
 
-pub written-is : (model out : List ℕ) → isNone (translated model (length out) .refusal .cause) ≡ true → writtenTable model out ≡ tableBytes (readModel model .model)
-unfolding outputAfter
-written-is model out e =
-    let t = was-translated model (length out) e in
-    rw (e, t .bytes) (take-append-seam (tableBytes (readModel model .model)) (drop (length (tableBytes (readModel model .model))) out))
+module _ (model out : List ℕ) (r : Translation) (after : List ℕ) (t : r ≡ translated model (length out)) (o : after ≡ outputAfter model out)
+    (e : isNone (r .refusal .cause) ≡ true)
+  where
+    pub written-is : take (r .bytes) after ≡ tableBytes (readModel model .model)
+    unfolding outputAfter
+    written-is =
+        let n = was-accepted model (length out) r t e .bytes in
+        rw (n, o, ← t, e) (take-append-seam (tableBytes (readModel model .model)) (drop (length (tableBytes (readModel model .model))) out))
 
--- "For every accepted model whose table fits, and every list of the eleven events (refused ones among them, perhaps a cut or unknown one
--- at the end)": demand 3, over the bytes made.
-pub simulates : (model script out : List ℕ) → Bytes model → Simulates model script out
-simulates model script out b e =
-    let t = was-translated model (length out) e in
-    rw (written-is model out e) (demand-3 (readModel model .model) (accepted-well-formed model b (t .accepted)) script)
+    -- for every event list, refused events among them, perhaps a cut or unknown one at its end
+    pub simulates : Bytes model → (script : List ℕ) → Simulates model script (r .bytes) after
+    simulates b script =
+        let a = was-accepted model (length out) r t e .reading in
+        rw written-is (demand-3 (readModel model .model) (accepted-well-formed model b a) script)

@@ -1,2 +1,3 @@
 pub mod Groups
 pub mod Tables
+pub mod Translates

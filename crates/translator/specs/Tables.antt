@@ -25,8 +25,8 @@ use Rattle.translate.specs.declared.Translation.{Translation}
 use Rattle.translate.specs.Rules.{rulesOf}
 use Rattle.translate.specs.Translate.{initialOf, tableFrom, tableBytes, translated, outputAfter}
 use Rattle.translate.specs.TableLength.{table-most, table-short}
-use Rattle.simulation.specs.Compared.{Simulates}
 use Rattle.simulation.specs.Simulation.{written-is, simulates}
+use Rattle.translator.specs.Translates.{Translates}
 
 -- the start records, then the rules
 pub table-wrote : {d e g : List ℕ} {at p q : ℕ} (m : Model) → Counted (length d) → WroteInitial d at (initialOf m) e p → WroteRules e p (rulesOf m) g q → Wrote d at (tableBytes m) g q
@@ -43,24 +43,16 @@ length-told m w x =
 pub bytes-known : (s : List ℕ) → ((i : ℕ) → Fits w8 (getD s i 0)) → Bytes s
 bytes-known s f i = f i .fits
 
--- what translating promises: what it tells, the output afterwards, and demand 3 for every event list
-pub record Translates (model out : List ℕ) (result : Translation) (after : List ℕ) : Type 0 where
-  pub told : result ≡ translated model (length out)
-  pub output : after ≡ outputAfter model out
-  pub simulated : (script : List ℕ) → Simulates model script out
-
 -- ---- r is what reading the model gave, b whether it was accepted
-module _ (model out : List ℕ) (r : ModelRead) (b : Bool) (e : r ≡ readModel model) (g : b ≡ isNone (r .refusal .cause)) (bytes : Bytes model) where
+module _ (model out : List ℕ) (r : ModelRead) (b : Bool) (e : r ≡ readModel model) (g : b ≡ isNone (r .refusal .cause)) where
+  -- nothing is made, and nothing to be simulated
   pub model-refused : b ≡ false → Translates model out (record { refusal = r .refusal; bytes = 0 }) out
   unfolding translated outputAfter
   model-refused f = record {
     told = rw (← e, ← g, f);
     output = rw (← e, ← g, f, sym g ∙ f);
-    simulated = λ s. simulates model s out bytes;
+    simulated = λ s w. absurd (true≢false (sym w ∙ (sym g ∙ f)));
   }
-
-  pub model-good : b ≡ true → WellFormed (r .model)
-  model-good f = rw e (accepted-well-formed model bytes (rw (← e) (sym g ∙ f)))
 
   pub output-short : b ≡ true → (n : ℕ) → n ≡ length (tableBytes (r .model)) → length out < n →
       Translates model out (record { refusal = inModel ShortOutput (length model) (length model); bytes = 0 }) out
@@ -68,17 +60,22 @@ module _ (model out : List ℕ) (r : ModelRead) (b : Bool) (e : r ≡ readModel 
   output-short f n k l = record {
     told = rw (← e, ← g, f, ← k, lt-ltb _ n l);
     output = rw (← e, ← g, f, ← k, lt-ltb _ n l);
-    simulated = λ s. simulates model s out bytes;
+    simulated = λ s w. absurd (true≢false (sym w));
   }
+
+-- and where the model was accepted
+module _ (model out : List ℕ) (r : ModelRead) (b : Bool) (e : r ≡ readModel model) (g : b ≡ isNone (r .refusal .cause)) (bytes : Bytes model) where
+  pub model-good : b ≡ true → WellFormed (r .model)
+  model-good f = rw e (accepted-well-formed model bytes (rw (← e) (sym g ∙ f)))
 
   pub table-made : b ≡ true → (n : ℕ) → n ≡ length (tableBytes (r .model)) → n ≤ length out → (after : List ℕ) (q : ℕ) →
       Wrote out 0 (tableBytes (r .model)) after q → Translates model out (record { refusal = noRefusal; bytes = n }) after
   unfolding translated outputAfter numberOf
-  table-made f n k l after q w = record {
-    told = rw (← e, ← g, f, ← k, le-ltb _ n l);
-    output = let z : 0 + n ≡ n = omega arith in w .bytes ∙ sets-eq (tableBytes (r .model)) out 0 (omega arith) ∙ rw (← e, ← g, f, ← k, le-ltb _ n l, z);
-    simulated = λ s. simulates model s out bytes;
-  }
+  table-made f n k l after q w =
+      let z : 0 + n ≡ n = omega arith in
+      let told : record { refusal = noRefusal; bytes = n } ≡ translated model (length out) = rw (← e, ← g, f, ← k, le-ltb _ n l) in
+      let output : after ≡ outputAfter model out = w .bytes ∙ sets-eq (tableBytes (r .model)) out 0 (omega arith) ∙ rw (← e, ← g, f, ← k, le-ltb _ n l, z) in
+      record { told = told; output = output; simulated = λ s made. simulates model out (record { refusal = noRefusal; bytes = n }) after told output made bytes s }
 
   -- an output with room for any table
   pub table-made-at-once : b ≡ true → 394304 ≤ length out → (after : List ℕ) (n : ℕ) → Wrote out 0 (tableBytes (r .model)) after n →
@@ -106,7 +103,7 @@ module _ {model out after : List ℕ} {r : Translation} (t : Translates model ou
   table-fits = rw (t .told) (fits model (length out) was-made)
 
   pub table-is : take (r .bytes) after ≡ tableBytes (readModel model .model)
-  table-is = rw (t .told, t .output) (written-is model out was-made)
+  table-is = written-is model out r after (t .told) (t .output) e
 
 -- the same with b for what the code has computed, of the output as it is afterwards
 pub bytes-within : (model out after : List ℕ) (r : Translation) (b : Bool) → Translates model out r after → b ≡ isNone (r .refusal .cause) → b ≡ true → length after ≡ length out →

@@ -10,7 +10,7 @@ ghost use Rattle.translate.specs.Parts.{stamped};
 ghost use Rattle.translate.specs.Rules.{rulesOf};
 ghost use Rattle.translate.specs.Translate.{tableBytes};
 ghost use Rattle.translator.specs.Groups.{countOf, bodiesOf, groupRules, completesOf};
-ghost use Rattle.translator.specs.Tables.{Translates};
+ghost use Rattle.translator.specs.Translates.{Translates};
 use model_format::Model;
 use model_format::Timing;
 use records::Cause;

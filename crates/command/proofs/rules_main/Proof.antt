@@ -52,7 +52,7 @@ same-length-5 : tie.Need-same-length-5
 same-length-5 c = search needs
 
 returns-2 : tie.Need-returns-2
-returns-2 c = shows-listing _ _ _ (c .before .before .before .before .before .before .before .before .before .before .before .before .before .before .before .read-inputs .ensures .0) (c .before .before .before .before .before .before .before .before .before .before .before .before .before .before .before .read-inputs .ensures .1) _ (c .outcome2 .ensures) (c .before .before .before .before .before .rules-listing .ensures)
+returns-2 c = shows-listing _ _ _ (c .before .before .before .before .before .before .before .before .before .before .before .before .before .before .before .read-inputs .ensures .0) (c .before .before .before .before .before .before .before .before .before .before .before .before .before .before .before .read-inputs .ensures .1) _ (c .outcome2 .ensures) (c .before .before .before .before .before .rules-listing .ensures .written)
 
 pub rules-main-spec : {M : Type 1} → statement M
 rules-main-spec =

@@ -1,4 +1,4 @@
-use Rattle.futonkestrel.specs.Exports.{exported}
+use Rattle.futonkestrel.specs.Laws.{exported}
 use borrow.Author.Needs.{needs}
 use Rattle.futonkestrel.proofs.fk_translate.Statement.{statement}
 use Rattle.futonkestrel.proofs.fk_translate.Tie as tie

@@ -1,3 +1,4 @@
+use Rattle.translate.specs.Shown.{standsFor}
 use Rattle.initial_values.specs.Starts.{startsIn, start-same, starts-skip}
 use Rattle.rule_writer.specs.Lists.{WroteInitial, joins-initial, loop-begins, loop-next, loop-ends}
 use Rattle.writer.specs.Written.{keeps-length}
@@ -32,7 +33,7 @@ loop-less : tie.Need-loop-less Inv-loop μ-loop
 loop-less c = search needs
 
 loop-again : tie.Need-loop-again Inv-loop μ-loop
-loop-again c = (omega arith, loop-next joins-initial _ _ (c .before .before .before .before .before .before .before .before .before .before .good .0 .0) (c .before .before .before .before .before .before .before .before .loop .inv .1) (start-same _ _ _ (c .before .before .before .before .shown .ensures) (c .before .before .put-start .ensures)))
+loop-again c = (omega arith, loop-next joins-initial _ _ (c .before .before .before .before .before .before .before .before .before .before .good .0 .0) (c .before .before .before .before .before .before .before .before .loop .inv .1) (start-same _ (c .before .before .before .before .shown .result) (standsFor (c .before .before .before .before .before .before .before .before .before .before .args .m) (c .before .before .before .before .before .before .before .before .before .before .args .s) _) (record { bits = c .before .before .before .before .shown .ensures }) (c .before .before .put-start .ensures)))
 
 mul-j : tie.Need-mul-j Inv-loop μ-loop
 mul-j c = search needs

@@ -1,6 +1,6 @@
 use mathlib.Core.Path.{sym}
 use lib.Seq.{length-take-le}
-use Rattle.printing.specs.Rules.{rules-run, rules-refused}
+use Rattle.printing.specs.Rules.{lists-run, lists-refusal}
 use Rattle.translator.specs.Tables.{bytes-within}
 use borrow.Author.Needs.{needs}
 use Rattle.printing.proofs.rules_listing.Statement.{statement}
@@ -31,7 +31,7 @@ same-length : tie.Need-same-length
 same-length c = search needs
 
 returns : tie.Need-returns
-returns c = rules-run _ _ _ (c .before .before .before .before .before .before .before .before .before .translate .result) _ (c .before .before .before .before .before .before .before .before .before .before .before .table-room .ensures) (c .before .before .before .before .before .before .before .before .before .translate .ensures) (c .before .before .before .before .before .before .is-none .ensures) _ (c .before .before .before .before .before .if1 .taken) (c .before .before .table-listing .ensures)
+returns c = lists-run _ _ _ (c .before .before .before .before .before .before .before .before .before .translate .result) _ (c .before .before .before .before .before .before .before .before .before .before .before .table-room .ensures) (c .before .before .before .before .before .before .before .before .before .translate .ensures) (c .before .before .before .before .before .before .is-none .ensures) _ (c .before .before .before .before .before .if1 .taken) (c .before .before .table-listing .ensures)
 
 refused-listing-requires : tie.Need-refused-listing-requires
 refused-listing-requires c κs = search needs
@@ -40,7 +40,7 @@ same-length-2 : tie.Need-same-length-2
 same-length-2 c = search needs
 
 returns-2 : tie.Need-returns-2
-returns-2 c = rules-refused _ _ _ (c .before .before .before .before .before .before .before .before .translate .result) _ (c .before .before .before .before .before .before .before .before .before .before .table-room .ensures) (c .before .before .before .before .before .before .before .before .translate .ensures) (c .before .before .before .before .before .is-none .ensures) _ (c .before .before .before .before .if1 .left) (c .before .before .refused-listing .ensures)
+returns-2 c = lists-refusal _ _ _ (c .before .before .before .before .before .before .before .before .translate .result) _ (c .before .before .before .before .before .before .before .before .before .before .table-room .ensures) (c .before .before .before .before .before .before .before .before .translate .ensures) (c .before .before .before .before .before .is-none .ensures) _ (c .before .before .before .before .if1 .left) (c .before .before .refused-listing .ensures)
 
 pub rules-listing-spec : {M : Type 1} → statement M
 rules-listing-spec =

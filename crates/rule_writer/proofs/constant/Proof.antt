@@ -1,4 +1,3 @@
-use Rattle.rule_writer.specs.SameBytes.{constant-same}
 use borrow.Author.Needs.{needs}
 use Rattle.rule_writer.proofs.constant.Statement.{statement}
 use Rattle.rule_writer.proofs.constant.Tie as tie
@@ -7,7 +6,7 @@ value-of-requires : tie.Need-value-of-requires
 value-of-requires c κs = search needs
 
 returns : tie.Need-returns
-returns c = constant-same (c .before .args .n) _ (search needs) (c .value-of .ensures)
+returns c = rw (c .value-of .ensures)
 
 pub constant-spec : {M : Type 1} → statement M
 constant-spec = tie.close (tie.spec value-of-requires returns)

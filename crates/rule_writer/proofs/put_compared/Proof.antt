@@ -1,4 +1,4 @@
-use Rattle.rule_writer.specs.SameBytes.{wrote-compared}
+use Rattle.rule_writer.specs.SameBytes.{constant-same, wrote-compared}
 use borrow.Author.Needs.{needs}
 use Rattle.rule_writer.proofs.put_compared.Statement.{statement}
 use Rattle.rule_writer.proofs.put_compared.Tie as tie
@@ -13,7 +13,7 @@ same-length : tie.Need-same-length
 same-length c = search needs
 
 returns : tie.Need-returns
-returns c = wrote-compared (c .before .before .before .before .constant .ensures) _ _ (c .before .before .put-atom .ensures)
+returns c = wrote-compared (constant-same (c .before .before .before .before .before .before .args .n) _ (search needs) (c .before .before .before .before .constant .ensures)) _ _ (c .before .before .put-atom .ensures)
 
 pub put-compared-spec : {M : Type 1} → statement M
 put-compared-spec = tie.close (tie.spec constant-requires put-atom-requires same-length returns)

@@ -1,4 +1,4 @@
-use Rattle.rule_writer.specs.SameBytes.{same-as, wrote-updated}
+use Rattle.rule_writer.specs.SameBytes.{same-as, constant-same, wrote-updated}
 use borrow.Author.Needs.{needs}
 use Rattle.rule_writer.proofs.put_set.Statement.{statement}
 use Rattle.rule_writer.proofs.put_set.Tie as tie
@@ -16,7 +16,7 @@ same-length : tie.Need-same-length
 same-length c = search needs
 
 returns : tie.Need-returns
-returns c = wrote-updated (c .before .before .before .before .before .constant .ensures) _ _ _ _ (same-as (c .before .before .before .before .unused .ensures)) (c .before .before .put-update .ensures)
+returns c = wrote-updated (constant-same (c .before .before .before .before .before .before .before .args .n) _ (search needs) (c .before .before .before .before .before .constant .ensures)) _ _ _ _ (same-as (c .before .before .before .before .unused .ensures)) (c .before .before .put-update .ensures)
 
 pub put-set-spec : {M : Type 1} → statement M
 put-set-spec =

@@ -7,7 +7,7 @@ use Rattle.table_format.specs.Table.{tableOf}
 use Rattle.table.specs.Places.{Listed}
 use Rattle.table.specs.Guards.{Guarded}
 use Prim.Native.Nat.{_+_, _-_, _≤_}
-use Rattle.records.specs.Run.{tallyFrom}
+use Rattle.records.specs.Run.{stagesFrom, tallyFrom}
 use Rattle.records.specs.Walk.{next-place, slice-part, tally-end, tally-taken, tally-refused}
 use Rattle.table.specs.Machine.{machineOf, tallyTable}
 use Rattle.table.specs.Running.{variablesOf, answer-of, state-of}
@@ -16,7 +16,7 @@ use Rattle.table.proofs.run_on.Statement.{statement}
 use Rattle.table.proofs.run_on.Tie as tie
 
 abbrev Inv-loop : tie.InvT-loop
-Inv-loop t script place guard heads v₀ k₀ r₀ at₀ v k r at = (k + r ≤ at) × (at ≤ length script) × (Listed t place (heads .listed) (heads .rest) × Guarded t place guard (heads .listed)) × (tallyFrom (machineOf (tableOf t .rules)) (variablesOf v) k r (parts notations.Script (drop at script)) ≡ tallyTable t script)
+Inv-loop t script place guard heads v₀ k₀ r₀ at₀ v k r at = (k + r ≤ at) × (at ≤ length script) × (Listed t place (heads .listed) (heads .rest) × Guarded t place guard (heads .listed)) × (tallyFrom (variablesOf v) k r (stagesFrom (machineOf (tableOf t .rules)) (variablesOf v) at (parts notations.Script (drop at script))) ≡ tallyTable t script)
 
 abbrev μ-loop : tie.MeasureT-loop
 μ-loop t script place guard heads v₀ k₀ r₀ at₀ v k r at = length script - at

@@ -11,7 +11,7 @@ is-none-requires : tie.Need-is-none-requires
 is-none-requires c κs = search needs
 
 returns : tie.Need-returns
-returns c = model-refused (c .before .before .before .before .before .before .args .model .now) (c .before .before .before .before .before .before .args .out .now) (c .before .before .before .read-model .result) _ (c .before .before .before .read-model .ensures) (c .before .is-none .ensures) (bytes-known (c .before .before .before .before .before .before .args .model .now) (c .before .before .before .before .before .shared-slice-known .given)) (not-true _ (c .if1 .taken))
+returns c = model-refused _ _ (c .before .before .before .read-model .result) _ (c .before .before .before .read-model .ensures) (c .before .is-none .ensures) (not-true _ (c .if1 .taken))
 
 put-table-requires : tie.Need-put-table-requires
 put-table-requires c κs = model-good (c .before .before .before .before .before .before .before .before .before .args .model .now) (c .before .before .before .before .before .before .before .before .before .args .out .now) (c .before .before .before .before .before .before .read-model .result) _ (c .before .before .before .before .before .before .read-model .ensures) (c .before .before .before .before .is-none .ensures) (bytes-known (c .before .before .before .before .before .before .before .before .before .args .model .now) (c .before .before .before .before .before .before .before .before .shared-slice-known .given)) (not-false _ (c .before .before .before .if1 .left))
@@ -32,7 +32,7 @@ refused-requires-2 : tie.Need-refused-requires-2
 refused-requires-2 c κs = search needs
 
 returns-3 : tie.Need-returns-3
-returns-3 c = rw (c .refused2 .ensures) (output-short (c .before .before .before .before .before .before .before .before .before .before .before .args .model .now) (c .before .before .before .before .before .before .before .before .before .before .before .args .out .now) (c .before .before .before .before .before .before .before .before .read-model .result) _ (c .before .before .before .before .before .before .before .before .read-model .ensures) (c .before .before .before .before .before .before .is-none .ensures) (bytes-known (c .before .before .before .before .before .before .before .before .before .before .before .args .model .now) (c .before .before .before .before .before .before .before .before .before .before .shared-slice-known .given)) (not-false _ (c .before .before .before .before .before .if1 .left)) _ (c .before .before .table-length .ensures) (c .before .if3 .taken))
+returns-3 c = rw (c .refused2 .ensures) (output-short _ _ (c .before .before .before .before .before .before .before .before .read-model .result) _ (c .before .before .before .before .before .before .before .before .read-model .ensures) (c .before .before .before .before .before .before .is-none .ensures) (not-false _ (c .before .before .before .before .before .if1 .left)) _ (c .before .before .table-length .ensures) (c .before .if3 .taken))
 
 put-table-requires-2 : tie.Need-put-table-requires-2
 put-table-requires-2 c κs = model-good (c .before .before .before .before .before .before .before .before .before .before .before .args .model .now) (c .before .before .before .before .before .before .before .before .before .before .before .args .out .now) (c .before .before .before .before .before .before .before .before .read-model .result) _ (c .before .before .before .before .before .before .before .before .read-model .ensures) (c .before .before .before .before .before .before .is-none .ensures) (bytes-known (c .before .before .before .before .before .before .before .before .before .before .before .args .model .now) (c .before .before .before .before .before .before .before .before .before .before .shared-slice-known .given)) (not-false _ (c .before .before .before .before .before .if1 .left))

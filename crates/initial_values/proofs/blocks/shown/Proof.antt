@@ -10,13 +10,13 @@ count-requires : tie.Need-count-requires
 count-requires c κs = search needs
 
 returns : tie.Need-returns
-returns c = clock-shown _ _ _ (c .before .before .before .if1 .taken) (c .before .of-clock .ensures) (c .count .ensures)
+returns c = clock-shown _ _ _ (c .before .before .before .if1 .taken) (c .before .of-clock .ensures) (c .count .ensures) .bits
 
 of-thread-requires : tie.Need-of-thread-requires
 of-thread-requires c κs = search needs
 
 returns-2 : tie.Need-returns-2
-returns-2 c = others-shown _ _ _ (c .before .if1 .left) (c .of-thread .ensures)
+returns-2 c = others-shown _ _ _ (c .before .if1 .left) (c .of-thread .ensures) .bits
 
 pub shown-spec : {M : Type 1} → statement M
 shown-spec =

@@ -4,7 +4,7 @@ use native.Mathlib.Omega.{arith}
 use lib.ListN.{length, drop}
 use Rattle.records.specs.declared.Notation.the-variants as notations
 use Rattle.records.specs.Format.{parts}
-use Rattle.records.specs.Run.{tallyFrom}
+use Rattle.records.specs.Run.{stagesFrom, tallyFrom}
 use Rattle.records.specs.Walk.{next-place}
 use Rattle.model.specs.Machine.{machineOf}
 use Rattle.model_machine.specs.Runs.{tallyModel}
@@ -14,7 +14,7 @@ use Rattle.model_machine.proofs.tally.run_on.Statement.{statement}
 use Rattle.model_machine.proofs.tally.run_on.Tie as tie
 
 abbrev Inv-loop : tie.InvT-loop
-Inv-loop m script s₀ taken₀ refused₀ at₀ s taken refused at = (taken + refused ≤ at) × (at ≤ length script) × (tallyFrom (machineOf m) s taken refused (parts notations.Script (drop at script)) ≡ tallyModel m script)
+Inv-loop m script s₀ taken₀ refused₀ at₀ s taken refused at = (taken + refused ≤ at) × (at ≤ length script) × (tallyFrom s taken refused (stagesFrom (machineOf m) s at (parts notations.Script (drop at script))) ≡ tallyModel m script)
 
 abbrev μ-loop : tie.MeasureT-loop
 μ-loop m script s₀ taken₀ refused₀ at₀ s taken refused at = length script - at

@@ -1,0 +1,16 @@
+-- What translating promises.
+use mathlib.Core.Path.{_≡_}
+use mathlib.Core.Bool.{true}
+use mathlib.Core.List.{List}
+use Prim.Native.Nat.{ℕ}
+use lib.ListN.{length}
+use Rattle.records.specs.Refusals.{isNone}
+use Rattle.translate.specs.declared.Translation.{Translation}
+use Rattle.translate.specs.Translate.{translated, outputAfter}
+use Rattle.simulation.specs.Compared.{Simulates}
+
+-- what it tells, the output afterwards, and, where the table was made, demand 3 for every event list
+pub record Translates (model out : List ℕ) (result : Translation) (after : List ℕ) : Type 0 where
+  pub told : result ≡ translated model (length out)
+  pub output : after ≡ outputAfter model out
+  pub simulated : (script : List ℕ) → isNone (result .refusal .cause) ≡ true → Simulates model script (result .bytes) after
