@@ -31,9 +31,9 @@ pub record Agreed (m : Timing) (d : Dispatched) (r : model-stepped.Stepped) (q :
 
 -- the variables one tick further
 abbrev pub tickVariables : List Value → List Value
-tickVariables v = store variables v nowVar (plus (table-machine.now v) (natural 1))
+tickVariables v = store variables v nowVar (plus (table-machine.nowIn v) (natural 1))
 
-pub same-below : (m : Timing) (d : Dispatched) (s : State) (v : List Value) → Match m d s v → lessValue (table-machine.now v) (natural lastClock) ≡ ltb (nowOf s) lastClock
+pub same-below : (m : Timing) (d : Dispatched) (s : State) (v : List Value) → Match m d s v → lessValue (table-machine.nowIn v) (natural lastClock) ≡ ltb (nowOf s) lastClock
 same-below m d s v h = ap (λ (x : Value). lessValue x (natural lastClock)) (h .now)
 
 by-test : (m : Timing) (d : Dispatched) (c : Bool) {r t : model-stepped.Stepped} {q u : table-stepped.Stepped} → (c ≡ true → Agreed m d r q) → (c ≡ false → Agreed m d t u) → Agreed m d (cond c r t) (cond c q u)

@@ -25,8 +25,10 @@ use Rattle.table_format.specs.Format.{recordOf, records, updateOf}
 use Rattle.table_format.specs.Table.{gather}
 use Rattle.table_format.specs.Laws.{kindOf, records-end}
 use Rattle.table.specs.Rules.{applies, newValue, Write, writes, writtenTo, inconsistent, written}
-use Rattle.table.specs.Bits.{values, values-store}
-use Rattle.table.specs.Places.{bytesAt, head-records, head-cut, update-records, update-cut, other-records, other-kind}
+use Rattle.table.specs.Runs.{values}
+use Rattle.table.specs.Index.{bytesAt}
+use Rattle.table.specs.Bits.{values-store}
+use Rattle.table.specs.Places.{head-records, head-cut, update-records, update-cut, other-records, other-kind}
 
 -- ---- targets written twice, or marked before
 unfoldable pub clashes : (ℕ → Bool) → List Write → Bool

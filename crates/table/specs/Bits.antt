@@ -1,4 +1,4 @@
--- The variables as the code's walks read them: a list of their bits.
+-- Laws of the variables as the code's walks read them: a list of their bits.
 use mathlib.Core.Path.{_≡_, refl, sym, _∙_, ap}
 use mathlib.Core.Bool.{Bool, true, false, cond}
 use mathlib.Core.List.{List, [], _∷_}
@@ -14,11 +14,7 @@ use Rattle.numbers.specs.Lists.{store}
 use Rattle.numbers.specs.Values.{value, natural, signed}
 use Rattle.table_format.specs.Variables.{variables}
 use Rattle.table.specs.Rules.{valueOf}
-
--- the values that bits stand for
-unfoldable pub values : List ℕ → List Value
-values [] = []
-values (n ∷ l) = value (signed n) ∷ values l
+use Rattle.table.specs.Runs.{values}
 
 pub length-values : (v : List ℕ) → length (values v) ≡ length v
 unfolding values

@@ -7,7 +7,7 @@ use native.Mathlib.Omega.{arith}
 use native.Mathlib.Decide.{decLt}
 use lib.ListN.{getD, length, take, drop}
 use lib.Dec.{eqb}
-use borrow.Author.Tests.{eq-eqb, ne-eqb, lt-ltb, le-ltb}
+use borrow.Author.Tests.{ne-eqb}
 use Rattle.numbers.specs.declared.Value.{Value}
 use Rattle.numbers.specs.Values.{u16At, valueAt, bitsOf}
 use Rattle.records.specs.declared.Notation.the-variants as notations
@@ -20,18 +20,15 @@ use Rattle.table_format.specs.declared.Record.{Record}
 use Rattle.table_format.specs.declared.Record.the-variants.{Initial, Head, Clause, Atomic, Change, Cut, Unknown}
 use Rattle.table_format.specs.Variables.{nowVar}
 use Rattle.table_format.specs.Format.{recordOf, records, atomOf}
-use Rattle.table_format.specs.Table.{Rule, gather, tableOf}
+use Rattle.table_format.specs.Table.{Rule, gather}
 use Rattle.table_format.specs.Laws.{kindOf, records-at, records-end}
 use Rattle.table.specs.declared.Found.{Found}
 use Rattle.table.specs.Rules.{valueOf, operandValue, holdsOp, holds, clauseHolds, allHold, enabledRules}
 use Rattle.table.specs.Machine.{isBusy}
-use Rattle.table.specs.Places.{bytesAt, clause-records, head-records, atom-records, head-cut, atom-cut, other-records, other-kind, HeadAt, headIn, placeOf, Listed}
+use Rattle.table.specs.Index.{bytesAt, clausesAt, ruleAt, rulesFrom}
+use Rattle.table.specs.Places.{clause-records, head-records, atom-records, head-cut, atom-cut, other-records, other-kind}
 
 -- ---- clauses
--- the clauses of the rule whose records after its head begin at p
-abbrev pub clausesAt : List ℕ → ℕ → List (List Atom)
-clausesAt s p = gather (records (drop p s)) .clauses
-
 unfoldable pub readsClock : Atom → Bool
 readsClock a = eqb (a .variable) nowVar || (eqb (a .right .tag) 1 && eqb (bitsOf (a .right .value .0)) nowVar)
 
@@ -167,19 +164,15 @@ module _ (free : Bool) (v : List Value) (b : Bool) (s : List ℕ) (p : ℕ) (h :
       rw (other-records s p m h e, ne-eqb (kindOf x) 33 (other-kind s p m h e 33 i (omega arith)), ne-eqb (kindOf x) 34 (other-kind s p m h e 34 j (omega arith)), ← o)
 
 -- ---- the enabled rules of an event
--- the rule whose head is h and whose other records begin at p
-abbrev pub ruleAt : List ℕ → ℕ → RuleHead → Rule
-ruleAt s p h = record { head = h; clauses = clausesAt s p; updates = gather (records (drop p s)) .updates }
-
 unfoldable pub isAsked : Event → RuleHead → Bool
 isAsked e h = eqb (h .kind) (e .kind) && eqb (h .id) (e .id)
 
-unfoldable pub oneMore : Found → ℕ → RuleHead → Found
-oneMore f q h = record { count = cond (eqb (f .count) 0) 1 2; place = q; head = h }
+unfoldable pub foundOneMore : Found → ℕ → RuleHead → Found
+foundOneMore f q h = record { count = cond (eqb (f .count) 0) 1 2; place = q; head = h }
 
 -- q is the place after the head, or after the record
 unfoldable pub foundRule : List ℕ → List Value → Event → Found → ℕ → RuleHead → Found
-foundRule s v e f q h = cond (isAsked e h && allHold v (clausesAt s q)) (oneMore f q h) f
+foundRule s v e f q h = cond (isAsked e h && allHold v (clausesAt s q)) (foundOneMore f q h) f
 
 unfoldable pub foundAfter : List ℕ → List Value → Event → Found → ℕ → Record → Found
 foundAfter s v e f q (Initial x) = f
@@ -205,19 +198,6 @@ found-same s v e f q (Change u) k = refl
 found-same s v e f q Cut k = refl
 found-same s v e f q Unknown k = refl
 
--- the head at p is one of a rule for the event
-unfoldable pub foundHere : List ℕ → List Value → Found → ℕ → Found
-foundHere s v f p = cond (allHold v (clausesAt s (p + 11))) (oneMore f (p + 11) (headIn s p)) f
-
-module _ (s : List ℕ) (v : List Value) (f : Found) (p : ℕ) (b : Bool) (k : b ≡ allHold v (clausesAt s (p + 11))) where
-  pub here-disabled : b ≡ false → f ≡ foundHere s v f p
-  unfolding foundHere
-  here-disabled y = rw (← k, y)
-
-  pub here-enabled : b ≡ true → (h : RuleHead) → h ≡ headIn s p → oneMore f (p + 11) h ≡ foundHere s v f p
-  unfolding foundHere
-  here-enabled y h g = rw (← k, y, g)
-
 -- none, one or more: all that firing asks of a list of rules
 pub data Choice : Type 0 where
   none : Choice
@@ -242,13 +222,13 @@ module _ (s : List ℕ) (v : List Value) (e : Event) (f : Found) (q : ℕ) (h : 
     unfolding foundRule
     found-disabled y = rw (← g, z, ← k, y)
 
-    pub found-enabled : b ≡ true → oneMore f q h ≡ foundRule s v e f q h
+    pub found-enabled : b ≡ true → foundOneMore f q h ≡ foundRule s v e f q h
     unfolding foundRule
     found-enabled y = rw (← g, z, ← k, y)
 
-one-more : (s : List ℕ) (f : Found) (q : ℕ) (h : RuleHead) (l : List Rule) → choice (rulesFound s (oneMore f q h) ++ l) ≡ choice (rulesFound s f ++ (ruleAt s q h ∷ l))
-unfolding rulesFound oneMore choice
-one-more s f q h l = go (eqb (f .count) 0) (eqb (f .count) 1)
+found-one-more : (s : List ℕ) (f : Found) (q : ℕ) (h : RuleHead) (l : List Rule) → choice (rulesFound s (foundOneMore f q h) ++ l) ≡ choice (rulesFound s f ++ (ruleAt s q h ∷ l))
+unfolding rulesFound foundOneMore choice
+found-one-more s f q h l = go (eqb (f .count) 0) (eqb (f .count) 1)
   where
     go : (a b : Bool) →
         choice (cond (eqb (cond a 1 2) 0) [] (cond (eqb (cond a 1 2) 1) (ruleAt s q h ∷ []) (ruleAt s q h ∷ ruleAt s q h ∷ [])) ++ l) ≡
@@ -258,70 +238,47 @@ one-more s f q h l = go (eqb (f .count) 0) (eqb (f .count) 1)
     go false false = refl
 
 -- ---- the laws of the loop that finds them
-find-step : (s : List ℕ) (v : List Value) (e : Event) (f : Found) (q : ℕ) (x : Record) →
-    choice (rulesFound s (foundAfter s v e f q x) ++ enabledRules v (e .kind) (e .id) (gather (records (drop q s)) .rules)) ≡
-    choice (rulesFound s f ++ enabledRules v (e .kind) (e .id) (gather (x ∷ records (drop q s)) .rules))
-unfolding foundAfter foundRule gather enabledRules isAsked
-find-step s v e f q (Initial x) = refl
-find-step s v e f q (Head h) = go ((eqb (h .kind) (e .kind) && eqb (h .id) (e .id)) && allHold v (clausesAt s q))
+-- where a walk stands: what is found, and the rules l that are left
+abbrev pub FindsIn : List ℕ → List Value → Event → Found → List Rule → Choice
+FindsIn s v e f l = choice (rulesFound s f ++ enabledRules v (e .kind) (e .id) l)
+
+pub find-rule : (s : List ℕ) (v : List Value) (e : Event) (f : Found) (q : ℕ) (h : RuleHead) (l : List Rule) →
+    FindsIn s v e (foundRule s v e f q h) l ≡ FindsIn s v e f (ruleAt s q h ∷ l)
+unfolding foundRule enabledRules isAsked
+find-rule s v e f q h l = go ((eqb (h .kind) (e .kind) && eqb (h .id) (e .id)) && allHold v (clausesAt s q))
   where
     rest : List Rule
-    rest = enabledRules v (e .kind) (e .id) (gather (records (drop q s)) .rules)
+    rest = enabledRules v (e .kind) (e .id) l
 
-    go : (b : Bool) → choice (rulesFound s (cond b (oneMore f q h) f) ++ rest) ≡ choice (rulesFound s f ++ cond b (ruleAt s q h ∷ rest) rest)
-    go true = one-more s f q h rest
+    go : (b : Bool) → choice (rulesFound s (cond b (foundOneMore f q h) f) ++ rest) ≡ choice (rulesFound s f ++ cond b (ruleAt s q h ∷ rest) rest)
+    go true = found-one-more s f q h rest
     go false = refl
+
+find-step : (s : List ℕ) (v : List Value) (e : Event) (f : Found) (q : ℕ) (x : Record) →
+    FindsIn s v e (foundAfter s v e f q x) (rulesFrom s q) ≡ FindsIn s v e f (gather (x ∷ records (drop q s)) .rules)
+unfolding foundAfter gather
+find-step s v e f q (Initial x) = refl
+find-step s v e f q (Head h) = find-rule s v e f q h (rulesFrom s q)
 find-step s v e f q Clause = refl
 find-step s v e f q (Atomic a) = refl
 find-step s v e f q (Change u) = refl
 find-step s v e f q Cut = refl
 find-step s v e f q Unknown = refl
 
--- where the walk stands: what is found, and the rules from p on
+-- the walk over the table's records stands at p
 abbrev pub Finds : List ℕ → List Value → Event → Found → ℕ → Choice
-Finds s v e f p = choice (rulesFound s f ++ enabledRules v (e .kind) (e .id) (gather (records (drop p s)) .rules))
+Finds s v e f p = FindsIn s v e f (rulesFrom s p)
 
 pub find-on : (s : List ℕ) (p m : ℕ) (x : Record) → p < length s → m ≡ partLengthAt notations.Table s p → x ≡ recordOf (take (p + m - p) (drop p s)) →
     (v : List Value) (e : Event) (f g : Found) → g ≡ foundAfter s v e f (p + m) x → Finds s v e g (p + m) ≡ Finds s v e f p
-find-on s p m x h l r v e f g k = rw (records-at s p m x h l r, k) (find-step s v e f (p + m) x)
+find-on s p m x h l r v e f g k =
+    rw k (find-step s v e f (p + m) x) ∙ ap (λ (q : List Record). FindsIn s v e f (gather q .rules)) (sym (records-at s p m x h l r))
 
 pub find-end : (s : List ℕ) (v : List Value) (e : Event) (f : Found) (p : ℕ) → length s ≤ p → choice (rulesFound s f) ≡ Finds s v e f p
 unfolding gather enabledRules
-find-end s v e f p h = rw (records-end s p h, append-nil)
-
--- ---- the loop over the heads listed: i of n are looked at
-module _ (s : List ℕ) (v : List Value) (e : Event) (f : Found) (p : ℕ) (h : HeadAt s p) (a : Bool) (g : a ≡ isAsked e (headIn s p)) where
-  found-by-head : Finds s v e (foundRule s v e f (p + 11) (headIn s p)) (p + 11) ≡ Finds s v e f p
-  unfolding foundAfter
-  found-by-head = rw (head-records s p (h .kind) (h .within)) (find-step s v e f (p + 11) (Head (headIn s p)))
-
-  pub head-not-asked : a ≡ false → Finds s v e f (p + 11) ≡ Finds s v e f p
-  head-not-asked z = rw (← found-other s v e f (p + 11) (headIn s p) a g z) at found-by-head
-
-  pub head-asked : a ≡ true → (r : Found) → r ≡ foundHere s v f p → Finds s v e r (p + 11) ≡ Finds s v e f p
-  unfolding foundHere foundRule
-  head-asked z r k = rw (k) (rw (← g, z) at found-by-head)
-
--- i of the n heads listed are looked at; what stands after the list is left open
-abbrev pub FindsOn : List ℕ → List ℕ → ℕ → List Value → Event → Found → ℕ → Type 0
-FindsOn s place n v e f i =
-    (rest : ℕ) → Listed s place n rest → Finds s v e f (placeOf place n rest i) ≡ choice (enabledRules v (e .kind) (e .id) (tableOf s .rules))
-
-module _ (s place : List ℕ) (n : ℕ) (v : List Value) (e : Event) where
-  pub finds-begin : (f : Found) → f .count ≡ 0 → FindsOn s place n v e f 0
-  unfolding rulesFound
-  finds-begin f z rest l =
-      rw (eq-eqb (f .count) 0 z) (ap (λ (r : List Rule). choice (enabledRules v (e .kind) (e .id) r)) (l .first))
-
-  module _ (f g : Found) (i : ℕ) (h : i < n) (k : Finds s v e g (getD place i 0 + 11) ≡ Finds s v e f (getD place i 0)) where
-    pub finds-next : FindsOn s place n v e f i → FindsOn s place n v e g (i + 1)
-    finds-next a rest l =
-        ap (λ (r : List Rule). choice (rulesFound s g ++ enabledRules v (e .kind) (e .id) r)) (sym (l .next i h)) ∙
-        k ∙ (rw (lt-ltb i n h) at (a rest l))
-
-  pub finds-end : (f : Found) (i rest : ℕ) → n ≤ i → Listed s place n rest → FindsOn s place n v e f i →
-      Finds s v e f rest ≡ choice (enabledRules v (e .kind) (e .id) (tableOf s .rules))
-  finds-end f i rest h l a = rw (le-ltb i n h) at (a rest l)
+find-end s v e f p h =
+    let q : FindsIn s v e f [] ≡ choice (rulesFound s f) = rw append-nil in
+    sym q ∙ ap (λ (r : List Record). FindsIn s v e f (gather r .rules)) (sym (records-end s p h))
 
 -- ---- rules that stop a tick: k is the event kind of the rule
 unfoldable pub ruleStops : List ℕ → List Value → ℕ → ℕ → Bool

@@ -1,10 +1,14 @@
 pub mod Rules
 pub mod Machine
+pub mod Runs
+pub mod Index
 pub mod RuleLaws
 pub mod Bits
 pub mod Places
 pub mod Enabled
 pub mod Ticking
 pub mod Guards
+pub mod IndexLaws
+pub mod ByIndex
 pub mod Applied
 pub mod Running

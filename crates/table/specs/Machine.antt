@@ -30,8 +30,8 @@ startVariables t = record { value = begun (t .initial) (replicate variables (nat
 abbrev pub refuse : Cause → Variables → Stepped
 refuse c s = record { answer = c; state = s }
 
-abbrev pub take : List Value → Stepped
-take v = record { answer = None; state = record { value = v } }
+abbrev pub accept : List Value → Stepped
+accept v = record { answer = None; state = record { value = v } }
 
 -- "length outside": for START alone
 unfoldable pub allowsLength : Event → Rule → Bool
@@ -42,7 +42,7 @@ unfoldable pub fire : Variables → Event → List Rule → Stepped
 fire s e [] = refuse NotEnabled s
 fire s e (r ∷ []) =
     let w = writes (e .amount) (s .value) (r .updates) in
-    cond (allowsLength e r) (cond (inconsistent w) (refuse InconsistentUpdates s) (take (written w (s .value)))) (refuse NotEnabled s)
+    cond (allowsLength e r) (cond (inconsistent w) (refuse InconsistentUpdates s) (accept (written w (s .value)))) (refuse NotEnabled s)
 fire s e (r ∷ q ∷ l) = refuse ConflictingRules s
 
 -- "any enabled rule not of kind 08 stops it"
@@ -50,15 +50,15 @@ unfoldable pub isBusy : List Value → List Rule → Bool
 isBusy v [] = false
 isBusy v (r ∷ l) = (not (eqb (r .head .kind) requestKind) && isEnabled v r) || isBusy v l
 
-abbrev pub now : List Value → Value
-now v = valueOf v nowVar
+abbrev pub nowIn : List Value → Value
+nowIn v = valueOf v nowVar
 
 -- "TICK is as above": n ticks more, where s is the state before all of them; "10 stands before 11 at each tick"
 unfoldable pub ticks : List Rule → Variables → ℕ → List Value → Stepped
-ticks rules s zero v = take v
+ticks rules s zero v = accept v
 ticks rules s (suc n) v =
-    let r = ticks rules s n (store variables v nowVar (plus (now v) (natural 1))) in
-    cond (isBusy v rules) (refuse NotEnabled s) (cond (lessValue (now v) (natural lastClock)) r (refuse LastClock s))
+    let r = ticks rules s n (store variables v nowVar (plus (nowIn v) (natural 1))) in
+    cond (isBusy v rules) (refuse NotEnabled s) (cond (lessValue (nowIn v) (natural lastClock)) r (refuse LastClock s))
 
 -- one event on the rules
 unfoldable pub step : List Rule → Variables → Event → Stepped
@@ -72,7 +72,7 @@ machineOf rules = record { answer = λ s e. step rules s e .answer; after = λ s
 
 -- the clock that a listing shows
 abbrev pub clockOf : Variables → ℕ
-clockOf s = bitsOf (now (s .value) .0)
+clockOf s = bitsOf (nowIn (s .value) .0)
 
 -- the run of the table that bytes hold, from its start
 unfoldable pub runTable : List ℕ → List ℕ → Ended Variables

@@ -5,8 +5,7 @@ use mathlib.Core.List.{List, [], _∷_}
 use Prim.Native.Nat.{ℕ, zero, suc, _+_, _-_, _<_, _≤_}
 use native.Mathlib.Nat.{sub-zero}
 use native.Mathlib.Omega.{arith}
-use lib.ListN.{length, drop, replicate}
-use lib.ListN as lists
+use lib.ListN.{length, take, drop, replicate}
 use lib.Dec.{eqb, leb}
 use borrow.Author.Tests.{eq-eqb, ne-eqb, not-true, not-false}
 use Rattle.numbers.specs.declared.Value.{Value}
@@ -20,7 +19,6 @@ use Rattle.records.specs.declared.Event.{Event}
 use Rattle.records.specs.Format.{partLengthAt}
 use Rattle.records.specs.Events.{tickKind, isBroken, lastClock}
 use Rattle.records.specs.Refusals.{numberOf, isNone}
-use Rattle.records.specs.Run.{Ended, Tally}
 use Rattle.table_format.specs.declared.InitialValue.{InitialValue}
 use Rattle.table_format.specs.declared.RuleHead.{RuleHead}
 use Rattle.table_format.specs.declared.Record.{Record}
@@ -31,22 +29,15 @@ use Rattle.table_format.specs.Table.{Rule, gather, tableOf}
 use Rattle.table_format.specs.Laws.{kindOf, records-at, records-end}
 use Rattle.table.specs.declared.Variables.{Variables}
 use Rattle.table.specs.declared.Stepped.{Stepped}
-use Rattle.table.specs.declared.Ran.{Ran}
-use Rattle.table.specs.declared.Tallied.{Tallied}
 use Rattle.table.specs.declared.Found.{Found}
 use Rattle.table.specs.Rules.{enabledRules, Write, writes, inconsistent, written}
-use Rattle.table.specs.Machine.{begun, startVariables, refuse, take, allowsLength, fire, isBusy, now, ticks, step}
-use Rattle.table.specs.Bits.{values, values-zero, values-store}
+use Rattle.table.specs.Machine.{begun, startVariables, refuse, accept, allowsLength, fire, isBusy, nowIn, ticks, step}
+use Rattle.table.specs.Runs.{values, variablesOf, steppedTo}
+use Rattle.table.specs.Index.{ruleAt}
+use Rattle.table.specs.Bits.{values-zero, values-store}
 use Rattle.table.specs.Ticking.{oneTick, later, later-next, clock-back, first-before, first-at}
-use Rattle.table.specs.Enabled.{ruleAt, Choice, none, one, several, choice, rulesFound}
+use Rattle.table.specs.Enabled.{Choice, none, one, several, choice, rulesFound}
 use Rattle.table.specs.Applied.{writesFrom, Result, headAllows}
-
--- the variables that bits stand for, and the answer of an event that leaves them
-abbrev pub variablesOf : List ℕ → Variables
-variablesOf v = record { value = values v }
-
-abbrev pub steppedTo : Cause → List ℕ → Stepped
-steppedTo c v = record { answer = c; state = variablesOf v }
 
 -- ---- the enabled rules decide
 firing : Variables → Event → Choice → Stepped
@@ -98,7 +89,7 @@ taken-not-refused h = let z : _≡_ {A = ℕ} 0 1 = cc in absurd (omega arith)
 ticks-same : (l : List Rule) (s : Variables) (n : ℕ) (v : List Value) → isNone (ticks l s n v .answer) ≡ false → ticks l s n v .state ≡ s
 unfolding ticks numberOf
 ticks-same l s zero v h = taken-not-refused h
-ticks-same l s (suc n) v h = go (isBusy v l) (lessValue (now v) (natural lastClock)) (ticks-same l s n (oneTick v)) h
+ticks-same l s (suc n) v h = go (isBusy v l) (lessValue (nowIn v) (natural lastClock)) (ticks-same l s n (oneTick v)) h
   where
     r : Stepped
     r = ticks l s n (oneTick v)
@@ -118,8 +109,8 @@ fire-same s e (r ∷ []) h = go (allowsLength e r) (inconsistent w) h
     w : List Write
     w = writes (e .amount) (s .value) (r .updates)
 
-    go : (a b : Bool) → isNone (cond a (cond b (refuse InconsistentUpdates s) (take (written w (s .value)))) (refuse NotEnabled s) .answer) ≡ false →
-        cond a (cond b (refuse InconsistentUpdates s) (take (written w (s .value)))) (refuse NotEnabled s) .state ≡ s
+    go : (a b : Bool) → isNone (cond a (cond b (refuse InconsistentUpdates s) (accept (written w (s .value)))) (refuse NotEnabled s) .answer) ≡ false →
+        cond a (cond b (refuse InconsistentUpdates s) (accept (written w (s .value)))) (refuse NotEnabled s) .state ≡ s
     go true true h = refl
     go true false h = taken-not-refused h
     go false b h = refl
@@ -164,7 +155,7 @@ module _ (t : List ℕ) (s : Variables) (e : Event) (p : ℕ) (h : RuleHead) (a 
         let i : inconsistent (writesFrom (e .amount) (values v) t p) ≡ true = sym (r .twice (λ x. omega arith)) ∙ eq-eqb c 1 y in
         rw (← g, z, f, i)
 
-    pub fire-takes : (c ≡ 1 → ⊥) → take (values v′) ≡ fire s e (ruleAt t p h ∷ [])
+    pub fire-takes : (c ≡ 1 → ⊥) → accept (values v′) ≡ fire s e (ruleAt t p h ∷ [])
     unfolding fire allowsLength headAllows
     fire-takes y =
         let n : c ≡ 2 → ⊥ = λ x. let q = r .wide x in omega arith in
@@ -196,7 +187,7 @@ module _ (l : List Rule) (s : Variables) (n q i : ℕ) (e : q ≡ firstBelow n (
   busy h b = rw (h, e) (first-at n (λ k. isBusy (later k (s .value)) l) (rw (← e) b))
 
   -- x is the clock
-  module _ (h : i < q) (x : Value) (g : x ≡ now (later i (s .value))) (c : Bool) (k : c ≡ not (lessValue x (natural lastClock))) where
+  module _ (h : i < q) (x : Value) (g : x ≡ nowIn (later i (s .value))) (c : Bool) (k : c ≡ not (lessValue x (natural lastClock))) where
     left : n - i ≡ suc (n - (i + 1))
     left = let w = within in omega arith
 
@@ -218,12 +209,12 @@ module _ (l : List Rule) (s : Variables) (n q i : ℕ) (e : q ≡ firstBelow n (
       let d : n - i ≡ suc (n - (i + 1)) = omega arith in
       rw (d, busy (omega arith) (omega arith)) at r
 
-  pub ticks-end : n ≤ i → take (later i (s .value)) ≡ ticks l s n (s .value)
+  pub ticks-end : n ≤ i → accept (later i (s .value)) ≡ ticks l s n (s .value)
   unfolding ticks
   ticks-end a = let d : n - i ≡ 0 = omega arith in rw d at r
 
 -- the bits w, where the clock x of the bits u is set back in bits v, i ticks later
-pub set-back : (u v w : List ℕ) (i k : ℕ) (x : Value) (c : Cause) → values v ≡ later i (values u) → x ≡ now (values u) → value (signed k) ≡ x →
+pub set-back : (u v w : List ℕ) (i k : ℕ) (x : Value) (c : Cause) → values v ≡ later i (values u) → x ≡ nowIn (values u) → value (signed k) ≡ x →
     w ≡ store variables v 0 k → steppedTo c w ≡ refuse c (variablesOf u)
 set-back u v w i k x c e f g h =
     let q : values w ≡ values u = ap values h ∙ values-store v 0 k ∙ rw (g, e, f) (clock-back i (values u)) in
@@ -267,7 +258,7 @@ pub start-begin : (s : List ℕ) → record { value = begun (gather (records (dr
 unfolding startVariables tableOf
 start-begin s = rw (values-zero 288)
 
-pub start-on : (s : List ℕ) (p m : ℕ) (x : Record) → p < length s → m ≡ partLengthAt notations.Table s p → x ≡ recordOf (lists.take (p + m - p) (drop p s)) →
+pub start-on : (s : List ℕ) (p m : ℕ) (x : Record) → p < length s → m ≡ partLengthAt notations.Table s p → x ≡ recordOf (take (p + m - p) (drop p s)) →
     (v w : List Value) → w ≡ initialAfter v x → begun (gather (records (drop (p + m) s)) .initial) w ≡ begun (gather (records (drop p s)) .initial) v
 start-on s p m x h e f v w g = rw (records-at s p m x h e f, g) (begun-step v x (records (drop (p + m) s)))
 
@@ -275,10 +266,3 @@ pub start-end : (s : List ℕ) (p : ℕ) (v : List Value) → length s ≤ p →
     _≡_ {A = Variables} (record { value = v }) (record { value = begun (gather (records (drop p s)) .initial) v })
 unfolding begun gather
 start-end s p v h = rw (records-end s p h)
-
--- ---- a run's end, as the definitions have it
-abbrev pub endedOf : Ran → Ended Variables
-endedOf r = record { taken = r .taken; refusal = r .refusal; state = r .state }
-
-abbrev pub tallyOf : Tallied → Tally Variables
-tallyOf r = record { taken = r .taken; refused = r .refused; state = r .state }

@@ -6,9 +6,9 @@ use Prim.Native.Nat.{ℕ, zero, suc, _+_, _-_, _<_, _≤_}
 use native.Mathlib.Omega.{arith}
 use native.Mathlib.Decide.{decLt, ℕ-discrete}
 use native.Mathlib.Numerals.{add-one}
-use lib.ListN.{getD, length, take, drop}
+use lib.ListN.{length, take, drop}
 use lib.Dec.{eqb, ltb}
-use borrow.Author.Tests.{ne-eqb, lt-ltb, le-ltb, eqb-false, ltb-true, ltb-false}
+use borrow.Author.Tests.{ne-eqb, eqb-false, ltb-true, ltb-false}
 use borrow.Author.Count.{below-more}
 use Rattle.numbers.specs.declared.Value.{Value}
 use Rattle.numbers.specs.Lists.{store, firstBelow}
@@ -23,16 +23,16 @@ use Rattle.table_format.specs.declared.Record.{Record}
 use Rattle.table_format.specs.declared.Record.the-variants.{Head}
 use Rattle.table_format.specs.Variables.{variables, nowVar}
 use Rattle.table_format.specs.Format.{recordOf, records}
-use Rattle.table_format.specs.Table.{Rule, gather, tableOf}
+use Rattle.table_format.specs.Table.{Rule, gather}
 use Rattle.table_format.specs.Laws.{kindOf, records-at, records-end}
 use Rattle.table.specs.Rules.{valueOf, operandValue, holds, clauseHolds, allHold}
-use Rattle.table.specs.Machine.{isBusy, now}
-use Rattle.table.specs.Places.{head-records, HeadAt, headIn, head-kind, rulesFrom, placeOf, Listed}
-use Rattle.table.specs.Enabled.{clausesAt, readsClock, passes, somePasses, allPass, ruleStops, stopsTick, stops-never, busy-step}
+use Rattle.table.specs.Machine.{isBusy, nowIn}
+use Rattle.table.specs.Index.{clausesAt, rulesFrom}
+use Rattle.table.specs.Enabled.{readsClock, passes, somePasses, allPass, ruleStops, stopsTick, stops-never, busy-step}
 
 -- the variables one tick later, and i ticks later
 abbrev pub oneTick : List Value → List Value
-oneTick v = store variables v nowVar (plus (now v) (natural 1))
+oneTick v = store variables v nowVar (plus (nowIn v) (natural 1))
 
 unfoldable pub later : ℕ → List Value → List Value
 later zero v = v
@@ -47,7 +47,7 @@ unfolding later
 later-none v = refl
 
 -- ---- only the clock changes
-ticked : (l w : List Value) → w ≡ now w ∷ l → oneTick w ≡ now (oneTick w) ∷ l
+ticked : (l w : List Value) → w ≡ nowIn w ∷ l → oneTick w ≡ nowIn (oneTick w) ∷ l
 ticked l [] e = let n : _≡_ {A = ℕ} 0 (suc (length l)) = ap length e in absurd (omega arith)
 ticked l (x ∷ k) e = ap (λ (w : List Value). plus x (natural 1) ∷ drop 1 w) e
 
@@ -56,13 +56,13 @@ unfolding later
 later-empty zero = refl
 later-empty (suc i) = ap oneTick (later-empty i)
 
-later-head : (i : ℕ) (x : Value) (l : List Value) → later i (x ∷ l) ≡ now (later i (x ∷ l)) ∷ l
+later-head : (i : ℕ) (x : Value) (l : List Value) → later i (x ∷ l) ≡ nowIn (later i (x ∷ l)) ∷ l
 unfolding later
 later-head zero x l = refl
 later-head (suc i) x l = ticked l (later i (x ∷ l)) (later-head i x l)
 
 -- so the variables come back with the clock
-pub clock-back : (i : ℕ) (v : List Value) → store variables (later i v) nowVar (now v) ≡ v
+pub clock-back : (i : ℕ) (v : List Value) → store variables (later i v) nowVar (nowIn v) ≡ v
 clock-back i [] = ap (λ (w : List Value). store variables w nowVar (natural 0)) (later-empty i)
 clock-back i (x ∷ l) = ap (λ (w : List Value). store variables w nowVar x) (later-head i x l)
 
@@ -70,7 +70,7 @@ pub later-other : (i : ℕ) (v : List Value) (j : ℕ) → eqb j nowVar ≡ fals
 unfolding later
 later-other zero v j h = refl
 later-other (suc i) v j h =
-    item-store-other variables (later i v) nowVar j (plus (now (later i v)) (natural 1)) (natural 0) (eqb-false j nowVar h) ∙ later-other i v j h
+    item-store-other variables (later i v) nowVar j (plus (nowIn (later i v)) (natural 1)) (natural 0) (eqb-false j nowVar h) ∙ later-other i v j h
 
 later-operand : (i : ℕ) (v : List Value) (o : Operand) → (eqb (o .tag) 1 && eqb (bitsOf (o .value .0)) nowVar) ≡ false →
     operandValue 0 (later i v) o ≡ operandValue 0 v o
@@ -110,7 +110,7 @@ clause-fails i v [] h = refl
 clause-fails i v (a ∷ l) h =
     rw (atom-fails i v a (or-left (passes true v a) (somePasses true v l) h), clause-fails i v l (or-right (passes true v a) (somePasses true v l) h))
 
-and-false : (b : Bool) → (b && false) ≡ false
+pub and-false : (b : Bool) → (b && false) ≡ false
 and-false true = refl
 and-false false = refl
 
@@ -149,7 +149,7 @@ first-at (suc n) p h = go (first-at n p) (ltb (firstBelow n p) n) (p n) refl ref
     go ih false false e f l = absurd (omega arith)
 
 -- the first that passes either
-first-or : (n : ℕ) (p q : ℕ → Bool) → firstBelow (firstBelow n p) q ≡ firstBelow n (λ i. p i || q i)
+pub first-or : (n : ℕ) (p q : ℕ → Bool) → firstBelow (firstBelow n p) q ≡ firstBelow n (λ i. p i || q i)
 first-or n p q = sym (go (decLt k m) (decLt m n))
   where
     m : ℕ
@@ -177,7 +177,7 @@ first-or n p q = sym (go (decLt k m) (decLt m n))
         let e : k ≡ n = let w = within in omega arith in
         rw e (first-none n (λ i. p i || q i) (λ j c. both j (let w = within in omega arith) (omega arith)))
 
-first-same : (n : ℕ) (p q : ℕ → Bool) → ((i : ℕ) → p i ≡ q i) → firstBelow n p ≡ firstBelow n q
+pub first-same : (n : ℕ) (p q : ℕ → Bool) → ((i : ℕ) → p i ≡ q i) → firstBelow n p ≡ firstBelow n q
 first-same n p q h = ap (firstBelow n) (λ t i. h i t)
 
 -- ---- one rule: n is how many ticks are looked at
@@ -239,9 +239,12 @@ pub record-first : (s : List ℕ) (v : List Value) (n q : ℕ) (x : Record) (h :
 unfolding stopsTick
 record-first s v n q x h e = rw e
 
--- how many of n ticks are quiet, as far as the rules from p on tell
+-- how many of n ticks are quiet, as far as the rules l tell, and as far as those from p on do
+abbrev pub quietIn : List Value → ℕ → List Rule → ℕ
+quietIn v n l = firstBelow n (λ i. isBusy (later i v) l)
+
 abbrev pub quietFrom : List ℕ → List Value → ℕ → ℕ → ℕ
-quietFrom s v n p = firstBelow n (λ i. isBusy (later i v) (gather (records (drop p s)) .rules))
+quietFrom s v n p = quietIn v n (rulesFrom s p)
 
 pub quiet-on : (s : List ℕ) (p m : ℕ) (x : Record) → p < length s → m ≡ partLengthAt notations.Table s p → x ≡ recordOf (take (p + m - p) (drop p s)) →
     (v : List Value) (n k : ℕ) → k ≡ firstBelow n (λ i. stopsTick s (later i v) (p + m) x) → quietFrom s v k (p + m) ≡ quietFrom s v n p
@@ -251,39 +254,6 @@ quiet-on s p m x h e f v n k g =
     first-same n (λ i. stopsTick s (later i v) (p + m) x || isBusy (later i v) (gather (records (drop (p + m) s)) .rules))
     (λ i. isBusy (later i v) (gather (records (drop p s)) .rules))
     (λ i. rw (records-at s p m x h e f) (sym (busy-step s (later i v) (p + m) x))))
-
--- over the heads listed: k is the event kind of the rule whose head stands at p
-pub quiet-head : (s : List ℕ) (p k : ℕ) (h : HeadAt s p) → k ≡ getD s (p + 1) 0 → (v : List Value) (n r : ℕ) →
-    r ≡ firstBelow n (λ i. ruleStops s (later i v) (p + 11) k) → quietFrom s v r (p + 11) ≡ quietFrom s v n p
-unfolding stopsTick
-quiet-head s p k h e v n r g =
-    rw g
-    (first-or n (λ i. ruleStops s (later i v) (p + 11) k) (λ i. isBusy (later i v) (rulesFrom s (p + 11))) ∙
-    first-same n (λ i. ruleStops s (later i v) (p + 11) k || isBusy (later i v) (rulesFrom s (p + 11))) (λ i. isBusy (later i v) (rulesFrom s p)) same)
-  where
-    same : (i : ℕ) → (ruleStops s (later i v) (p + 11) k || isBusy (later i v) (rulesFrom s (p + 11))) ≡ isBusy (later i v) (rulesFrom s p)
-    same i =
-        ap (λ (j : ℕ). ruleStops s (later i v) (p + 11) j || isBusy (later i v) (rulesFrom s (p + 11))) (e ∙ head-kind s p h) ∙
-        sym (busy-step s (later i v) (p + 11) (Head (headIn s p))) ∙
-        ap (λ (l : List Record). isBusy (later i v) (gather l .rules)) (sym (head-records s p (h .kind) (h .within)))
-
--- i of the c heads listed are looked at, k is how many of n ticks are left; what stands after the list is left open
-abbrev pub QuietOn : List ℕ → List ℕ → ℕ → List Value → ℕ → ℕ → ℕ → Type 0
-QuietOn s place c v n k i =
-    (rest : ℕ) → Listed s place c rest → quietFrom s v k (placeOf place c rest i) ≡ firstBelow n (λ j. isBusy (later j v) (tableOf s .rules))
-
-module _ (s place : List ℕ) (c : ℕ) (v : List Value) (n : ℕ) where
-  pub quiet-begin : QuietOn s place c v n n 0
-  quiet-begin rest l = ap (λ (r : List Rule). firstBelow n (λ j. isBusy (later j v) r)) (l .first)
-
-  pub quiet-next : (k r i : ℕ) → i < c → quietFrom s v r (getD place i 0 + 11) ≡ quietFrom s v k (getD place i 0) →
-      QuietOn s place c v n k i → QuietOn s place c v n r (i + 1)
-  quiet-next k r i h e a rest l =
-      ap (λ (x : List Rule). firstBelow r (λ j. isBusy (later j v) x)) (sym (l .next i h)) ∙ e ∙ (rw (lt-ltb i c h) at (a rest l))
-
-  pub quiet-listed : (k i rest : ℕ) → c ≤ i → Listed s place c rest → QuietOn s place c v n k i →
-      quietFrom s v k rest ≡ firstBelow n (λ j. isBusy (later j v) (tableOf s .rules))
-  quiet-listed k i rest h l a = rw (le-ltb i c h) at (a rest l)
 
 pub quiet-end : (s : List ℕ) (v : List Value) (n p : ℕ) → length s ≤ p → n ≡ quietFrom s v n p
 unfolding isBusy gather

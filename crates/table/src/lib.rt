@@ -13,6 +13,7 @@ ghost use mathlib.Core.Bool.{true, false, not};
 ghost use mathlib.Core.List.{[], _∷_};
 ghost use Prim.Native.Nat.{_<_};
 ghost use lib.ListN.{getD, set, length};
+ghost use lib.Seq.{sets};
 ghost use Rattle.numbers.specs.Lists.{store, firstBelow};
 ghost use Rattle.numbers.specs.Values.{value, signed, natural, plus, lessValue};
 ghost use Rattle.records.specs.Events.{lastClock};
@@ -21,13 +22,15 @@ ghost use Rattle.table_format.specs.Format.{recordOf, atomOf, updateOf};
 ghost use Rattle.table_format.specs.Table.{tableOf};
 ghost use Rattle.table.specs.Rules as rules;
 ghost use Rattle.table.specs.Machine as machine;
-ghost use Rattle.table.specs.Bits.{values};
-ghost use Rattle.table.specs.Places.{HeadAt, headIn, Listed};
-ghost use Rattle.table.specs.Guards.{mayHold, Asks, Guards, Guarded};
-ghost use Rattle.table.specs.Enabled.{passes, allPass, clausesAt, isAsked, oneMore, ruleAt, rulesFound, choice, foundRule, foundAfter, foundHere, Finds, ruleStops, stopsTick};
-ghost use Rattle.table.specs.Ticking.{oneTick, later, quietFrom};
+ghost use Rattle.table.specs.Runs.{values, variablesOf, steppedTo, endedOf, tallyOf};
+ghost use Rattle.table.specs.Index.{clausesAt, ruleAt, isHead, keyOf, keyAt, askedIn, guardAt, fewer, roomFor, headsListed, entriesListed, guardsListed, isListed, rulesIn, stepBy};
+ghost use Rattle.table.specs.Places.{HeadAt};
+ghost use Rattle.table.specs.Guards.{mayHold};
+ghost use Rattle.table.specs.Enabled.{passes, allPass, isAsked, foundOneMore, rulesFound, choice, foundRule, foundAfter, Finds, ruleStops, stopsTick};
+ghost use Rattle.table.specs.Ticking.{oneTick, later, quietIn, quietFrom};
+ghost use Rattle.table.specs.ByIndex.{foundListed, FindsListed, listedStops, QuietListed};
 ghost use Rattle.table.specs.Applied.{Unmarked, writesFrom, Applied, Result, headAllows};
-ghost use Rattle.table.specs.Running.{initialAfter, endedOf, tallyOf, variablesOf, steppedTo};
+ghost use Rattle.table.specs.Running.{initialAfter};
 
 // The environment variables by number.
 pub struct Variables {
@@ -205,26 +208,46 @@ fn is_enabled(t: &[u8], from: usize, v: &[u32; 288]) -> bool
     all_pass(t, from, false, v)
 }
 
-// ---- the heads of rules
-// The rules of a table in order: the places of the first `listed` heads stand in a list beside the table, the other rules are among the records
-// from `rest` on.
+// ---- the list of rule heads
+// The rules of a table in order: two words for each of the first `listed` heads stand in lists beside the table, the other rules are among the
+// records from `rest` on. One word is the head's place times 65536 and its key, the other its guard.
 pub struct Heads {
     pub listed: usize,
     pub rest: usize,
 }
 
-fn listed(n: usize, rest: usize) -> Heads
-    ensures { λ r. ⌜ r ≡ record { listed = n; rest = rest } ⌝ }
+// Whether a rule's head stands whole at a place.
+fn is_head(t: &[u8], at: usize) -> bool
+    ensures { λ r. ⌜ r ≡ isHead (now (t .entry)) at ⌝ }
 {
-    Heads {
-        listed: n,
-        rest: rest,
+    if t.len() < 11 {
+        return false;
     }
+    if t.len() - 11 < at {
+        return false;
+    }
+    t[at] == 33
+}
+
+// An event kind and an id as one number.
+fn key_of(kind: u8, id: u8) -> usize
+    ensures { λ r. ⌜ r ≡ keyOf kind id ⌝ }
+{
+    let k = numbers::usize_of_u8(kind);
+    let i = numbers::usize_of_u8(id);
+    256 * (k % 256) + i % 256
+}
+
+fn key_at(t: &[u8], at: usize) -> usize
+    requires { ⌜ HeadAt (now t) at ⌝ }
+    ensures { λ r. ⌜ r ≡ keyAt (now (t .entry)) at ⌝ }
+{
+    key_of(t[at + 1], t[at + 2])
 }
 
 // What an atom asks its variable for, where it is variable = constant: the variable's number times 2^32, and the constant's bits. Else 0.
 fn asked_in(x: &[u8]) -> usize
-    ensures { λ r. ⌜ Asks (now (x .entry)) r ⌝ }
+    ensures { λ r. ⌜ r ≡ askedIn (now (x .entry)) ⌝ }
 {
     let op = numbers::byte_at(x, 1);
     if op != 0 {
@@ -235,13 +258,14 @@ fn asked_in(x: &[u8]) -> usize
         return 0;
     }
     let j = numbers::usize_of_u16(numbers::u16_at(x, 2));
-    let n = numbers::usize_of_u32(numbers::u32_at(x, 5));
+    let y = numbers::value_at(x, 5);
+    let n = numbers::usize_of_u32(numbers::bits(y));
     4294967296 * j + n
 }
 
 // The same of the first clause of a rule whose records after its head begin at p, where it is one atom: its guard.
 fn guard_of(t: &[u8], p: usize) -> usize
-    ensures { λ r. ⌜ Guards (now (t .entry)) p r ⌝ }
+    ensures { λ r. ⌜ r ≡ guardAt (now (t .entry)) p ⌝ }
 {
     if t.len() <= p {
         return 0;
@@ -277,36 +301,72 @@ fn may_hold(v: &[u32; 288], guard: usize) -> bool
     numbers::same(x, numbers::value_of(n))
 }
 
-// The list of a table's heads with their guards, as far as there is room: a run makes it once, and walks the table no more.
-pub fn list_heads(t: &[u8], place: &mut [usize], guard: &mut [usize]) -> Heads
-    ensures { λ r. ⌜ Listed (now (t .entry)) (now (place .exit)) (r .listed) (r .rest) × Guarded (now (t .entry)) (now (place .exit)) (now (guard .exit)) (r .listed) ⌝ }
+fn fewer(n: usize, m: usize) -> usize
+    ensures { λ r. ⌜ r ≡ fewer n m ⌝ }
 {
+    if n < m {
+        return n;
+    }
+    m
+}
+
+// How many heads are listed at most, where the lists have room for n and for m words.
+fn room_for(t: &[u8], n: usize, m: usize) -> usize
+    ensures { λ r. ⌜ r ≡ roomFor (now (t .entry)) n m ⌝ }
+{
+    if 1000000 < t.len() {
+        return 0;
+    }
+    fewer(n, m)
+}
+
+// The list of a table's heads, as far as there is room in both lists: a run makes it once, and walks the table no more.
+pub fn list_heads(t: &[u8], place: &mut [usize], guard: &mut [usize]) -> Heads
+    ensures { λ r. ⌜ (r ≡ headsListed (now (t .entry)) (length (now (place .entry))) (length (now (guard .entry)))) × (now (place .exit) ≡ sets (now (place .entry)) 0 (entriesListed (now (t .entry)) (length (now (place .entry))) (length (now (guard .entry))))) × (now (guard .exit) ≡ sets (now (guard .entry)) 0 (guardsListed (now (t .entry)) (length (now (place .entry))) (length (now (guard .entry))))) ⌝ }
+{
+    let room = room_for(t, place.len(), guard.len());
     let mut n: usize = 0;
     let mut at: usize = 0;
     while at < t.len() {
-        if t[at] == 33 {
-            if place.len() <= n {
-                return listed(n, at);
-            }
-            if guard.len() <= n {
-                return listed(n, at);
-            }
-            if t.len() - at < 11 {
-                return listed(n, at);
-            }
-            place[n] = at;
-            guard[n] = guard_of(t, at + 11);
-            n += 1;
-            at += 11;
+        if !is_head(t, at) {
+            let w = Notation::Table;
+            at += records::part_length_at(w, t, at);
             continue;
         }
-        let w = Notation::Table;
-        at += records::part_length_at(w, t, at);
+        if room <= n {
+            return Heads {
+                listed: n,
+                rest: at,
+            };
+        }
+        place[n] = 65536 * at + key_at(t, at);
+        guard[n] = guard_of(t, at + 11);
+        n += 1;
+        at += 11;
     }
-    listed(n, at)
+    Heads {
+        listed: n,
+        rest: at,
+    }
 }
 
-// The enabled rules of an event's kind and id: none, one or more (`count` 0, 1, 2). Of the last one its head, and the place after that.
+// Whether two words list a rule: both are those of the head at their place.
+fn is_listed(t: &[u8], word: usize, guard: usize) -> bool
+    ensures { λ r. ⌜ r ≡ isListed (now (t .entry)) word guard ⌝ }
+{
+    let at = word / 65536;
+    if !is_head(t, at) {
+        return false;
+    }
+    let k = key_at(t, at);
+    if k != word % 65536 {
+        return false;
+    }
+    guard_of(t, at + 11) == guard
+}
+
+// ---- the enabled rules of an event
+// Those of its kind and id: none, one or more (`count` 0, 1, 2). Of the last one its head, and the place after that.
 struct Found {
     count: usize,
     place: usize,
@@ -321,8 +381,8 @@ fn is_asked(e: Event, h: RuleHead) -> bool
     (k == e.kind) & (i == e.id)
 }
 
-fn one_more(f: Found, place: usize, h: RuleHead) -> Found
-    ensures { λ r. ⌜ r ≡ oneMore f place h ⌝ }
+fn found_one_more(f: Found, place: usize, h: RuleHead) -> Found
+    ensures { λ r. ⌜ r ≡ foundOneMore f place h ⌝ }
 {
     let n = f.count;
     if n == 0 {
@@ -349,7 +409,7 @@ fn found_rule(t: &[u8], v: &[u32; 288], e: Event, f: Found, next: usize, h: Rule
     if !is_enabled(t, next, v) {
         return f;
     }
-    one_more(f, next, h)
+    found_one_more(f, next, h)
 }
 
 fn found_after(t: &[u8], v: &[u32; 288], e: Event, f: Found, next: usize, x: &[u8]) -> Found
@@ -377,32 +437,25 @@ fn find_from(t: &[u8], from: usize, v: &[u32; 288], e: Event, before: Found) -> 
     f
 }
 
-// Whether the rule whose head stands at `at` is for the event.
-fn is_for(t: &[u8], at: usize, e: Event) -> bool
-    requires { ⌜ HeadAt (now t) at ⌝ }
-    ensures { λ r. ⌜ r ≡ isAsked e (headIn (now (t .entry)) at) ⌝ }
+// What is found where the rule that two words list is looked at too. One whose guard fails is not enabled.
+fn found_listed(t: &[u8], v: &[u32; 288], e: Event, f: Found, word: usize, guard: usize) -> Found
+    ensures { λ r. ⌜ r ≡ foundListed (now (t .entry)) (values (now (v .entry))) e f word guard ⌝ }
 {
-    let k = t[at + 1];
-    let i = t[at + 2];
-    (k == e.kind) & (i == e.id)
-}
-
-// What is found where that rule, one for the event, is looked at too.
-fn found_at(t: &[u8], v: &[u32; 288], f: Found, at: usize) -> Found
-    requires { ⌜ HeadAt (now t) at ⌝ }
-    ensures { λ r. ⌜ r ≡ foundHere (now (t .entry)) (values (now (v .entry))) f at ⌝ }
-{
-    let next = at + 11;
-    if !is_enabled(t, next, v) {
+    if !may_hold(v, guard) {
         return f;
     }
-    one_more(f, next, table_format::head_of(&t[at..next]))
+    if !is_listed(t, word, guard) {
+        return f;
+    }
+    let at = word / 65536;
+    let next = at + 11;
+    found_rule(t, v, e, f, next, table_format::head_of(&t[at..next]))
 }
 
-// The enabled rules of an event among the rules listed.
-fn find_listed(t: &[u8], place: &[usize], heads: Heads, v: &[u32; 288], e: Event) -> Found
-    requires { ⌜ Listed (now t) (now place) (heads .listed) (heads .rest) ⌝ }
-    ensures { λ r. ⌜ Finds (now (t .entry)) (values (now (v .entry))) e r (heads .rest) ≡ choice (rules.enabledRules (values (now (v .entry))) (e .kind) (e .id) (tableOf (now (t .entry)) .rules)) ⌝ }
+// The enabled rules of an event among the rules listed. Words of another key are passed over.
+fn find_listed(t: &[u8], place: &[usize], guard: &[usize], v: &[u32; 288], e: Event) -> Found
+    requires { ⌜ length (now place) ≡ length (now guard) ⌝ }
+    ensures { λ r. ⌜ FindsListed (now (t .entry)) (values (now (v .entry))) e r (now (place .entry)) (now (guard .entry)) ⌝ }
 {
     let h = RuleHead {
         kind: 0,
@@ -415,27 +468,26 @@ fn find_listed(t: &[u8], place: &[usize], heads: Heads, v: &[u32; 288], e: Event
         place: 0,
         head: h,
     };
-    let n = heads.listed;
+    let key = key_of(e.kind, e.id);
     let mut i: usize = 0;
-    while i < n {
-        let at = place[i];
-        if !is_for(t, at, e) {
+    while i < place.len() {
+        let w = place[i];
+        if w % 65536 != key {
             i += 1;
             continue;
         }
-        f = found_at(t, v, f, at);
+        f = found_listed(t, v, e, f, w, guard[i]);
         i += 1;
     }
     f
 }
 
 // The enabled rules of an event.
-fn find(t: &[u8], place: &[usize], heads: Heads, v: &[u32; 288], e: Event) -> Found
-    requires { ⌜ Listed (now t) (now place) (heads .listed) (heads .rest) ⌝ }
-    ensures { λ r. ⌜ choice (rulesFound (now (t .entry)) r) ≡ choice (rules.enabledRules (values (now (v .entry))) (e .kind) (e .id) (tableOf (now (t .entry)) .rules)) ⌝ }
+fn find(t: &[u8], place: &[usize], guard: &[usize], rest: usize, v: &[u32; 288], e: Event) -> Found
+    requires { ⌜ length (now place) ≡ length (now guard) ⌝ }
+    ensures { λ r. ⌜ choice (rulesFound (now (t .entry)) r) ≡ choice (rules.enabledRules (values (now (v .entry))) (e .kind) (e .id) (rulesIn (now (t .entry)) (now (place .entry)) (now (guard .entry)) rest)) ⌝ }
 {
-    let f = find_listed(t, place, heads, v, e);
-    let rest = heads.rest;
+    let f = find_listed(t, place, guard, v, e);
     find_from(t, rest, v, e, f)
 }
 
@@ -668,29 +720,32 @@ fn quiet_from(t: &[u8], from: usize, v: &[u32; 288], n: u32) -> u32
     limit
 }
 
-// And before some rule listed does.
-fn quiet_listed(
-    t: &[u8],
-    place: &[usize],
-    guard: &[usize],
-    heads: Heads,
-    v: &[u32; 288],
-    n: u32,
-) -> u32
-    requires { ⌜ Listed (now t) (now place) (heads .listed) (heads .rest) × Guarded (now t) (now place) (now guard) (heads .listed) ⌝ }
-    ensures { λ r. ⌜ quietFrom (now (t .entry)) (values (now (v .entry))) r (heads .rest) ≡ firstBelow n (λ i. machine.isBusy (later i (values (now (v .entry)))) (tableOf (now (t .entry)) .rules)) ⌝ }
+// After how many ticks the rule that two words list stops them.
+fn ticks_to_listed(t: &[u8], v: &[u32; 288], limit: u32, word: usize, guard: usize) -> u32
+    ensures { λ r. ⌜ r ≡ firstBelow limit (λ i. listedStops (now (t .entry)) (later i (values (now (v .entry)))) word guard) ⌝ }
 {
-    let count = heads.listed;
+    if !is_listed(t, word, guard) {
+        return limit;
+    }
+    let at = word / 65536;
+    let kind = t[at + 1];
+    ticks_to_rule(t, v, limit, at + 11, kind)
+}
+
+// How many of n ticks pass before some rule listed stops them. Words whose guard fails are passed over.
+fn quiet_listed(t: &[u8], place: &[usize], guard: &[usize], v: &[u32; 288], n: u32) -> u32
+    requires { ⌜ length (now place) ≡ length (now guard) ⌝ }
+    ensures { λ r. ⌜ QuietListed (now (t .entry)) (values (now (v .entry))) n (now (place .entry)) (now (guard .entry)) r ⌝ }
+{
     let mut limit = n;
     let mut i: usize = 0;
-    while i < count {
-        if !may_hold(v, guard[i]) {
+    while i < guard.len() {
+        let g = guard[i];
+        if !may_hold(v, g) {
             i += 1;
             continue;
         }
-        let at = place[i];
-        let kind = t[at + 1];
-        limit = ticks_to_rule(t, v, limit, at + 11, kind);
+        limit = ticks_to_listed(t, v, limit, place[i], g);
         i += 1;
     }
     limit
@@ -701,15 +756,14 @@ fn quiet_ticks(
     t: &[u8],
     place: &[usize],
     guard: &[usize],
-    heads: Heads,
+    rest: usize,
     v: &[u32; 288],
     n: u32,
 ) -> u32
-    requires { ⌜ Listed (now t) (now place) (heads .listed) (heads .rest) × Guarded (now t) (now place) (now guard) (heads .listed) ⌝ }
-    ensures { λ r. ⌜ r ≡ firstBelow n (λ i. machine.isBusy (later i (values (now (v .entry)))) (tableOf (now (t .entry)) .rules)) ⌝ }
+    requires { ⌜ length (now place) ≡ length (now guard) ⌝ }
+    ensures { λ r. ⌜ r ≡ quietIn (values (now (v .entry))) n (rulesIn (now (t .entry)) (now (place .entry)) (now (guard .entry)) rest) ⌝ }
 {
-    let m = quiet_listed(t, place, guard, heads, v, n);
-    let rest = heads.rest;
+    let m = quiet_listed(t, place, guard, v, n);
     quiet_from(t, rest, v, m)
 }
 
@@ -718,14 +772,14 @@ fn tick(
     t: &[u8],
     place: &[usize],
     guard: &[usize],
-    heads: Heads,
+    rest: usize,
     v: &mut [u32; 288],
     n: u32,
 ) -> Cause
-    requires { ⌜ Listed (now t) (now place) (heads .listed) (heads .rest) × Guarded (now t) (now place) (now guard) (heads .listed) ⌝ }
-    ensures { λ r. ⌜ steppedTo r (now (v .exit)) ≡ machine.ticks (tableOf (now (t .entry)) .rules) (variablesOf (now (v .entry))) n (values (now (v .entry))) ⌝ }
+    requires { ⌜ length (now place) ≡ length (now guard) ⌝ }
+    ensures { λ r. ⌜ steppedTo r (now (v .exit)) ≡ machine.ticks (rulesIn (now (t .entry)) (now (place .entry)) (now (guard .entry)) rest) (variablesOf (now (v .entry))) n (values (now (v .entry))) ⌝ }
 {
-    let quiet = quiet_ticks(t, place, guard, heads, v, n);
+    let quiet = quiet_ticks(t, place, guard, rest, v, n);
     let first = value_in(v, 0);
     let mut i: u32 = 0;
     while i < quiet {
@@ -743,26 +797,25 @@ fn tick(
     Cause::None
 }
 
-// One event on the table that the bytes t hold, whether or not they were accepted: `v` are the bits of the variables one event further, or as
-// they were where it is refused.
-pub fn step_on(
+// One event by the words of both lists, and by the rules of the records from `rest` on.
+fn step_listed(
     t: &[u8],
     place: &[usize],
     guard: &[usize],
-    heads: Heads,
+    rest: usize,
     v: &mut [u32; 288],
     e: Event,
 ) -> Cause
-    requires { ⌜ Listed (now t) (now place) (heads .listed) (heads .rest) × Guarded (now t) (now place) (now guard) (heads .listed) ⌝ }
-    ensures { λ r. ⌜ steppedTo r (now (v .exit)) ≡ machine.step (tableOf (now (t .entry)) .rules) (variablesOf (now (v .entry))) e ⌝ }
+    requires { ⌜ length (now place) ≡ length (now guard) ⌝ }
+    ensures { λ r. ⌜ steppedTo r (now (v .exit)) ≡ machine.step (rulesIn (now (t .entry)) (now (place .entry)) (now (guard .entry)) rest) (variablesOf (now (v .entry))) e ⌝ }
 {
     if records::is_broken(e) {
         return Cause::BrokenEvent;
     }
     if e.kind == 11 {
-        return tick(t, place, guard, heads, v, e.amount);
+        return tick(t, place, guard, rest, v, e.amount);
     }
-    let f = find(t, place, heads, v, e);
+    let f = find(t, place, guard, rest, v, e);
     let n = f.count;
     if n == 0 {
         return Cause::NotEnabled;
@@ -771,6 +824,24 @@ pub fn step_on(
         return fire(t, v, e, f);
     }
     Cause::ConflictingRules
+}
+
+// One event on the table that the bytes t hold, whether or not they were accepted, by lists of any content: `v` are the bits of the variables
+// one event further, or as they were where it is refused.
+pub fn step_on(
+    t: &[u8],
+    place: &[usize],
+    guard: &[usize],
+    heads: Heads,
+    v: &mut [u32; 288],
+    e: Event,
+) -> Cause
+    ensures { λ r. ⌜ steppedTo r (now (v .exit)) ≡ stepBy (now (t .entry)) (now (place .entry)) (now (guard .entry)) heads (variablesOf (now (v .entry))) e ⌝ }
+{
+    let words = fewer(place.len(), guard.len());
+    let n = fewer(heads.listed, words);
+    let rest = heads.rest;
+    step_listed(t, &place[..n], &guard[..n], rest, v, e)
 }
 
 // One event on variables by value. No rule is listed: the table is walked.

@@ -1,23 +1,24 @@
-use mathlib.Core.Path.{sym, _∙_, ap}
+use mathlib.Core.Path.{_≡_, sym, _∙_, ap}
 use Prim.Native.Nat.{_-_}
 use native.Mathlib.Omega.{arith}
-use lib.ListN.{length}
+use lib.ListN.{length, replicate}
 use borrow.Author.Tests.{not-true, not-false}
 use Rattle.records.specs.declared.Notation.the-variants.{Script}
 use Rattle.records.specs.Walk.{next-place}
 use Rattle.listing.specs.Listing.{listing}
 use Rattle.table_format.specs.Table.{tableOf}
 use Rattle.table.specs.Machine.{startVariables, clockOf, machineOf}
-use Rattle.table.specs.Places.{Listed}
-use Rattle.table.specs.Guards.{Guarded}
-use Rattle.table.specs.Running.{variablesOf, answer-of, state-of, refused-same}
+use Rattle.table.specs.Runs.{variablesOf}
+use Rattle.table.specs.Index.{rulesBy}
+use Rattle.table.specs.IndexLaws.{rules-by-heads, step-by-heads}
+use Rattle.table.specs.Running.{answer-of, state-of, refused-same}
 use Rattle.printing.specs.Runs.{Running, run-begin, run-on, run-refused, run-end}
 use borrow.Author.Needs.{needs}
 use Rattle.printing.proofs.run_table_listing.Statement.{statement}
 use Rattle.printing.proofs.run_table_listing.Tie as tie
 
 abbrev Inv-loop : tie.InvT-loop
-Inv-loop table script d₀ place guard heads v₀ taken₀ p₀ at₀ d v taken p at = (Listed table place (heads .listed) (heads .rest) × Guarded table place guard (heads .listed)) × Running (machineOf (tableOf table .rules)) clockOf script d₀ (listing (machineOf (tableOf table .rules)) clockOf (startVariables (tableOf table)) script) d at p (variablesOf v) taken
+Inv-loop table script d₀ place guard heads v₀ taken₀ p₀ at₀ d v taken p at = (rulesBy table place guard heads ≡ tableOf table .rules) × Running (machineOf (tableOf table .rules)) clockOf script d₀ (listing (machineOf (tableOf table .rules)) clockOf (startVariables (tableOf table)) script) d at p (variablesOf v) taken
 
 abbrev μ-loop : tie.MeasureT-loop
 μ-loop table script d₀ place guard heads v₀ taken₀ p₀ at₀ d v taken p at = length script - p
@@ -38,7 +39,7 @@ all-bits-requires : tie.Need-all-bits-requires Inv-loop μ-loop
 all-bits-requires c κs = search needs
 
 loop-holds : tie.Need-loop-holds Inv-loop μ-loop
-loop-holds c = (c .before .before .before .before .list-heads .ensures, rw (c .all-bits .ensures, c .before .start-variables .ensures) (run-begin _ _ _ _ _ (search needs) (search needs)))
+loop-holds c = (rules-by-heads _ (replicate 1024 0) (replicate 1024 0) _ _ _ (c .before .before .before .before .list-heads .ensures .0) (c .before .before .before .before .list-heads .ensures .1) (c .before .before .before .before .list-heads .ensures .2), rw (c .all-bits .ensures, c .before .start-variables .ensures) (run-begin _ _ _ _ _ (search needs) (search needs)))
 
 part-length-at-requires : tie.Need-part-length-at-requires Inv-loop μ-loop
 part-length-at-requires c κs = search needs
@@ -65,7 +66,7 @@ slice-aggregate-step-on-2 : tie.Need-slice-aggregate-step-on-2 Inv-loop μ-loop
 slice-aggregate-step-on-2 c = search needs
 
 step-on-requires : tie.Need-step-on-requires Inv-loop μ-loop
-step-on-requires c κs = c .before .before .before .before .before .before .before .loop .inv .0
+step-on-requires c κs = search needs
 
 is-none-requires : tie.Need-is-none-requires Inv-loop μ-loop
 is-none-requires c κs = search needs
@@ -80,7 +81,7 @@ same-length : tie.Need-same-length Inv-loop μ-loop
 same-length c = search needs
 
 returns : tie.Need-returns Inv-loop μ-loop
-returns c = run-refused _ _ _ (c .before .before .before .before .before .before .before .before .before .before .before .before .before .before .before .before .loop .inv .1) _ _ _ _ _ (c .before .before .before .before .before .before .before .before .before .before .before .before .before .before .before .loop-test .taken) (c .before .before .before .before .before .before .before .before .before .before .before .before .before .before .part-length-at .ensures) (c .before .before .before .before .before .before .before .before .before .before .before .before .event-of .ensures) (answer-of _ _ _ _ _ (c .before .before .before .before .before .before .before .before .step-on .ensures)) (c .before .before .before .before .before .before .before .is-none .ensures) (not-true _ (c .before .before .before .before .before .before .if1 .taken)) (c .before .before .before .clock-in .ensures ∙ ap clockOf (refused-same _ _ _ _ _ (c .before .before .before .before .before .before .before .before .step-on .ensures) (sym (c .before .before .before .before .before .before .before .is-none .ensures) ∙ not-true _ (c .before .before .before .before .before .before .if1 .taken)))) (c .before .before .put-last .ensures)
+returns c = run-refused _ _ _ (c .before .before .before .before .before .before .before .before .before .before .before .before .before .before .before .before .loop .inv .1) _ _ _ _ _ (c .before .before .before .before .before .before .before .before .before .before .before .before .before .before .before .loop-test .taken) (c .before .before .before .before .before .before .before .before .before .before .before .before .before .before .part-length-at .ensures) (c .before .before .before .before .before .before .before .before .before .before .before .before .event-of .ensures) (answer-of _ _ _ _ _ (c .before .before .before .before .before .before .before .before .step-on .ensures ∙ step-by-heads _ _ _ _ (c .before .before .before .before .before .before .before .before .before .before .before .before .before .before .before .before .loop .inv .0) _ _)) (c .before .before .before .before .before .before .before .is-none .ensures) (not-true _ (c .before .before .before .before .before .before .if1 .taken)) (c .before .before .before .clock-in .ensures ∙ ap clockOf (refused-same _ _ _ _ _ (c .before .before .before .before .before .before .before .before .step-on .ensures ∙ step-by-heads _ _ _ _ (c .before .before .before .before .before .before .before .before .before .before .before .before .before .before .before .before .loop .inv .0) _ _) (sym (c .before .before .before .before .before .before .before .is-none .ensures) ∙ not-true _ (c .before .before .before .before .before .before .if1 .taken)))) (c .before .before .put-last .ensures)
 
 add-taken : tie.Need-add-taken Inv-loop μ-loop
 add-taken c = let k = c .before .before .before .before .before .before .before .before .before .before .loop .inv .1 .count in let h = c .before .before .before .before .before .before .before .before .before .loop-test .taken in let n = c .before .before .before .before .before .before .before .before .before .before .loop .inv .1 .size in search needs
@@ -95,7 +96,7 @@ loop-less : tie.Need-loop-less Inv-loop μ-loop
 loop-less c = let z = next-place Script _ _ _ (c .before .before .before .before .before .before .before .before .before .before .before .before .before .before .before .loop-test .taken) (c .before .before .before .before .before .before .before .before .before .before .before .before .before .before .part-length-at .ensures) in omega arith
 
 loop-again : tie.Need-loop-again Inv-loop μ-loop
-loop-again c = (c .before .before .before .before .before .before .before .before .before .before .before .before .before .before .before .before .loop .inv .0, run-on _ _ _ (c .before .before .before .before .before .before .before .before .before .before .before .before .before .before .before .before .loop .inv .1) _ _ _ _ _ (c .before .before .before .before .before .before .before .before .before .before .before .before .before .before .before .loop-test .taken) (c .before .before .before .before .before .before .before .before .before .before .before .before .before .before .part-length-at .ensures) (c .before .before .before .before .before .before .before .before .before .before .before .before .event-of .ensures) (answer-of _ _ _ _ _ (c .before .before .before .before .before .before .before .before .step-on .ensures)) (c .before .before .before .before .before .before .before .is-none .ensures) _ (state-of _ _ _ _ _ (c .before .before .before .before .before .before .before .before .step-on .ensures)) (not-false _ (c .before .before .before .before .before .before .if1 .left)) (c .before .before .before .clock-in2 .ensures) (c .before .before .put-event .ensures))
+loop-again c = (c .before .before .before .before .before .before .before .before .before .before .before .before .before .before .before .before .loop .inv .0, run-on _ _ _ (c .before .before .before .before .before .before .before .before .before .before .before .before .before .before .before .before .loop .inv .1) _ _ _ _ _ (c .before .before .before .before .before .before .before .before .before .before .before .before .before .before .before .loop-test .taken) (c .before .before .before .before .before .before .before .before .before .before .before .before .before .before .part-length-at .ensures) (c .before .before .before .before .before .before .before .before .before .before .before .before .event-of .ensures) (answer-of _ _ _ _ _ (c .before .before .before .before .before .before .before .before .step-on .ensures ∙ step-by-heads _ _ _ _ (c .before .before .before .before .before .before .before .before .before .before .before .before .before .before .before .before .loop .inv .0) _ _)) (c .before .before .before .before .before .before .before .is-none .ensures) _ (state-of _ _ _ _ _ (c .before .before .before .before .before .before .before .before .step-on .ensures ∙ step-by-heads _ _ _ _ (c .before .before .before .before .before .before .before .before .before .before .before .before .before .before .before .before .loop .inv .0) _ _)) (not-false _ (c .before .before .before .before .before .before .if1 .left)) (c .before .before .before .clock-in2 .ensures) (c .before .before .put-event .ensures))
 
 clock-in-requires-3 : tie.Need-clock-in-requires-3 Inv-loop μ-loop
 clock-in-requires-3 c κs = search needs

@@ -7,7 +7,7 @@ use Rattle.records.specs.Walk.{next-place, slice-part}
 use Rattle.records.specs.declared.Notation.the-variants as notations
 use borrow.Author.Tests.{not-true, not-false}
 use Rattle.table_format.specs.Format.{records}
-use Rattle.table.specs.Bits.{values}
+use Rattle.table.specs.Runs.{values}
 use Rattle.table.specs.Enabled.{passFrom, pass-all, pass-end, pass-failed, pass-clause, pass-atom-cut, pass-held, pass-atom, pass-head, pass-other}
 use borrow.Author.Needs.{needs}
 use Rattle.table.proofs.all_pass.Statement.{statement}

@@ -4,7 +4,7 @@ use native.Mathlib.Omega.{arith}
 use lib.ListN.{length}
 use Rattle.records.specs.Walk.{next-place, slice-part}
 use Rattle.records.specs.declared.Notation.the-variants as notations
-use Rattle.table.specs.Bits.{values}
+use Rattle.table.specs.Runs.{values}
 use Rattle.table.specs.Applied.{Writing, writesFrom, writing-begin, writing-end, writing-cut, writing-head, writing-other, writing-stops, writing-on}
 use borrow.Author.Needs.{needs}
 use Rattle.table.proofs.apply_updates.Statement.{statement}

@@ -1,4 +1,5 @@
 use mathlib.Core.Path.{_∙_}
+use Rattle.table.specs.Index.{rulesFrom}
 use borrow.Author.Needs.{needs}
 use Rattle.table.proofs.find.Statement.{statement}
 use Rattle.table.proofs.find.Tie as tie
@@ -10,7 +11,7 @@ find-from-requires : tie.Need-find-from-requires
 find-from-requires c κs = search needs
 
 returns : tie.Need-returns
-returns c = c .find-from .ensures ∙ c .before .find-listed .ensures
+returns c = c .find-from .ensures ∙ c .before .find-listed .ensures (rulesFrom (c .before .before .before .before .before .args .t .now) (c .before .before .before .before .before .args .rest))
 
 pub find-spec : {M : Type 1} → statement M
 find-spec = tie.close (tie.spec find-listed-requires find-from-requires returns)

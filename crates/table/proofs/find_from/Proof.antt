@@ -4,7 +4,7 @@ use native.Mathlib.Omega.{arith}
 use lib.ListN.{length}
 use Rattle.records.specs.Walk.{next-place}
 use Rattle.records.specs.declared.Notation.the-variants as notations
-use Rattle.table.specs.Bits.{values}
+use Rattle.table.specs.Runs.{values}
 use Rattle.table.specs.Enabled.{Finds, find-on, find-end}
 use borrow.Author.Needs.{needs}
 use Rattle.table.proofs.find_from.Statement.{statement}

@@ -17,13 +17,13 @@ is-enabled-requires c κs = search needs
 returns-2 : tie.Need-returns-2
 returns-2 c = found-disabled _ _ (c .before .before .before .before .before .args .e) _ _ _ _ (c .before .before .before .is-asked .ensures) (not-false _ (c .before .before .if1 .left)) _ (c .before .is-enabled .ensures) (not-true _ (c .if2 .taken))
 
-one-more-requires : tie.Need-one-more-requires
-one-more-requires c κs = search needs
+found-one-more-requires : tie.Need-found-one-more-requires
+found-one-more-requires c κs = search needs
 
 returns-3 : tie.Need-returns-3
-returns-3 c = c .one-more .ensures ∙ found-enabled _ _ (c .before .before .before .before .before .before .args .e) _ _ _ _ (c .before .before .before .before .is-asked .ensures) (not-false _ (c .before .before .before .if1 .left)) _ (c .before .before .is-enabled .ensures) (not-false _ (c .before .if2 .left))
+returns-3 c = c .found-one-more .ensures ∙ found-enabled _ _ (c .before .before .before .before .before .before .args .e) _ _ _ _ (c .before .before .before .before .is-asked .ensures) (not-false _ (c .before .before .before .if1 .left)) _ (c .before .before .is-enabled .ensures) (not-false _ (c .before .if2 .left))
 
 pub found-rule-spec : {M : Type 1} → statement M
 found-rule-spec =
     tie.close
-    (tie.spec is-asked-requires returns is-enabled-requires returns-2 one-more-requires returns-3)
+    (tie.spec is-asked-requires returns is-enabled-requires returns-2 found-one-more-requires returns-3)

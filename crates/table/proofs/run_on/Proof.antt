@@ -1,22 +1,23 @@
 use mathlib.Core.Path.{_≡_, sym, _∙_}
 use native.Mathlib.Omega.{arith}
-use lib.ListN.{length, drop}
+use lib.ListN.{length, drop, replicate}
 use Rattle.records.specs.Format.{parts}
 use Rattle.records.specs.declared.Notation.the-variants as notations
 use Rattle.table_format.specs.Table.{tableOf}
-use Rattle.table.specs.Places.{Listed}
-use Rattle.table.specs.Guards.{Guarded}
+use Rattle.table.specs.Index.{rulesBy}
+use Rattle.table.specs.IndexLaws.{rules-by-heads, step-by-heads}
 use Prim.Native.Nat.{_+_, _-_, _≤_}
 use Rattle.records.specs.Run.{stagesFrom, tallyFrom}
 use Rattle.records.specs.Walk.{next-place, slice-part, tally-end, tally-taken, tally-refused}
 use Rattle.table.specs.Machine.{machineOf, tallyTable}
-use Rattle.table.specs.Running.{variablesOf, answer-of, state-of}
+use Rattle.table.specs.Runs.{variablesOf}
+use Rattle.table.specs.Running.{answer-of, state-of}
 use borrow.Author.Needs.{needs}
 use Rattle.table.proofs.run_on.Statement.{statement}
 use Rattle.table.proofs.run_on.Tie as tie
 
 abbrev Inv-loop : tie.InvT-loop
-Inv-loop t script place guard heads v₀ k₀ r₀ at₀ v k r at = (k + r ≤ at) × (at ≤ length script) × (Listed t place (heads .listed) (heads .rest) × Guarded t place guard (heads .listed)) × (tallyFrom (variablesOf v) k r (stagesFrom (machineOf (tableOf t .rules)) (variablesOf v) at (parts notations.Script (drop at script))) ≡ tallyTable t script)
+Inv-loop t script place guard heads v₀ k₀ r₀ at₀ v k r at = (k + r ≤ at) × (at ≤ length script) × (rulesBy t place guard heads ≡ tableOf t .rules) × (tallyFrom (variablesOf v) k r (stagesFrom (machineOf (tableOf t .rules)) (variablesOf v) at (parts notations.Script (drop at script))) ≡ tallyTable t script)
 
 abbrev μ-loop : tie.MeasureT-loop
 μ-loop t script place guard heads v₀ k₀ r₀ at₀ v k r at = length script - at
@@ -38,7 +39,7 @@ all-bits-requires c κs = search needs
 
 loop-holds : tie.Need-loop-holds Inv-loop μ-loop
 unfolding tallyTable
-loop-holds c = (omega arith, omega arith, c .before .before .before .before .list-heads .ensures, rw (c .all-bits .ensures, c .before .start-variables .ensures))
+loop-holds c = (omega arith, omega arith, rules-by-heads (c .before .before .before .before .before .before .before .before .before .args .t .now) (replicate 1024 0) (replicate 1024 0) _ _ _ (c .before .before .before .before .list-heads .ensures .0) (c .before .before .before .before .list-heads .ensures .1) (c .before .before .before .before .list-heads .ensures .2), rw (c .all-bits .ensures, c .before .start-variables .ensures))
 
 part-length-at-requires : tie.Need-part-length-at-requires Inv-loop μ-loop
 part-length-at-requires c κs = search needs
@@ -65,7 +66,7 @@ slice-aggregate-step-on-2 : tie.Need-slice-aggregate-step-on-2 Inv-loop μ-loop
 slice-aggregate-step-on-2 c = search needs
 
 step-on-requires : tie.Need-step-on-requires Inv-loop μ-loop
-step-on-requires c κs = c .before .before .before .before .before .before .before .loop .inv .2
+step-on-requires c κs = search needs
 
 is-none-requires : tie.Need-is-none-requires Inv-loop μ-loop
 is-none-requires c κs = search needs
@@ -77,7 +78,7 @@ loop-less : tie.Need-loop-less Inv-loop μ-loop
 loop-less c = let n = next-place notations.Script (c .before .before .before .before .before .before .before .before .before .before .before .before .before .before .before .before .before .before .before .before .args .script .now) _ _ (c .before .before .before .before .before .before .before .before .before .loop-test .taken) (c .before .before .before .before .before .before .before .before .part-length-at .ensures) in omega arith
 
 loop-again : tie.Need-loop-again Inv-loop μ-loop
-loop-again c = let n = next-place notations.Script (c .before .before .before .before .before .before .before .before .before .before .before .before .before .before .before .before .before .before .before .before .args .script .now) _ _ (c .before .before .before .before .before .before .before .before .before .loop-test .taken) (c .before .before .before .before .before .before .before .before .part-length-at .ensures) in (omega arith, omega arith, c .before .before .before .before .before .before .before .before .before .before .loop .inv .2, tally-taken (machineOf (tableOf (c .before .before .before .before .before .before .before .before .before .before .before .before .before .before .before .before .before .before .before .before .args .t .now) .rules)) (c .before .before .before .before .before .before .before .before .before .before .before .before .before .before .before .before .before .before .before .before .args .script .now) _ (variablesOf (c .before .before .before .before .before .before .before .before .before .before .loop .v)) _ _ (c .before .before .before .before .before .before .before .before .before .loop-test .taken) (c .before .before .before .before .before .before .before .before .part-length-at .ensures) (rw slice-part at (c .before .before .before .before .before .before .event-of .ensures)) _ _ _ _ (answer-of _ _ _ _ _ (c .before .before .step-on .ensures)) (state-of _ _ _ _ _ (c .before .before .step-on .ensures)) (sym (c .before .is-none .ensures) ∙ c .if1 .taken) ∙ c .before .before .before .before .before .before .before .before .before .before .loop .inv .3)
+loop-again c = let n = next-place notations.Script (c .before .before .before .before .before .before .before .before .before .before .before .before .before .before .before .before .before .before .before .before .args .script .now) _ _ (c .before .before .before .before .before .before .before .before .before .loop-test .taken) (c .before .before .before .before .before .before .before .before .part-length-at .ensures) in (omega arith, omega arith, c .before .before .before .before .before .before .before .before .before .before .loop .inv .2, tally-taken (machineOf (tableOf (c .before .before .before .before .before .before .before .before .before .before .before .before .before .before .before .before .before .before .before .before .args .t .now) .rules)) (c .before .before .before .before .before .before .before .before .before .before .before .before .before .before .before .before .before .before .before .before .args .script .now) _ (variablesOf (c .before .before .before .before .before .before .before .before .before .before .loop .v)) _ _ (c .before .before .before .before .before .before .before .before .before .loop-test .taken) (c .before .before .before .before .before .before .before .before .part-length-at .ensures) (rw slice-part at (c .before .before .before .before .before .before .event-of .ensures)) _ _ _ _ (answer-of _ _ _ _ _ (c .before .before .step-on .ensures ∙ step-by-heads _ _ _ _ (c .before .before .before .before .before .before .before .before .before .before .loop .inv .2) _ _)) (state-of _ _ _ _ _ (c .before .before .step-on .ensures ∙ step-by-heads _ _ _ _ (c .before .before .before .before .before .before .before .before .before .before .loop .inv .2) _ _)) (sym (c .before .is-none .ensures) ∙ c .if1 .taken) ∙ c .before .before .before .before .before .before .before .before .before .before .loop .inv .3)
 
 add-r : tie.Need-add-r Inv-loop μ-loop
 add-r c = let a = c .before .before .before .before .before .before .before .before .before .before .loop .inv .0 in let b = c .before .before .before .before .before .before .before .before .before .before .loop .inv .1 in let l = c .before .before .before .before .before .before .before .before .before .loop-test .taken in let q = c .before .before .before .before .before .before .before .before .before .before .before .before .before .before .before .before .before .before .before .before .good .1 .0 in record { fits = omega arith }
@@ -86,7 +87,7 @@ loop-less-2 : tie.Need-loop-less-2 Inv-loop μ-loop
 loop-less-2 c = let n = next-place notations.Script (c .before .before .before .before .before .before .before .before .before .before .before .before .before .before .before .before .before .before .before .before .args .script .now) _ _ (c .before .before .before .before .before .before .before .before .before .loop-test .taken) (c .before .before .before .before .before .before .before .before .part-length-at .ensures) in omega arith
 
 loop-again-2 : tie.Need-loop-again-2 Inv-loop μ-loop
-loop-again-2 c = let n = next-place notations.Script (c .before .before .before .before .before .before .before .before .before .before .before .before .before .before .before .before .before .before .before .before .args .script .now) _ _ (c .before .before .before .before .before .before .before .before .before .loop-test .taken) (c .before .before .before .before .before .before .before .before .part-length-at .ensures) in (omega arith, omega arith, c .before .before .before .before .before .before .before .before .before .before .loop .inv .2, tally-refused (machineOf (tableOf (c .before .before .before .before .before .before .before .before .before .before .before .before .before .before .before .before .before .before .before .before .args .t .now) .rules)) (c .before .before .before .before .before .before .before .before .before .before .before .before .before .before .before .before .before .before .before .before .args .script .now) _ (variablesOf (c .before .before .before .before .before .before .before .before .before .before .loop .v)) _ _ (c .before .before .before .before .before .before .before .before .before .loop-test .taken) (c .before .before .before .before .before .before .before .before .part-length-at .ensures) (rw slice-part at (c .before .before .before .before .before .before .event-of .ensures)) _ _ _ _ (answer-of _ _ _ _ _ (c .before .before .step-on .ensures)) (state-of _ _ _ _ _ (c .before .before .step-on .ensures)) (sym (c .before .is-none .ensures) ∙ c .if1 .left) ∙ c .before .before .before .before .before .before .before .before .before .before .loop .inv .3)
+loop-again-2 c = let n = next-place notations.Script (c .before .before .before .before .before .before .before .before .before .before .before .before .before .before .before .before .before .before .before .before .args .script .now) _ _ (c .before .before .before .before .before .before .before .before .before .loop-test .taken) (c .before .before .before .before .before .before .before .before .part-length-at .ensures) in (omega arith, omega arith, c .before .before .before .before .before .before .before .before .before .before .loop .inv .2, tally-refused (machineOf (tableOf (c .before .before .before .before .before .before .before .before .before .before .before .before .before .before .before .before .before .before .before .before .args .t .now) .rules)) (c .before .before .before .before .before .before .before .before .before .before .before .before .before .before .before .before .before .before .before .before .args .script .now) _ (variablesOf (c .before .before .before .before .before .before .before .before .before .before .loop .v)) _ _ (c .before .before .before .before .before .before .before .before .before .loop-test .taken) (c .before .before .before .before .before .before .before .before .part-length-at .ensures) (rw slice-part at (c .before .before .before .before .before .before .event-of .ensures)) _ _ _ _ (answer-of _ _ _ _ _ (c .before .before .step-on .ensures ∙ step-by-heads _ _ _ _ (c .before .before .before .before .before .before .before .before .before .before .loop .inv .2) _ _)) (state-of _ _ _ _ _ (c .before .before .step-on .ensures ∙ step-by-heads _ _ _ _ (c .before .before .before .before .before .before .before .before .before .before .loop .inv .2) _ _)) (sym (c .before .is-none .ensures) ∙ c .if1 .left) ∙ c .before .before .before .before .before .before .before .before .before .before .loop .inv .3)
 
 variables-of-requires : tie.Need-variables-of-requires Inv-loop μ-loop
 variables-of-requires c κs = search needs

@@ -7,7 +7,7 @@ use Rattle.records.specs.Walk.{next-place}
 use Rattle.records.specs.declared.Notation.the-variants as notations
 use Rattle.table_format.specs.Format.{records}
 use Rattle.table_format.specs.Table.{gather, tableOf}
-use Rattle.table.specs.Bits.{values}
+use Rattle.table.specs.Runs.{values}
 use Rattle.table.specs.Machine.{begun, startVariables}
 use Rattle.table.specs.Running.{start-begin, start-on, start-end}
 use Rattle.table.specs.declared.Variables.{Variables}

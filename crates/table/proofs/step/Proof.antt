@@ -1,6 +1,5 @@
 use mathlib.Core.Path.{_∙_}
-use Rattle.table.specs.Places.{listed-none}
-use Rattle.table.specs.Guards.{guarded-none}
+use Rattle.table.specs.IndexLaws.{step-by-none}
 use borrow.Author.Needs.{needs}
 use Rattle.table.proofs.step.Statement.{statement}
 use Rattle.table.proofs.step.Tie as tie
@@ -15,13 +14,13 @@ slice-aggregate-step-on-2 : tie.Need-slice-aggregate-step-on-2
 slice-aggregate-step-on-2 c = search needs
 
 step-on-requires : tie.Need-step-on-requires
-step-on-requires c κs = (listed-none _ _, guarded-none _ _ _)
+step-on-requires c κs = search needs
 
 variables-of-requires : tie.Need-variables-of-requires
 variables-of-requires c κs = search needs
 
 returns : tie.Need-returns
-returns c = rw (c .variables-of .ensures) (c .before .step-on .ensures ∙ rw (c .before .before .before .before .before .all-bits .ensures))
+returns c = rw (c .variables-of .ensures) (c .before .step-on .ensures ∙ step-by-none _ _ _ _ _ ∙ rw (c .before .before .before .before .before .all-bits .ensures))
 
 pub step-spec : {M : Type 1} → statement M
 step-spec =

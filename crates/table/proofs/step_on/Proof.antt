@@ -1,46 +1,41 @@
-use mathlib.Core.Path.{_∙_}
-use Rattle.table.specs.Running.{variablesOf, step-broken, step-ticks, step-fires, fire-none, fire-one, fire-several}
+use mathlib.Core.Path.{_≡_, sym, _∙_, ap}
+use mathlib.Core.List.{List}
+use lib.Seq.{length-take-le}
+use Rattle.table_format.specs.Table.{Rule}
+use Rattle.table.specs.Machine.{step}
+use Rattle.table.specs.Runs.{variablesOf}
+use Rattle.table.specs.Index.{stepBy}
+use Rattle.table.specs.IndexLaws.{fewest, rules-clip}
 use borrow.Author.Needs.{needs}
 use Rattle.table.proofs.step_on.Statement.{statement}
 use Rattle.table.proofs.step_on.Tie as tie
 
-is-broken-requires : tie.Need-is-broken-requires
-is-broken-requires c κs = search needs
+fewer-requires : tie.Need-fewer-requires
+fewer-requires c κs = search needs
+
+fewer-requires-2 : tie.Need-fewer-requires-2
+fewer-requires-2 c κs = search needs
+
+slice-aggregate-step-listed : tie.Need-slice-aggregate-step-listed
+slice-aggregate-step-listed c = sym (length-take-le _ _ (fewest _ _ _ _ _ (c .before .before .fewer .ensures) (c .before .fewer2 .ensures) .1))
+
+slice-aggregate-step-listed-2 : tie.Need-slice-aggregate-step-listed-2
+slice-aggregate-step-listed-2 c = sym (length-take-le _ _ (fewest _ _ _ _ _ (c .before .before .before .fewer .ensures) (c .before .before .fewer2 .ensures) .2))
+
+step-listed-requires : tie.Need-step-listed-requires
+step-listed-requires c κs = length-take-le _ _ (fewest _ _ _ _ _ (c .before .before .before .before .fewer .ensures) (c .before .before .before .fewer2 .ensures) .1) ∙ sym (length-take-le _ _ (fewest _ _ _ _ _ (c .before .before .before .before .fewer .ensures) (c .before .before .before .fewer2 .ensures) .2))
 
 returns : tie.Need-returns
-returns c = step-broken _ (variablesOf (c .before .before .before .before .before .args .v .now)) (c .before .before .before .before .before .args .e) _ (c .before .is-broken .ensures) (c .if1 .taken)
-
-tick-requires : tie.Need-tick-requires
-tick-requires c κs = search needs
-
-returns-2 : tie.Need-returns-2
-returns-2 c = c .tick .ensures ∙ step-ticks _ (variablesOf (c .before .before .before .before .before .before .before .before .before .args .v .now)) (c .before .before .before .before .before .before .before .before .before .args .e) _ (c .before .before .before .before .before .is-broken .ensures) (c .before .before .before .before .if1 .left) (c .before .before .if2 .taken)
-
-find-requires : tie.Need-find-requires
-find-requires c κs = search needs
-
-returns-3 : tie.Need-returns-3
-returns-3 c = fire-none (c .before .before .before .before .before .before .before .before .before .before .args .t .now) (variablesOf (c .before .before .before .before .before .before .before .before .before .before .args .v .now)) (c .before .before .before .before .before .before .before .before .before .before .args .e) (c .before .find .result) _ (c .before .find .ensures) (c .if3 .taken) ∙ step-fires _ (variablesOf (c .before .before .before .before .before .before .before .before .before .before .args .v .now)) (c .before .before .before .before .before .before .before .before .before .before .args .e) _ (c .before .before .before .before .before .before .is-broken .ensures) (c .before .before .before .before .before .if1 .left) (c .before .before .before .if2 .left)
-
-fire-requires : tie.Need-fire-requires
-fire-requires c κs = search needs
-
-returns-4 : tie.Need-returns-4
-returns-4 c = c .fire .ensures ∙ fire-one (c .before .before .before .before .before .before .before .before .before .before .before .before .before .args .t .now) (variablesOf (c .before .before .before .before .before .before .before .before .before .before .before .before .before .args .v .now)) (c .before .before .before .before .before .before .before .before .before .before .before .before .before .args .e) (c .before .before .before .before .find .result) _ (c .before .before .before .before .find .ensures) (c .before .before .if4 .taken) ∙ step-fires _ (variablesOf (c .before .before .before .before .before .before .before .before .before .before .before .before .before .args .v .now)) (c .before .before .before .before .before .before .before .before .before .before .before .before .before .args .e) _ (c .before .before .before .before .before .before .before .before .before .is-broken .ensures) (c .before .before .before .before .before .before .before .before .if1 .left) (c .before .before .before .before .before .before .if2 .left)
-
-returns-5 : tie.Need-returns-5
-returns-5 c = fire-several (c .before .before .before .before .before .before .before .before .before .before .before .args .t .now) (variablesOf (c .before .before .before .before .before .before .before .before .before .before .before .args .v .now)) (c .before .before .before .before .before .before .before .before .before .before .before .args .e) (c .before .before .find .result) _ (c .before .before .find .ensures) (c .before .if3 .left) (c .if4 .left) ∙ step-fires _ (variablesOf (c .before .before .before .before .before .before .before .before .before .before .before .args .v .now)) (c .before .before .before .before .before .before .before .before .before .before .before .args .e) _ (c .before .before .before .before .before .before .before .is-broken .ensures) (c .before .before .before .before .before .before .if1 .left) (c .before .before .before .before .if2 .left)
+unfolding stepBy
+returns c = c .step-listed .ensures ∙ ap (λ (l : List Rule). step l (variablesOf (c .before .before .before .before .before .before .before .before .before .args .v .now)) (c .before .before .before .before .before .before .before .before .before .args .e)) (rules-clip (c .before .before .before .before .before .before .before .before .before .args .t .now) _ _ (c .before .before .before .before .before .before .before .before .before .args .heads) _ (fewest _ _ _ _ _ (c .before .before .before .before .before .fewer .ensures) (c .before .before .before .before .fewer2 .ensures)))
 
 pub step-on-spec : {M : Type 1} → statement M
 step-on-spec =
     tie.close
     (tie.spec
-    is-broken-requires
-    returns
-    tick-requires
-    returns-2
-    find-requires
-    returns-3
-    fire-requires
-    returns-4
-    returns-5)
+    fewer-requires
+    fewer-requires-2
+    slice-aggregate-step-listed
+    slice-aggregate-step-listed-2
+    step-listed-requires
+    returns)

@@ -1,24 +1,25 @@
 use mathlib.Core.Path.{_≡_, _∙_}
 use Prim.Native.Nat.{_-_, _≤_}
 use native.Mathlib.Omega.{arith}
-use Rattle.table_format.specs.Table.{tableOf}
-use Rattle.table.specs.Bits.{values}
+use Rattle.table.specs.Index.{rulesIn}
+use Rattle.table.specs.Runs.{values}
 use Rattle.table.specs.Machine.{ticks}
-use Rattle.table.specs.Running.{variablesOf, set-back, ticks-begin, ticks-last, ticks-on, ticks-busy, ticks-end}
+use Rattle.table.specs.Runs.{variablesOf}
+use Rattle.table.specs.Running.{set-back, ticks-begin, ticks-last, ticks-on, ticks-busy, ticks-end}
 use Rattle.table.specs.Ticking.{later, later-none, later-next}
 use mathlib.Core.Path.{ap}
 use Rattle.numbers.specs.declared.Value.{Value}
 use mathlib.Core.List.{List}
-use Rattle.table.specs.Machine.{now}
+use Rattle.table.specs.Machine.{nowIn}
 use borrow.Author.Needs.{needs}
 use Rattle.table.proofs.tick.Statement.{statement}
 use Rattle.table.proofs.tick.Tie as tie
 
 abbrev Inv-loop : tie.InvT-loop
-Inv-loop t place guard v₀ n quiet first i₀ v i = (i ≤ quiet) × (values v ≡ later i (values v₀)) × (ticks (tableOf t .rules) (variablesOf v₀) (n - i) (later i (values v₀)) ≡ ticks (tableOf t .rules) (variablesOf v₀) n (values v₀))
+Inv-loop t place guard rest v₀ n quiet first i₀ v i = (i ≤ quiet) × (values v ≡ later i (values v₀)) × (ticks (rulesIn t place guard rest) (variablesOf v₀) (n - i) (later i (values v₀)) ≡ ticks (rulesIn t place guard rest) (variablesOf v₀) n (values v₀))
 
 abbrev μ-loop : tie.MeasureT-loop
-μ-loop t place guard v₀ n quiet first i₀ v i = quiet - i
+μ-loop t place guard rest v₀ n quiet first i₀ v i = quiet - i
 
 quiet-ticks-requires : tie.Need-quiet-ticks-requires Inv-loop μ-loop
 quiet-ticks-requires c κs = search needs
@@ -42,7 +43,7 @@ put-requires : tie.Need-put-requires Inv-loop μ-loop
 put-requires c κs = search needs
 
 returns : tie.Need-returns Inv-loop μ-loop
-returns c = set-back (c .before .before .before .before .before .before .before .before .before .before .before .before .before .before .before .before .args .v .now) (c .before .before .before .before .before .before .before .before .loop .v) _ _ _ _ _ (c .before .before .before .before .before .before .before .before .loop .inv .1) (c .before .before .before .before .before .before .before .before .before .value-in .ensures) (c .before .bits-of .ensures) (c .put .ensures) ∙ ticks-last (tableOf (c .before .before .before .before .before .before .before .before .before .before .before .before .before .before .before .before .args .t .now) .rules) (variablesOf (c .before .before .before .before .before .before .before .before .before .before .before .before .before .before .before .before .args .v .now)) _ _ _ (c .before .before .before .before .before .before .before .before .before .before .before .quiet-ticks .ensures) (c .before .before .before .before .before .before .before .before .loop .inv .2) (c .before .before .before .before .before .before .before .loop-test .taken) _ (c .before .before .before .before .before .value-in2 .ensures ∙ ap (λ (w : List Value). now w) (c .before .before .before .before .before .before .before .before .loop .inv .1)) _ (c .before .before .before .before .is-last-clock .ensures) (c .before .before .before .if1 .taken)
+returns c = set-back (c .before .before .before .before .before .before .before .before .before .before .before .before .before .before .before .before .args .v .now) (c .before .before .before .before .before .before .before .before .loop .v) _ _ _ _ _ (c .before .before .before .before .before .before .before .before .loop .inv .1) (c .before .before .before .before .before .before .before .before .before .value-in .ensures) (c .before .bits-of .ensures) (c .put .ensures) ∙ ticks-last (rulesIn (c .before .before .before .before .before .before .before .before .before .before .before .before .before .before .before .before .args .t .now) (c .before .before .before .before .before .before .before .before .before .before .before .before .before .before .before .before .args .place .now) (c .before .before .before .before .before .before .before .before .before .before .before .before .before .before .before .before .args .guard .now) (c .before .before .before .before .before .before .before .before .before .before .before .before .before .before .before .before .args .rest)) (variablesOf (c .before .before .before .before .before .before .before .before .before .before .before .before .before .before .before .before .args .v .now)) _ _ _ (c .before .before .before .before .before .before .before .before .before .before .before .quiet-ticks .ensures) (c .before .before .before .before .before .before .before .before .loop .inv .2) (c .before .before .before .before .before .before .before .loop-test .taken) _ (c .before .before .before .before .before .value-in2 .ensures ∙ ap (λ (w : List Value). nowIn w) (c .before .before .before .before .before .before .before .before .loop .inv .1)) _ (c .before .before .before .before .is-last-clock .ensures) (c .before .before .before .if1 .taken)
 
 advance-requires : tie.Need-advance-requires Inv-loop μ-loop
 advance-requires c κs = search needs
@@ -54,7 +55,7 @@ loop-less : tie.Need-loop-less Inv-loop μ-loop
 loop-less c = search needs
 
 loop-again : tie.Need-loop-again Inv-loop μ-loop
-loop-again c = (search needs, c .advance .ensures ∙ rw (c .before .before .before .before .before .before .before .loop .inv .1) (later-next _ _), ticks-on (tableOf (c .before .before .before .before .before .before .before .before .before .before .before .before .before .before .before .args .t .now) .rules) (variablesOf (c .before .before .before .before .before .before .before .before .before .before .before .before .before .before .before .args .v .now)) _ _ _ (c .before .before .before .before .before .before .before .before .before .before .quiet-ticks .ensures) (c .before .before .before .before .before .before .before .loop .inv .2) (c .before .before .before .before .before .before .loop-test .taken) _ (c .before .before .before .before .value-in2 .ensures ∙ ap (λ (w : List Value). now w) (c .before .before .before .before .before .before .before .loop .inv .1)) _ (c .before .before .before .is-last-clock .ensures) (c .before .before .if1 .left))
+loop-again c = (search needs, c .advance .ensures ∙ rw (c .before .before .before .before .before .before .before .loop .inv .1) (later-next _ _), ticks-on (rulesIn (c .before .before .before .before .before .before .before .before .before .before .before .before .before .before .before .args .t .now) (c .before .before .before .before .before .before .before .before .before .before .before .before .before .before .before .args .place .now) (c .before .before .before .before .before .before .before .before .before .before .before .before .before .before .before .args .guard .now) (c .before .before .before .before .before .before .before .before .before .before .before .before .before .before .before .args .rest)) (variablesOf (c .before .before .before .before .before .before .before .before .before .before .before .before .before .before .before .args .v .now)) _ _ _ (c .before .before .before .before .before .before .before .before .before .before .quiet-ticks .ensures) (c .before .before .before .before .before .before .before .loop .inv .2) (c .before .before .before .before .before .before .loop-test .taken) _ (c .before .before .before .before .value-in2 .ensures ∙ ap (λ (w : List Value). nowIn w) (c .before .before .before .before .before .before .before .loop .inv .1)) _ (c .before .before .before .is-last-clock .ensures) (c .before .before .if1 .left))
 
 bits-of-requires-2 : tie.Need-bits-of-requires-2 Inv-loop μ-loop
 bits-of-requires-2 c κs = search needs
@@ -63,10 +64,10 @@ put-requires-2 : tie.Need-put-requires-2 Inv-loop μ-loop
 put-requires-2 c κs = search needs
 
 returns-2 : tie.Need-returns-2 Inv-loop μ-loop
-returns-2 c = set-back (c .before .before .before .before .before .before .before .before .before .before .before .before .before .args .v .now) (c .before .before .before .before .before .loop .v) _ _ _ _ _ (c .before .before .before .before .before .loop .inv .1) (c .before .before .before .before .before .before .value-in .ensures) (c .before .bits-of2 .ensures) (c .put2 .ensures) ∙ ticks-busy (tableOf (c .before .before .before .before .before .before .before .before .before .before .before .before .before .args .t .now) .rules) (variablesOf (c .before .before .before .before .before .before .before .before .before .before .before .before .before .args .v .now)) _ _ _ (c .before .before .before .before .before .before .before .before .quiet-ticks .ensures) (c .before .before .before .before .before .loop .inv .2) (c .before .before .before .before .before .loop .inv .0) (c .before .before .before .before .loop-test .left) (c .before .before .before .if2 .taken)
+returns-2 c = set-back (c .before .before .before .before .before .before .before .before .before .before .before .before .before .args .v .now) (c .before .before .before .before .before .loop .v) _ _ _ _ _ (c .before .before .before .before .before .loop .inv .1) (c .before .before .before .before .before .before .value-in .ensures) (c .before .bits-of2 .ensures) (c .put2 .ensures) ∙ ticks-busy (rulesIn (c .before .before .before .before .before .before .before .before .before .before .before .before .before .args .t .now) (c .before .before .before .before .before .before .before .before .before .before .before .before .before .args .place .now) (c .before .before .before .before .before .before .before .before .before .before .before .before .before .args .guard .now) (c .before .before .before .before .before .before .before .before .before .before .before .before .before .args .rest)) (variablesOf (c .before .before .before .before .before .before .before .before .before .before .before .before .before .args .v .now)) _ _ _ (c .before .before .before .before .before .before .before .before .quiet-ticks .ensures) (c .before .before .before .before .before .loop .inv .2) (c .before .before .before .before .before .loop .inv .0) (c .before .before .before .before .loop-test .left) (c .before .before .before .if2 .taken)
 
 returns-3 : tie.Need-returns-3 Inv-loop μ-loop
-returns-3 c = rw (c .before .before .loop .inv .1) (ticks-end (tableOf (c .before .before .before .before .before .before .before .before .before .before .args .t .now) .rules) (variablesOf (c .before .before .before .before .before .before .before .before .before .before .args .v .now)) _ _ _ (c .before .before .before .before .before .quiet-ticks .ensures) (c .before .before .loop .inv .2) (c .if2 .left))
+returns-3 c = rw (c .before .before .loop .inv .1) (ticks-end (rulesIn (c .before .before .before .before .before .before .before .before .before .before .args .t .now) (c .before .before .before .before .before .before .before .before .before .before .args .place .now) (c .before .before .before .before .before .before .before .before .before .before .args .guard .now) (c .before .before .before .before .before .before .before .before .before .before .args .rest)) (variablesOf (c .before .before .before .before .before .before .before .before .before .before .args .v .now)) _ _ _ (c .before .before .before .before .before .quiet-ticks .ensures) (c .before .before .loop .inv .2) (c .if2 .left))
 
 pub tick-spec : {M : Type 1} → statement M
 tick-spec =

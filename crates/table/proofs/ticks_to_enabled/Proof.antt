@@ -3,8 +3,8 @@ use mathlib.Core.Path.{_≡_, _∙_}
 use Prim.Native.Nat.{ℕ, _-_, _≤_, _<_}
 use native.Mathlib.Omega.{arith}
 use borrow.Author.Needs.{needs}
-use Rattle.table.specs.Bits.{values}
-use Rattle.table.specs.Enabled.{clausesAt}
+use Rattle.table.specs.Runs.{values}
+use Rattle.table.specs.Index.{clausesAt}
 use Rattle.table.specs.Rules.{allHold}
 use Rattle.table.specs.Ticking.{later, later-none, later-next, enabled-at, enabled-never, disabled-more}
 use Rattle.table.proofs.ticks_to_enabled.Statement.{statement}

@@ -1,0 +1,47 @@
+use mathlib.Core.Path.{_∙_}
+use Rattle.table.specs.Runs.{variablesOf}
+use Rattle.table.specs.Running.{step-broken, step-ticks, step-fires, fire-none, fire-one, fire-several}
+use borrow.Author.Needs.{needs}
+use Rattle.table.proofs.step_listed.Statement.{statement}
+use Rattle.table.proofs.step_listed.Tie as tie
+
+is-broken-requires : tie.Need-is-broken-requires
+is-broken-requires c κs = search needs
+
+returns : tie.Need-returns
+returns c = step-broken _ (variablesOf (c .before .before .before .before .before .args .v .now)) (c .before .before .before .before .before .args .e) _ (c .before .is-broken .ensures) (c .if1 .taken)
+
+tick-requires : tie.Need-tick-requires
+tick-requires c κs = search needs
+
+returns-2 : tie.Need-returns-2
+returns-2 c = c .tick .ensures ∙ step-ticks _ (variablesOf (c .before .before .before .before .before .before .before .before .before .args .v .now)) (c .before .before .before .before .before .before .before .before .before .args .e) _ (c .before .before .before .before .before .is-broken .ensures) (c .before .before .before .before .if1 .left) (c .before .before .if2 .taken)
+
+find-requires : tie.Need-find-requires
+find-requires c κs = search needs
+
+returns-3 : tie.Need-returns-3
+returns-3 c = fire-none (c .before .before .before .before .before .before .before .before .before .before .args .t .now) (variablesOf (c .before .before .before .before .before .before .before .before .before .before .args .v .now)) (c .before .before .before .before .before .before .before .before .before .before .args .e) (c .before .find .result) _ (c .before .find .ensures) (c .if3 .taken) ∙ step-fires _ (variablesOf (c .before .before .before .before .before .before .before .before .before .before .args .v .now)) (c .before .before .before .before .before .before .before .before .before .before .args .e) _ (c .before .before .before .before .before .before .is-broken .ensures) (c .before .before .before .before .before .if1 .left) (c .before .before .before .if2 .left)
+
+fire-requires : tie.Need-fire-requires
+fire-requires c κs = search needs
+
+returns-4 : tie.Need-returns-4
+returns-4 c = c .fire .ensures ∙ fire-one (c .before .before .before .before .before .before .before .before .before .before .before .before .before .args .t .now) (variablesOf (c .before .before .before .before .before .before .before .before .before .before .before .before .before .args .v .now)) (c .before .before .before .before .before .before .before .before .before .before .before .before .before .args .e) (c .before .before .before .before .find .result) _ (c .before .before .before .before .find .ensures) (c .before .before .if4 .taken) ∙ step-fires _ (variablesOf (c .before .before .before .before .before .before .before .before .before .before .before .before .before .args .v .now)) (c .before .before .before .before .before .before .before .before .before .before .before .before .before .args .e) _ (c .before .before .before .before .before .before .before .before .before .is-broken .ensures) (c .before .before .before .before .before .before .before .before .if1 .left) (c .before .before .before .before .before .before .if2 .left)
+
+returns-5 : tie.Need-returns-5
+returns-5 c = fire-several (c .before .before .before .before .before .before .before .before .before .before .before .args .t .now) (variablesOf (c .before .before .before .before .before .before .before .before .before .before .before .args .v .now)) (c .before .before .before .before .before .before .before .before .before .before .before .args .e) (c .before .before .find .result) _ (c .before .before .find .ensures) (c .before .if3 .left) (c .if4 .left) ∙ step-fires _ (variablesOf (c .before .before .before .before .before .before .before .before .before .before .before .args .v .now)) (c .before .before .before .before .before .before .before .before .before .before .before .args .e) _ (c .before .before .before .before .before .before .before .is-broken .ensures) (c .before .before .before .before .before .before .if1 .left) (c .before .before .before .before .if2 .left)
+
+pub step-listed-spec : {M : Type 1} → statement M
+step-listed-spec =
+    tie.close
+    (tie.spec
+    is-broken-requires
+    returns
+    tick-requires
+    returns-2
+    find-requires
+    returns-3
+    fire-requires
+    returns-4
+    returns-5)
