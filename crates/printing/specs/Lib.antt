@@ -1,4 +1,5 @@
 pub mod Places
+pub mod Prints
 pub mod Rules
 pub mod Runs
 pub mod Steps
