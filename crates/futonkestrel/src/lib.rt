@@ -10,6 +10,7 @@ ghost use Rattle.model_format.specs.Reading.{readModel};
 ghost use Rattle.table_format.specs.Reading.{readTable};
 ghost use Rattle.writer.specs.Written.{Wrote};
 ghost use Rattle.programs.specs.Programs.{stepsListing, tableListing};
+ghost use Rattle.programs.specs.Outcomes.{modelOutcome, tableOutcome};
 ghost use Rattle.lending.specs.Lending as lending;
 ghost use Rattle.futonkestrel.specs.Exports.{Exports};
 
@@ -45,27 +46,29 @@ pub extern "C" fn fk_translate(model: &[u8], output: &mut [u8], told: &mut [usiz
 pub extern "C" fn fk_model_listing(model: &[u8], script: &[u8], output: &mut [u8]) -> usize
     ensures { λ r. ⌜ Wrote (now (output .entry)) 0 (stepsListing (now (model .entry)) (now (script .entry))) (now (output .exit)) r ⌝ }
 {
-    printing::steps_listing(model, script, output)
+    let r = printing::steps_listing(model, script, output);
+    r.length
 }
 
 #[no_mangle]
 pub extern "C" fn fk_table_listing(table: &[u8], script: &[u8], output: &mut [u8]) -> usize
     ensures { λ r. ⌜ Wrote (now (output .entry)) 0 (tableListing (now (table .entry)) (now (script .entry))) (now (output .exit)) r ⌝ }
 {
-    printing::table_listing(table, script, output)
+    let r = printing::table_listing(table, script, output);
+    r.length
 }
 
 // ---- runs
 #[no_mangle]
 pub extern "C" fn fk_run_model(model: &[u8], script: &[u8], told: &mut [usize]) -> u32
-    ensures { λ r. ⌜ lending.TellsOutcome (lending.modelOutcome (now (model .entry)) (now (script .entry))) (now (told .entry)) r (now (told .exit)) ⌝ }
+    ensures { λ r. ⌜ lending.TellsOutcome (modelOutcome (now (model .entry)) (now (script .entry))) (now (told .entry)) r (now (told .exit)) ⌝ }
 {
     lending::run_model(model, script, told)
 }
 
 #[no_mangle]
 pub extern "C" fn fk_run_table(table: &[u8], script: &[u8], told: &mut [usize]) -> u32
-    ensures { λ r. ⌜ lending.TellsOutcome (lending.tableOutcome (now (table .entry)) (now (script .entry))) (now (told .entry)) r (now (told .exit)) ⌝ }
+    ensures { λ r. ⌜ lending.TellsOutcome (tableOutcome (now (table .entry)) (now (script .entry))) (now (told .entry)) r (now (told .exit)) ⌝ }
 {
     lending::run_table(table, script, told)
 }

@@ -28,7 +28,8 @@ use Rattle.table.specs.declared.Variables.{Variables}
 use Rattle.table.specs.declared.Stepped.{Stepped as TableStepped}
 use Rattle.table.specs.Machine.{startVariables, clockOf, runTable}
 use Rattle.writer.specs.Written.{sets-append}
-use Rattle.lending.specs.Lending.{lentAs, numbersOf, numbersShown, startAnswer, startLent, stepOn, stepAnswer, stepLent, afterStep, afterAnswer, afterLent, refusedOutcome, modelOutcome, tableOutcome, TellsOutcome}
+use Rattle.programs.specs.Outcomes.{refusedOutcome, modelOutcome, tableOutcome}
+use Rattle.lending.specs.Lending.{lentAs, numbersOf, numbersShown, startAnswer, startLent, stepOn, stepAnswer, stepLent, afterStep, afterAnswer, afterLent, TellsOutcome}
 
 -- ---- writing: the numbers of the first j variables are in the slice
 abbrev pub firstNumbers : (ℕ → ℕ) → ℕ → List ℕ

@@ -14,13 +14,12 @@ use Rattle.records.specs.declared.Cause.the-variants.{ShortOutput}
 use Rattle.records.specs.declared.Refusal.{Refusal}
 use Rattle.records.specs.Refusals.{isNone, numberOf}
 use Rattle.records.specs.Events.{eventOf}
-use Rattle.records.specs.Run.{Ended, tally}
+use Rattle.records.specs.Run.{tally}
 use Rattle.model_format.specs.declared.Model.{Model}
 use Rattle.model_format.specs.declared.Timing.{Timing}
 use Rattle.model_format.specs.Reading.{readModel}
 use Rattle.model.specs.declared.State.{State}
 use Rattle.model.specs.declared.Stepped.{Stepped}
-use Rattle.model.specs.State.{nowOf}
 use Rattle.model.specs.Machine as model-machine
 use Rattle.table_format.specs.Variables.{variables}
 use Rattle.table_format.specs.Reading.{readTable}
@@ -31,6 +30,7 @@ use Rattle.table.specs.Rules.{valueOf}
 use Rattle.table.specs.Machine as table-machine
 use Rattle.translate.specs.declared.Translation.{Translation}
 use Rattle.translate.specs.Shown.{standsFor}
+use Rattle.programs.specs.Outcomes.{Outcome}
 
 -- ---- variables: number j of the slice is the 32 bits of variable j; what lies behind the variables is no concern of ours
 abbrev pub variablesIn : List ℕ → Variables
@@ -81,28 +81,6 @@ unfoldable pub afterLent : List ℕ → List ℕ → List ℕ → List ℕ → L
 afterLent model script event d =
     let r = readModel model in
     cond (isNone (r .refusal .cause) && not (isShort d)) (lentAs d (numbersShown (r .model .timing) (afterStep (r .model) script event .state))) d
-
--- ---- runs from bytes: a model or table that is refused takes no event
-pub record Outcome : Type 0 where
-  pub refusal : Refusal
-  pub taken : ℕ
-  pub clock : ℕ
-
-abbrev pub refusedOutcome : Refusal → Outcome
-refusedOutcome r = record { refusal = r; taken = 0; clock = 0 }
-
-abbrev pub outcomeOf : {S : Type 0} → (S → ℕ) → Ended S → Outcome
-outcomeOf clock e = record { refusal = e .refusal; taken = e .taken; clock = clock (e .state) }
-
-unfoldable pub modelOutcome : List ℕ → List ℕ → Outcome
-modelOutcome model script =
-    let r = readModel model in
-    cond (isNone (r .refusal .cause)) (outcomeOf nowOf (model-machine.runModel (r .model) script)) (refusedOutcome (r .refusal))
-
-unfoldable pub tableOutcome : List ℕ → List ℕ → Outcome
-tableOutcome table script =
-    let r = readTable table in
-    cond (isNone (r .cause)) (outcomeOf table-machine.clockOf (table-machine.runTable table script)) (refusedOutcome r)
 
 -- ---- what is told, in this order; a slice with fewer places gets as many
 abbrev pub toldRefusal : Refusal → List ℕ

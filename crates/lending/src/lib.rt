@@ -9,6 +9,7 @@ use translate::Translation;
 ghost use mathlib.Core.Path.{_≡_};
 ghost use lib.ListN.{getD, set};
 ghost use Rattle.records.specs.Refusals.{numberOf};
+ghost use Rattle.programs.specs.Outcomes.{modelOutcome, tableOutcome};
 ghost use Rattle.lending.specs.Lending as lending;
 
 // ---- variables
@@ -166,7 +167,7 @@ fn tell_run(told: &mut [usize], f: Refusal, taken: usize, clock: u32) -> u32
 
 // The run of a model over a script, up to its first refused event.
 pub fn run_model(model: &[u8], script: &[u8], told: &mut [usize]) -> u32
-    ensures { λ r. ⌜ lending.TellsOutcome (lending.modelOutcome (now (model .entry)) (now (script .entry))) (now (told .entry)) r (now (told .exit)) ⌝ }
+    ensures { λ r. ⌜ lending.TellsOutcome (modelOutcome (now (model .entry)) (now (script .entry))) (now (told .entry)) r (now (told .exit)) ⌝ }
 {
     let r = model_reader::read_model(model);
     let f = r.refusal;
@@ -183,7 +184,7 @@ pub fn run_model(model: &[u8], script: &[u8], told: &mut [usize]) -> u32
 
 // The run of a table, likewise.
 pub fn run_table(table: &[u8], script: &[u8], told: &mut [usize]) -> u32
-    ensures { λ r. ⌜ lending.TellsOutcome (lending.tableOutcome (now (table .entry)) (now (script .entry))) (now (told .entry)) r (now (told .exit)) ⌝ }
+    ensures { λ r. ⌜ lending.TellsOutcome (tableOutcome (now (table .entry)) (now (script .entry))) (now (told .entry)) r (now (told .exit)) ⌝ }
 {
     let f = table_format::read_table(table);
     let c = f.cause;

@@ -1,6 +1,6 @@
 pub mod Places
+pub mod Prints
 pub mod Rules
 pub mod Runs
 pub mod Steps
 pub mod Tables
-pub mod ListsRules

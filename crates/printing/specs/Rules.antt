@@ -1,40 +1,56 @@
 -- Laws of the listing of `rules`: r is what translating gave, b whether a table was made.
-use mathlib.Core.Path.{_≡_, sym, _∙_, subst}
+use mathlib.Core.Path.{_≡_, refl, sym, _∙_, subst}
 use mathlib.Core.Bool.{Bool, true, false}
-use mathlib.Core.List.{List}
+use mathlib.Core.List.{List, []}
 use Prim.Native.Nat.{ℕ}
 use lib.ListN.{length, take}
-use Rattle.records.specs.Refusals.{isNone}
+use Rattle.records.specs.Refusals.{isNone, noRefusal}
 use Rattle.model_format.specs.Reading.{readModel}
+use Rattle.model_format.specs.WellFormed.{Bytes}
+use Rattle.model_format.specs.Accepted.{accepted-well-formed}
+use Rattle.table_format.specs.Reading.{readTable}
 use Rattle.translate.specs.declared.Translation.{Translation}
-use Rattle.translate.specs.Translate.{translated}
+use Rattle.translate.specs.Translate.{translated, tableBytes}
 use Rattle.simulation.specs.Compared.{Demand3}
+use Rattle.simulation.specs.Simulation.{was-accepted, demand-3}
 use Rattle.translator.specs.Translates.{Translates}
 use Rattle.translator.specs.Tables.{was-made, table-is}
 use Rattle.listing.specs.Listing.{refusedListing}
-use Rattle.programs.specs.Programs.{room, stepsListing, tableListing, rulesListing}
+use Rattle.programs.specs.Programs.{room, tableListing, rulesListing, PrintsSame}
+use Rattle.programs.specs.Outcomes.{tableOutcome, rulesOutcome}
 use Rattle.programs.specs.Same.{demand-prints-same}
 use Rattle.writer.specs.Written.{Wrote}
-use Rattle.printing.specs.ListsRules.{ListsRules}
+use Rattle.printing.specs.declared.Printed.{Printed}
+use Rattle.printing.specs.Prints.{Prints, prints-end}
 
 module _ (model out after : List ℕ) (r : Translation) (b : Bool) (size : room ≡ length out) (t : Translates model out r after) (g : b ≡ isNone (r .refusal .cause)) where
   -- demand 3, which translating promises, makes it the listing of `steps`
-  prints-same : (script : List ℕ) → isNone (translated model room .refusal .cause) ≡ true → rulesListing model script ≡ stepsListing model script
+  prints-same : (script : List ℕ) → PrintsSame model script
   prints-same script e =
       let made : isNone (r .refusal .cause) ≡ true = rw (t .told, ← size) e in
       demand-prints-same model script e (subst (Demand3 (readModel model .model) script) (table-is t made) (t .simulated script made))
 
-  module _ {d x : List ℕ} {p : ℕ} (script : List ℕ) where
-    rules-run : b ≡ true → Wrote d 0 (tableListing (take (r .bytes) after) script) x p → Wrote d 0 (rulesListing model script) x p
-    unfolding rulesListing
-    rules-run e w = rw (size, was-made t (sym g ∙ e), ← table-is t (sym g ∙ e)) w
+  module _ {d e : List ℕ} {x : Printed} (script : List ℕ) where
+    rules-run : b ≡ true → Prints (tableListing (take (r .bytes) after) script) (tableOutcome (take (r .bytes) after) script .refusal) d x e →
+        Prints (rulesListing model script) (rulesOutcome model script .refusal) d x e
+    unfolding rulesListing rulesOutcome
+    rules-run f w = rw (size, was-made t (sym g ∙ f), ← table-is t (sym g ∙ f)) w
 
-    pub lists-run : b ≡ true → Wrote d 0 (tableListing (take (r .bytes) after) script) x p → ListsRules model script d x p
-    lists-run e w = record { written = rules-run e w; same = prints-same script }
+    rules-refused : b ≡ false → (Wrote d 0 (refusedListing (r .refusal .cause)) e (x .length) × (x .refusal ≡ r .refusal)) →
+        Prints (rulesListing model script) (rulesOutcome model script .refusal) d x e
+    unfolding rulesListing rulesOutcome
+    rules-refused f w = rw (size, ← t .told, ← g, f) (prints-end w)
 
-    rules-refused : b ≡ false → Wrote d 0 (refusedListing (r .refusal .cause)) x p → Wrote d 0 (rulesListing model script) x p
-    unfolding rulesListing
-    rules-refused e w = rw (size, ← t .told, ← g, e) w
+    pub lists-run : b ≡ true → Prints (tableListing (take (r .bytes) after) script) (tableOutcome (take (r .bytes) after) script .refusal) d x e →
+        Prints (rulesListing model script) (rulesOutcome model script .refusal) d x e × PrintsSame model script
+    lists-run f w = (rules-run f w, prints-same script)
 
-    pub lists-refusal : b ≡ false → Wrote d 0 (refusedListing (r .refusal .cause)) x p → ListsRules model script d x p
-    lists-refusal e w = record { written = rules-refused e w; same = prints-same script }
+    pub lists-refusal : b ≡ false → (Wrote d 0 (refusedListing (r .refusal .cause)) e (x .length) × (x .refusal ≡ r .refusal)) →
+        Prints (rulesListing model script) (rulesOutcome model script .refusal) d x e × PrintsSame model script
+    lists-refusal f w = (rules-refused f w, prints-same script)
+
+-- the table that is made is one that is read
+pub made-accepted : (model : List ℕ) → Bytes model → isNone (translated model room .refusal .cause) ≡ true → readTable (tableBytes (readModel model .model)) ≡ noRefusal
+made-accepted model b e =
+    let a = was-accepted model room (translated model room) refl e .reading in
+    demand-3 (readModel model .model) (accepted-well-formed model b a) [] .accepted

@@ -7,16 +7,20 @@ use Rattle.records.specs.Refusals.{isNone}
 use Rattle.model_format.specs.declared.ModelRead.{ModelRead}
 use Rattle.model_format.specs.Reading.{readModel}
 use Rattle.model.specs.State.{nowOf}
-use Rattle.model.specs.Machine.{startState, machineOf}
+use Rattle.model.specs.Machine.{startState, machineOf, runModel}
 use Rattle.listing.specs.Listing.{listing, refusedListing}
 use Rattle.programs.specs.Programs.{stepsListing}
+use Rattle.programs.specs.Outcomes.{modelOutcome}
+use Rattle.printing.specs.declared.Printed.{Printed}
 use Rattle.writer.specs.Written.{Wrote}
+use Rattle.printing.specs.Prints.{Prints, prints-end}
 
-module _ {d e : List ℕ} {p : ℕ} (model script : List ℕ) (r : ModelRead) (b : Bool) (h : r ≡ readModel model) (g : b ≡ isNone (r .refusal .cause)) where
-  pub steps-run : b ≡ true → Wrote d 0 (listing (machineOf (r .model)) nowOf (startState (r .model .timing)) script) e p → Wrote d 0 (stepsListing model script) e p
-  unfolding stepsListing
+module _ {d e : List ℕ} {x : Printed} (model script : List ℕ) (r : ModelRead) (b : Bool) (h : r ≡ readModel model) (g : b ≡ isNone (r .refusal .cause)) where
+  pub steps-run : b ≡ true → Prints (listing (machineOf (r .model)) nowOf (startState (r .model .timing)) script) (runModel (r .model) script .refusal) d x e →
+      Prints (stepsListing model script) (modelOutcome model script .refusal) d x e
+  unfolding stepsListing modelOutcome
   steps-run t w = rw (← h, ← g, t) w
 
-  pub steps-refused : b ≡ false → Wrote d 0 (refusedListing (r .refusal .cause)) e p → Wrote d 0 (stepsListing model script) e p
-  unfolding stepsListing
-  steps-refused t w = rw (← h, ← g, t) w
+  pub steps-refused : b ≡ false → (Wrote d 0 (refusedListing (r .refusal .cause)) e (x .length) × (x .refusal ≡ r .refusal)) → Prints (stepsListing model script) (modelOutcome model script .refusal) d x e
+  unfolding stepsListing modelOutcome
+  steps-refused t w = rw (← h, ← g, t) (prints-end w)

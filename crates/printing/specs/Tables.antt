@@ -7,16 +7,20 @@ use Rattle.records.specs.declared.Refusal.{Refusal}
 use Rattle.records.specs.Refusals.{isNone}
 use Rattle.table_format.specs.Table.{tableOf}
 use Rattle.table_format.specs.Reading.{readTable}
-use Rattle.table.specs.Machine.{startVariables, clockOf, machineOf}
+use Rattle.table.specs.Machine.{startVariables, clockOf, machineOf, runTable}
 use Rattle.listing.specs.Listing.{listing, refusedListing}
 use Rattle.programs.specs.Programs.{tableListing}
+use Rattle.programs.specs.Outcomes.{tableOutcome}
+use Rattle.printing.specs.declared.Printed.{Printed}
 use Rattle.writer.specs.Written.{Wrote}
+use Rattle.printing.specs.Prints.{Prints, prints-end}
 
-module _ {d e : List ℕ} {p : ℕ} (table script : List ℕ) (r : Refusal) (b : Bool) (h : r ≡ readTable table) (g : b ≡ isNone (r .cause)) where
-  pub table-run : b ≡ true → Wrote d 0 (listing (machineOf (tableOf table .rules)) clockOf (startVariables (tableOf table)) script) e p → Wrote d 0 (tableListing table script) e p
-  unfolding tableListing
+module _ {d e : List ℕ} {x : Printed} (table script : List ℕ) (r : Refusal) (b : Bool) (h : r ≡ readTable table) (g : b ≡ isNone (r .cause)) where
+  pub table-run : b ≡ true → Prints (listing (machineOf (tableOf table .rules)) clockOf (startVariables (tableOf table)) script) (runTable table script .refusal) d x e →
+      Prints (tableListing table script) (tableOutcome table script .refusal) d x e
+  unfolding tableListing tableOutcome
   table-run t w = rw (← h, ← g, t) w
 
-  pub table-refused : b ≡ false → Wrote d 0 (refusedListing (r .cause)) e p → Wrote d 0 (tableListing table script) e p
-  unfolding tableListing
-  table-refused t w = rw (← h, ← g, t) w
+  pub table-refused : b ≡ false → (Wrote d 0 (refusedListing (r .cause)) e (x .length) × (x .refusal ≡ r)) → Prints (tableListing table script) (tableOutcome table script .refusal) d x e
+  unfolding tableListing tableOutcome
+  table-refused t w = rw (← h, ← g, t) (prints-end w)

@@ -1,2 +1,4 @@
 pub mod Programs
+pub mod Outcomes
+pub mod Parts
 pub mod Same

@@ -1,5 +1,6 @@
 -- What the programs print, from the bytes that they read.
-use mathlib.Core.Bool.{cond}
+use mathlib.Core.Path.{_≡_}
+use mathlib.Core.Bool.{true, cond}
 use mathlib.Core.List.{List}
 use Prim.Native.Nat.{ℕ}
 use Rattle.records.specs.Refusals.{isNone}
@@ -35,3 +36,7 @@ rulesListing model script =
     let r = translated model room in
     let lines = tableListing (tableBytes (readModel model .model)) script in
     cond (isNone (r .refusal .cause)) lines (refusedListing (r .refusal .cause))
+
+-- "prints the same": where the table is made, the two listings are equal bytes
+abbrev pub PrintsSame : List ℕ → List ℕ → Type 0
+PrintsSame model script = isNone (translated model room .refusal .cause) ≡ true → rulesListing model script ≡ stepsListing model script

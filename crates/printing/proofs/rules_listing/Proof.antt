@@ -33,14 +33,14 @@ same-length c = search needs
 returns : tie.Need-returns
 returns c = lists-run _ _ _ (c .before .before .before .before .before .before .before .before .before .translate .result) _ (c .before .before .before .before .before .before .before .before .before .before .before .table-room .ensures) (c .before .before .before .before .before .before .before .before .before .translate .ensures) (c .before .before .before .before .before .before .is-none .ensures) _ (c .before .before .before .before .before .if1 .taken) (c .before .before .table-listing .ensures)
 
-refused-listing-requires : tie.Need-refused-listing-requires
-refused-listing-requires c κs = search needs
+put-end-requires : tie.Need-put-end-requires
+put-end-requires c κs = search needs
 
 same-length-2 : tie.Need-same-length-2
 same-length-2 c = search needs
 
 returns-2 : tie.Need-returns-2
-returns-2 c = lists-refusal _ _ _ (c .before .before .before .before .before .before .before .before .translate .result) _ (c .before .before .before .before .before .before .before .before .before .before .table-room .ensures) (c .before .before .before .before .before .before .before .before .translate .ensures) (c .before .before .before .before .before .is-none .ensures) _ (c .before .before .before .before .if1 .left) (c .before .before .refused-listing .ensures)
+returns-2 c = lists-refusal _ _ _ (c .before .before .before .before .before .before .before .before .translate .result) _ (c .before .before .before .before .before .before .before .before .before .before .table-room .ensures) (c .before .before .before .before .before .before .before .before .translate .ensures) (c .before .before .before .before .before .is-none .ensures) _ (c .before .before .before .before .if1 .left) (c .before .before .put-end .ensures)
 
 pub rules-listing-spec : {M : Type 1} → statement M
 rules-listing-spec =
@@ -55,6 +55,6 @@ rules-listing-spec =
     table-listing-requires
     same-length
     returns
-    refused-listing-requires
+    put-end-requires
     same-length-2
     returns-2)

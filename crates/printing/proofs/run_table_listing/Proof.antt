@@ -1,3 +1,4 @@
+use Rattle.writer.specs.Written.{keeps-length}
 use mathlib.Core.Path.{_≡_, sym, _∙_, ap}
 use Prim.Native.Nat.{_-_}
 use native.Mathlib.Omega.{arith}
@@ -7,7 +8,7 @@ use Rattle.records.specs.declared.Notation.the-variants.{Script}
 use Rattle.records.specs.Walk.{next-place}
 use Rattle.listing.specs.Listing.{listing}
 use Rattle.table_format.specs.Table.{tableOf}
-use Rattle.table.specs.Machine.{startVariables, clockOf, machineOf}
+use Rattle.table.specs.Machine.{startVariables, clockOf, machineOf, runTable}
 use Rattle.table.specs.Runs.{variablesOf}
 use Rattle.table.specs.Index.{rulesBy}
 use Rattle.table.specs.IndexLaws.{rules-by-heads, step-by-heads}
@@ -18,7 +19,7 @@ use Rattle.printing.proofs.run_table_listing.Statement.{statement}
 use Rattle.printing.proofs.run_table_listing.Tie as tie
 
 abbrev Inv-loop : tie.InvT-loop
-Inv-loop table script d₀ place guard heads v₀ taken₀ p₀ at₀ d v taken p at = (rulesBy table place guard heads ≡ tableOf table .rules) × Running (machineOf (tableOf table .rules)) clockOf script d₀ (listing (machineOf (tableOf table .rules)) clockOf (startVariables (tableOf table)) script) d at p (variablesOf v) taken
+Inv-loop table script d₀ place guard heads v₀ taken₀ p₀ at₀ d v taken p at = (rulesBy table place guard heads ≡ tableOf table .rules) × Running (machineOf (tableOf table .rules)) clockOf script d₀ (listing (machineOf (tableOf table .rules)) clockOf (startVariables (tableOf table)) script) (runTable table script .refusal) d at p (variablesOf v) taken
 
 abbrev μ-loop : tie.MeasureT-loop
 μ-loop table script d₀ place guard heads v₀ taken₀ p₀ at₀ d v taken p at = length script - p
@@ -39,6 +40,7 @@ all-bits-requires : tie.Need-all-bits-requires Inv-loop μ-loop
 all-bits-requires c κs = search needs
 
 loop-holds : tie.Need-loop-holds Inv-loop μ-loop
+unfolding runTable
 loop-holds c = (rules-by-heads _ (replicate 1024 0) (replicate 1024 0) _ _ _ (c .before .before .before .before .list-heads .ensures .0) (c .before .before .before .before .list-heads .ensures .1) (c .before .before .before .before .list-heads .ensures .2), rw (c .all-bits .ensures, c .before .start-variables .ensures) (run-begin _ _ _ _ _ (search needs) (search needs)))
 
 part-length-at-requires : tie.Need-part-length-at-requires Inv-loop μ-loop
@@ -71,17 +73,20 @@ step-on-requires c κs = search needs
 is-none-requires : tie.Need-is-none-requires Inv-loop μ-loop
 is-none-requires c κs = search needs
 
+in-script-requires : tie.Need-in-script-requires Inv-loop μ-loop
+in-script-requires c κs = search needs
+
 clock-in-requires : tie.Need-clock-in-requires Inv-loop μ-loop
 clock-in-requires c κs = search needs
 
-put-last-requires : tie.Need-put-last-requires Inv-loop μ-loop
-put-last-requires c κs = search needs
+put-end-requires : tie.Need-put-end-requires Inv-loop μ-loop
+put-end-requires c κs = search needs
 
 same-length : tie.Need-same-length Inv-loop μ-loop
-same-length c = search needs
+same-length c = keeps-length (c .before .before .put-end .ensures .0) ∙ c .before .before .before .before .before .before .before .before .before .before .before .before .before .before .before .before .before .loop .inv .1 .left .same
 
 returns : tie.Need-returns Inv-loop μ-loop
-returns c = run-refused _ _ _ (c .before .before .before .before .before .before .before .before .before .before .before .before .before .before .before .before .loop .inv .1) _ _ _ _ _ (c .before .before .before .before .before .before .before .before .before .before .before .before .before .before .before .loop-test .taken) (c .before .before .before .before .before .before .before .before .before .before .before .before .before .before .part-length-at .ensures) (c .before .before .before .before .before .before .before .before .before .before .before .before .event-of .ensures) (answer-of _ _ _ _ _ (c .before .before .before .before .before .before .before .before .step-on .ensures ∙ step-by-heads _ _ _ _ (c .before .before .before .before .before .before .before .before .before .before .before .before .before .before .before .before .loop .inv .0) _ _)) (c .before .before .before .before .before .before .before .is-none .ensures) (not-true _ (c .before .before .before .before .before .before .if1 .taken)) (c .before .before .before .clock-in .ensures ∙ ap clockOf (refused-same _ _ _ _ _ (c .before .before .before .before .before .before .before .before .step-on .ensures ∙ step-by-heads _ _ _ _ (c .before .before .before .before .before .before .before .before .before .before .before .before .before .before .before .before .loop .inv .0) _ _) (sym (c .before .before .before .before .before .before .before .is-none .ensures) ∙ not-true _ (c .before .before .before .before .before .before .if1 .taken)))) (c .before .before .put-last .ensures)
+returns c = run-refused _ _ _ (c .before .before .before .before .before .before .before .before .before .before .before .before .before .before .before .before .before .loop .inv .1) _ _ _ _ _ (c .before .before .before .before .before .before .before .before .before .before .before .before .before .before .before .before .loop-test .taken) (c .before .before .before .before .before .before .before .before .before .before .before .before .before .before .before .part-length-at .ensures) (c .before .before .before .before .before .before .before .before .before .before .before .before .before .event-of .ensures) (answer-of _ _ _ _ _ (c .before .before .before .before .before .before .before .before .before .step-on .ensures ∙ step-by-heads _ _ _ _ (c .before .before .before .before .before .before .before .before .before .before .before .before .before .before .before .before .before .loop .inv .0) _ _)) (c .before .before .before .before .before .before .before .before .is-none .ensures) _ (not-true _ (c .before .before .before .before .before .before .before .if1 .taken)) (c .before .before .before .clock-in .ensures ∙ ap clockOf (refused-same _ _ _ _ _ (c .before .before .before .before .before .before .before .before .before .step-on .ensures ∙ step-by-heads _ _ _ _ (c .before .before .before .before .before .before .before .before .before .before .before .before .before .before .before .before .before .loop .inv .0) _ _) (sym (c .before .before .before .before .before .before .before .before .is-none .ensures) ∙ not-true _ (c .before .before .before .before .before .before .before .if1 .taken)))) (c .before .before .before .before .before .before .in-script .ensures) (c .before .before .put-end .ensures)
 
 add-taken : tie.Need-add-taken Inv-loop μ-loop
 add-taken c = let k = c .before .before .before .before .before .before .before .before .before .before .loop .inv .1 .count in let h = c .before .before .before .before .before .before .before .before .before .loop-test .taken in let n = c .before .before .before .before .before .before .before .before .before .before .loop .inv .1 .size in search needs
@@ -98,17 +103,20 @@ loop-less c = let z = next-place Script _ _ _ (c .before .before .before .before
 loop-again : tie.Need-loop-again Inv-loop μ-loop
 loop-again c = (c .before .before .before .before .before .before .before .before .before .before .before .before .before .before .before .before .loop .inv .0, run-on _ _ _ (c .before .before .before .before .before .before .before .before .before .before .before .before .before .before .before .before .loop .inv .1) _ _ _ _ _ (c .before .before .before .before .before .before .before .before .before .before .before .before .before .before .before .loop-test .taken) (c .before .before .before .before .before .before .before .before .before .before .before .before .before .before .part-length-at .ensures) (c .before .before .before .before .before .before .before .before .before .before .before .before .event-of .ensures) (answer-of _ _ _ _ _ (c .before .before .before .before .before .before .before .before .step-on .ensures ∙ step-by-heads _ _ _ _ (c .before .before .before .before .before .before .before .before .before .before .before .before .before .before .before .before .loop .inv .0) _ _)) (c .before .before .before .before .before .before .before .is-none .ensures) _ (state-of _ _ _ _ _ (c .before .before .before .before .before .before .before .before .step-on .ensures ∙ step-by-heads _ _ _ _ (c .before .before .before .before .before .before .before .before .before .before .before .before .before .before .before .before .loop .inv .0) _ _)) (not-false _ (c .before .before .before .before .before .before .if1 .left)) (c .before .before .before .clock-in2 .ensures) (c .before .before .put-event .ensures))
 
+nothing-requires : tie.Need-nothing-requires Inv-loop μ-loop
+nothing-requires c κs = search needs
+
 clock-in-requires-3 : tie.Need-clock-in-requires-3 Inv-loop μ-loop
 clock-in-requires-3 c κs = search needs
 
-put-last-requires-2 : tie.Need-put-last-requires-2 Inv-loop μ-loop
-put-last-requires-2 c κs = search needs
+put-end-requires-2 : tie.Need-put-end-requires-2 Inv-loop μ-loop
+put-end-requires-2 c κs = search needs
 
 same-length-2 : tie.Need-same-length-2 Inv-loop μ-loop
 same-length-2 c = search needs
 
 returns-2 : tie.Need-returns-2 Inv-loop μ-loop
-returns-2 c = run-end _ _ _ (c .before .before .before .before .before .before .before .loop .inv .1) _ (c .before .before .before .before .before .before .loop-test .left) (c .before .before .before .clock-in3 .ensures) (c .before .before .put-last2 .ensures)
+returns-2 c = run-end _ _ _ (c .before .before .before .before .before .before .before .before .loop .inv .1) _ _ (c .before .before .before .before .before .before .before .loop-test .left) (c .before .before .before .clock-in3 .ensures) (c .before .before .before .before .before .before .nothing .ensures) (c .before .before .put-end2 .ensures)
 
 pub run-table-listing-spec : {M : Type 1} → statement M
 run-table-listing-spec =
@@ -132,8 +140,9 @@ run-table-listing-spec =
     slice-aggregate-step-on-2
     step-on-requires
     is-none-requires
+    in-script-requires
     clock-in-requires
-    put-last-requires
+    put-end-requires
     same-length
     returns
     add-taken
@@ -141,7 +150,8 @@ run-table-listing-spec =
     put-event-requires
     loop-less
     loop-again
+    nothing-requires
     clock-in-requires-3
-    put-last-requires-2
+    put-end-requires-2
     same-length-2
     returns-2)

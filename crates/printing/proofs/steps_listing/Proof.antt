@@ -20,8 +20,8 @@ returns c =
     steps-run (c .before .before .before .before .before .before .before .before .before .before .before .before .args .model .now) (c .before .before .before .before .before .before .before .before .before .before .before .before .args .script .now) (c .before .before .before .before .before .before .before .before .read-model .result) _ (c .before .before .before .before .before .before .before .before .read-model .ensures) (c .before .before .before .before .before .before .is-none .ensures)
     (c .before .before .before .before .before .if1 .taken) (c .before .before .run-listing .ensures)
 
-refused-listing-requires : tie.Need-refused-listing-requires
-refused-listing-requires c κs = search needs
+put-end-requires : tie.Need-put-end-requires
+put-end-requires c κs = search needs
 
 same-length-2 : tie.Need-same-length-2
 same-length-2 c = search needs
@@ -29,7 +29,7 @@ same-length-2 c = search needs
 returns-2 : tie.Need-returns-2
 returns-2 c =
     steps-refused (c .before .before .before .before .before .before .before .before .before .before .before .args .model .now) (c .before .before .before .before .before .before .before .before .before .before .before .args .script .now) (c .before .before .before .before .before .before .before .read-model .result) _ (c .before .before .before .before .before .before .before .read-model .ensures) (c .before .before .before .before .before .is-none .ensures)
-    (c .before .before .before .before .if1 .left) (c .before .before .refused-listing .ensures)
+    (c .before .before .before .before .if1 .left) (c .before .before .put-end .ensures)
 
 pub steps-listing-spec : {M : Type 1} → statement M
 steps-listing-spec =
@@ -40,6 +40,6 @@ steps-listing-spec =
     run-listing-requires
     same-length
     returns
-    refused-listing-requires
+    put-end-requires
     same-length-2
     returns-2)

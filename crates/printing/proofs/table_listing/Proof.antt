@@ -18,14 +18,14 @@ same-length c = search needs
 returns : tie.Need-returns
 returns c = table-run (c .before .before .before .before .before .before .before .before .before .before .args .table .now) (c .before .before .before .before .before .before .before .before .before .before .args .script .now) (c .before .before .before .before .before .before .read-table .result) _ (c .before .before .before .before .before .before .read-table .ensures) (c .before .before .before .before .before .is-none .ensures) (c .before .before .before .before .if1 .taken) (c .before .before .run-table-listing .ensures)
 
-refused-listing-requires : tie.Need-refused-listing-requires
-refused-listing-requires c κs = search needs
+put-end-requires : tie.Need-put-end-requires
+put-end-requires c κs = search needs
 
 same-length-2 : tie.Need-same-length-2
 same-length-2 c = search needs
 
 returns-2 : tie.Need-returns-2
-returns-2 c = table-refused (c .before .before .before .before .before .before .before .before .before .before .args .table .now) (c .before .before .before .before .before .before .before .before .before .before .args .script .now) (c .before .before .before .before .before .before .read-table .result) _ (c .before .before .before .before .before .before .read-table .ensures) (c .before .before .before .before .before .is-none .ensures) (c .before .before .before .before .if1 .left) (c .before .before .refused-listing .ensures)
+returns-2 c = table-refused (c .before .before .before .before .before .before .before .before .before .before .args .table .now) (c .before .before .before .before .before .before .before .before .before .before .args .script .now) (c .before .before .before .before .before .before .read-table .result) _ (c .before .before .before .before .before .before .read-table .ensures) (c .before .before .before .before .before .is-none .ensures) (c .before .before .before .before .if1 .left) (c .before .before .put-end .ensures)
 
 pub table-listing-spec : {M : Type 1} → statement M
 table-listing-spec =
@@ -36,6 +36,6 @@ table-listing-spec =
     run-table-listing-requires
     same-length
     returns
-    refused-listing-requires
+    put-end-requires
     same-length-2
     returns-2)
