@@ -22,8 +22,8 @@ use Rattle.table.specs.Rules.{allHold, enabledRules}
 use Rattle.table.specs.Machine.{isBusy}
 use Rattle.table.specs.Index.{headIn, clausesAt, ruleAt, isHead, keyOf, keyAt, guardAt, isListed, listed}
 use Rattle.table.specs.Places.{HeadAt, head-kind, head-id}
-use Rattle.table.specs.Enabled.{isAsked, foundRule, Choice, choice, rulesFound, FindsIn, find-rule, ruleStops}
-use Rattle.table.specs.Ticking.{later, and-false, first-or, first-same, quietIn}
+use Rattle.table.specs.Enabled.{isAsked, foundOneMore, foundRule, Choice, choice, rulesFound, FindsIn, find-rule, ruleStops}
+use Rattle.table.specs.Ticking.{later, and-false, first-before, first-or, first-same, quietIn}
 use Rattle.table.specs.Guards.{mayHold, guard-fails, later-may, never}
 use Rattle.table.specs.IndexLaws.{head-at}
 
@@ -114,14 +114,22 @@ module _ (s : List ℕ) (v : List Value) (e : Event) (f : Found) (w g : ℕ) whe
   pub found-guarded : (b : Bool) → b ≡ mayHold v g → b ≡ false → f ≡ foundListed s v e f w g
   found-guarded b q z = found-unless (λ h. rw (guard-disables s w g h v (sym q ∙ z)) (and-false (isAsked e (headIn s (w / 65536)))))
 
+  pub found-not-enabled : (b : Bool) → b ≡ allHold v (clausesAt s (w / 65536 + 11)) → b ≡ false → f ≡ foundListed s v e f w g
+  found-not-enabled b q z = found-unless (λ h. rw (← q, z) (and-false (isAsked e (headIn s (w / 65536)))))
+
   module _ (b : Bool) (q : b ≡ isListed s w g) where
     pub found-not-listed : b ≡ false → f ≡ foundListed s v e f w g
     unfolding foundListed
     found-not-listed z = rw (← q, z)
 
-    pub found-listed : b ≡ true → (h : RuleHead) → h ≡ headIn s (w / 65536) → (r : Found) → r ≡ foundRule s v e f (w / 65536 + 11) h → r ≡ foundListed s v e f w g
-    unfolding foundListed
-    found-listed z h i r k = rw (← q, z, k, i)
+    module _ (z : b ≡ true) (h : RuleHead) (i : h ≡ headIn s (w / 65536)) (a : Bool) (k : a ≡ isAsked e h) where
+      pub found-not-asked : a ≡ false → f ≡ foundListed s v e f w g
+      unfolding foundListed foundRule
+      found-not-asked y = rw (← q, z, ← i, ← k, y)
+
+      pub found-listed : a ≡ true → (c : Bool) → c ≡ allHold v (clausesAt s (w / 65536 + 11)) → c ≡ true → foundOneMore f (w / 65536 + 11) h ≡ foundListed s v e f w g
+      unfolding foundListed foundRule
+      found-listed y c l x = rw (← q, z, ← i, ← k, y, ← l, x)
 
 -- ---- its loop: i of the words are looked at
 dropped : (d : List ℕ) (i : ℕ) → i < length d → drop i d ≡ getD d i 0 ∷ drop (i + 1) d
@@ -183,6 +191,22 @@ module _ (s : List ℕ) (v : List Value) (n w g : ℕ) where
       go i false x = rw x
       go i true x =
           rw (x, guard-disables s w g x (later i v) (later-may i v g ∙ sym e ∙ z)) (and-false (not (eqb (headIn s (w / 65536) .kind) requestKind)))
+
+  pub stops-no-head : (b : Bool) → b ≡ isHead s (w / 65536) → b ≡ false → n ≡ firstBelow n (λ i. listedStops s (later i v) w g)
+  unfolding listedStops
+  stops-no-head b e z = sym (first-none n (λ i. listedStops s (later i v) w g) (λ i h. rw (← listed-no-head s w g b e z)))
+
+  -- its rule stops none of n ticks: listed or not
+  pub stops-none : HeadAt s (w / 65536) → (k : ℕ) → k ≡ getD s (w / 65536 + 1) 0 → (r : ℕ) → r ≡ firstBelow n (λ i. ruleStops s (later i v) (w / 65536 + 11) k) →
+      r ≡ n → n ≡ firstBelow n (λ i. listedStops s (later i v) w g)
+  unfolding listedStops
+  stops-none h k x r y z = sym (first-none n (λ i. listedStops s (later i v) w g) (λ i l. rw (none i l) (and-false (isListed s w g))))
+    where
+      q : k ≡ headIn s (w / 65536) .kind
+      q = x ∙ head-kind s (w / 65536) h
+
+      none : (i : ℕ) → i < n → ruleStops s (later i v) (w / 65536 + 11) (headIn s (w / 65536) .kind) ≡ false
+      none i l = ap (ruleStops s (later i v) (w / 65536 + 11)) (sym q) ∙ first-before n (λ j. ruleStops s (later j v) (w / 65536 + 11) k) i (rw (← y, z) l)
 
   module _ (b : Bool) (e : b ≡ isListed s w g) where
     pub stops-not-listed : b ≡ false → n ≡ firstBelow n (λ i. listedStops s (later i v) w g)

@@ -437,19 +437,26 @@ fn find_from(t: &[u8], from: usize, v: &[u32; 288], e: Event, before: Found) -> 
     f
 }
 
-// What is found where the rule that two words list is looked at too. One whose guard fails is not enabled.
+// What is found where the rule that two words list is looked at too. The words are checked last: few rules are enabled.
 fn found_listed(t: &[u8], v: &[u32; 288], e: Event, f: Found, word: usize, guard: usize) -> Found
     ensures { λ r. ⌜ r ≡ foundListed (now (t .entry)) (values (now (v .entry))) e f word guard ⌝ }
 {
     if !may_hold(v, guard) {
         return f;
     }
+    let at = word / 65536;
+    let next = at + 11;
+    if !is_enabled(t, next, v) {
+        return f;
+    }
     if !is_listed(t, word, guard) {
         return f;
     }
-    let at = word / 65536;
-    let next = at + 11;
-    found_rule(t, v, e, f, next, table_format::head_of(&t[at..next]))
+    let h = table_format::head_of(&t[at..next]);
+    if !is_asked(e, h) {
+        return f;
+    }
+    found_one_more(f, next, h)
 }
 
 // The enabled rules of an event among the rules listed. Words of another key are passed over.
@@ -720,16 +727,23 @@ fn quiet_from(t: &[u8], from: usize, v: &[u32; 288], n: u32) -> u32
     limit
 }
 
-// After how many ticks the rule that two words list stops them.
+// After how many ticks the rule that two words list stops them. The words are checked last: few rules stop a tick.
 fn ticks_to_listed(t: &[u8], v: &[u32; 288], limit: u32, word: usize, guard: usize) -> u32
     ensures { λ r. ⌜ r ≡ firstBelow limit (λ i. listedStops (now (t .entry)) (later i (values (now (v .entry)))) word guard) ⌝ }
 {
+    let at = word / 65536;
+    if !is_head(t, at) {
+        return limit;
+    }
+    let kind = t[at + 1];
+    let n = ticks_to_rule(t, v, limit, at + 11, kind);
+    if n == limit {
+        return limit;
+    }
     if !is_listed(t, word, guard) {
         return limit;
     }
-    let at = word / 65536;
-    let kind = t[at + 1];
-    ticks_to_rule(t, v, limit, at + 11, kind)
+    n
 }
 
 // How many of n ticks pass before some rule listed stops them. Words whose guard fails are passed over.
@@ -816,11 +830,11 @@ fn step_listed(
         return tick(t, place, guard, rest, v, e.amount);
     }
     let f = find(t, place, guard, rest, v, e);
-    let n = f.count;
-    if n == 0 {
+    let count = f.count;
+    if count == 0 {
         return Cause::NotEnabled;
     }
-    if n == 1 {
+    if count == 1 {
         return fire(t, v, e, f);
     }
     Cause::ConflictingRules
@@ -937,15 +951,15 @@ pub fn run_table(t: &[u8], script: &[u8]) -> Ran
     while at < script.len() {
         let w = Notation::Script;
         let n = records::part_length_at(w, script, at);
-        let next = at + n;
-        let e = records::event_of(&script[at..next]);
+        let end = at + n;
+        let e = records::event_of(&script[at..end]);
         let c = step_on(t, &place, &guard, heads, &mut v, e);
         if !records::is_none(c) {
             let h = Holder::Script;
-            return ended(k, c, h, at, next, variables_of(v));
+            return ended(k, c, h, at, end, variables_of(v));
         }
         k += 1;
-        at = next;
+        at = end;
     }
     let c = Cause::None;
     let h = Holder::Model;

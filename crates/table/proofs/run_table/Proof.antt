@@ -45,8 +45,8 @@ loop-holds c = (omega arith, omega arith, rules-by-heads (c .before .before .bef
 part-length-at-requires : tie.Need-part-length-at-requires Inv-loop μ-loop
 part-length-at-requires c κs = search needs
 
-add-next : tie.Need-add-next Inv-loop μ-loop
-add-next c = let n = next-place notations.Script (c .before .before .before .before .before .before .before .before .before .before .before .before .args .script .now) _ _ (c .before .loop-test .taken) (c .part-length-at .ensures) in record { fits = omega arith }
+add-end : tie.Need-add-end Inv-loop μ-loop
+add-end c = let n = next-place notations.Script (c .before .before .before .before .before .before .before .before .before .before .before .before .args .script .now) _ _ (c .before .loop-test .taken) (c .part-length-at .ensures) in record { fits = omega arith }
 
 sub-event-of : tie.Need-sub-event-of Inv-loop μ-loop
 sub-event-of c = search needs
@@ -79,7 +79,7 @@ ended-requires : tie.Need-ended-requires Inv-loop μ-loop
 ended-requires c κs = search needs
 
 returns : tie.Need-returns Inv-loop μ-loop
-returns c = rw (c .ended .ensures, c .before .variables-of .ensures, refused-same _ _ _ _ _ (c .before .before .before .before .step-on .ensures ∙ step-by-heads _ _ _ _ (c .before .before .before .before .before .before .before .before .before .before .before .before .loop .inv .2) _ _) (sym (c .before .before .before .is-none .ensures) ∙ not-true _ (c .before .before .if1 .taken))) (run-refused (machineOf (tableOf (c .before .before .before .before .before .before .before .before .before .before .before .before .before .before .before .before .before .before .before .before .before .before .args .t .now) .rules)) (c .before .before .before .before .before .before .before .before .before .before .before .before .before .before .before .before .before .before .before .before .before .before .args .script .now) _ (variablesOf (c .before .before .before .before .before .before .before .before .before .before .before .before .loop .v)) _ _ (c .before .before .before .before .before .before .before .before .before .before .before .loop-test .taken) (c .before .before .before .before .before .before .before .before .before .before .part-length-at .ensures) (rw slice-part at (c .before .before .before .before .before .before .before .before .event-of .ensures)) _ _ (answer-of _ _ _ _ _ (c .before .before .before .before .step-on .ensures ∙ step-by-heads _ _ _ _ (c .before .before .before .before .before .before .before .before .before .before .before .before .loop .inv .2) _ _)) (sym (c .before .before .before .is-none .ensures) ∙ not-true _ (c .before .before .if1 .taken)) ∙ c .before .before .before .before .before .before .before .before .before .before .before .before .loop .inv .3)
+returns c = rw (c .ended .ensures, c .before .variables-of .ensures, refused-same _ _ _ _ _ (c .before .before .before .before .step-on .ensures ∙ step-by-heads _ _ _ _ (c .before .before .before .before .before .before .before .before .before .before .before .before .loop .inv .2) _ _) (sym (c .before .before .before .is-none .ensures) ∙ not-true (c .before .before .before .is-none .result) (c .before .before .if1 .taken))) (run-refused (machineOf (tableOf (c .before .before .before .before .before .before .before .before .before .before .before .before .before .before .before .before .before .before .before .before .before .before .args .t .now) .rules)) (c .before .before .before .before .before .before .before .before .before .before .before .before .before .before .before .before .before .before .before .before .before .before .args .script .now) _ (variablesOf (c .before .before .before .before .before .before .before .before .before .before .before .before .loop .v)) _ _ (c .before .before .before .before .before .before .before .before .before .before .before .loop-test .taken) (c .before .before .before .before .before .before .before .before .before .before .part-length-at .ensures) (rw slice-part at (c .before .before .before .before .before .before .before .before .event-of .ensures)) _ _ (answer-of _ _ _ _ _ (c .before .before .before .before .step-on .ensures ∙ step-by-heads _ _ _ _ (c .before .before .before .before .before .before .before .before .before .before .before .before .loop .inv .2) _ _)) (sym (c .before .before .before .is-none .ensures) ∙ not-true (c .before .before .before .is-none .result) (c .before .before .if1 .taken)) ∙ c .before .before .before .before .before .before .before .before .before .before .before .before .loop .inv .3)
 
 add-k : tie.Need-add-k Inv-loop μ-loop
 add-k c = let a = c .before .before .before .before .before .before .before .before .before .before .loop .inv .0 in let b = c .before .before .before .before .before .before .before .before .before .before .loop .inv .1 in let l = c .before .before .before .before .before .before .before .before .before .loop-test .taken in let q = c .before .before .before .before .before .before .before .before .before .before .before .before .before .before .before .before .before .before .before .before .good .1 .0 in record { fits = omega arith }
@@ -112,7 +112,7 @@ run-table-spec =
     all-bits-requires
     loop-holds
     part-length-at-requires
-    add-next
+    add-end
     sub-event-of
     part-event-of-start
     part-event-of-end
