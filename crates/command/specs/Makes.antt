@@ -11,7 +11,8 @@ use Rattle.translate.specs.declared.Translation.{Translation}
 use Rattle.translate.specs.Translate.{translated, outputAfter}
 use Rattle.translator.specs.Translates.{Translates}
 use Rattle.listing.specs.Listing.{refusedListing}
-use Rattle.writer.specs.Written.{Wrote, wrote-nothing}
+use Rattle.writer.specs.Written.{wrote-nothing}
+use Rattle.writer.specs.Wrote.{Wrote}
 use Rattle.command.specs.declared.Made.{Made}
 
 -- what is printed: nothing where the table is made, else the last line

@@ -20,7 +20,8 @@ use Rattle.table_format.specs.declared.Update.{Update}
 use Rattle.table_format.specs.Variables.{flagVar, bufferVar, outputVar}
 use Rattle.translate.specs.Parts.{constant, variable, Expression, copied, updateWhen, update}
 use Rattle.translate.specs.Rules.{variableOf, operandOf, assignedExpression, assignmentUpdates, sentExpression, sendUpdates}
-use Rattle.rule_writer.specs.Lists.{WroteUpdates, Counted, joins-updates, wrote-none}
+use Rattle.rule_writer.specs.Lists.{Counted, joins-updates, wrote-none}
+use Rattle.rule_writer.specs.Wrote.{WroteUpdates}
 use Rattle.complete_rules.specs.declared.updates.Expression as held
 use Rattle.complete_rules.specs.declared.gathered.Assigned.{Assigned}
 use Rattle.complete_rules.specs.Gathered.{assignedOf, assignmentIn, of-four, join-alike, fold-alike}

@@ -21,8 +21,9 @@ use Rattle.table_format.specs.Variables.{nowVar, cpuVar, stateVar, endVar, beha
 use Rattle.model.specs.State.{none}
 use Rattle.translate.specs.Parts.{constant, variable, equals, plain, copied, setTo, Body, stamped}
 use Rattle.translate.specs.Rules.{stateIs, endIsNow, jobEnds, guardClauses, perTransition, earlierClause, otherwiseClause, assignmentUpdates, sentExpression, sendUpdates, transitionRule, defaultRule, completeRules}
-use Rattle.writer.specs.Written.{Wrote}
-use Rattle.rule_writer.specs.Lists.{WroteClauses, WroteUpdates, WroteRules, Joins, Counted, joins-clauses, joins-updates, joins-rules, wrote-none, wrote-both, wrote-then, wrote-rule, loop-ends}
+use Rattle.writer.specs.Wrote.{Wrote}
+use Rattle.rule_writer.specs.Lists.{Joins, Counted, joins-clauses, joins-updates, joins-rules, wrote-none, wrote-both, wrote-then, wrote-rule, loop-ends}
+use Rattle.rule_writer.specs.Wrote.{WroteClauses, WroteUpdates, WroteRules}
 use Rattle.complete_rules.specs.declared.gathered.Guard.{Guard}
 use Rattle.complete_rules.specs.declared.gathered.Assigned.{Assigned}
 use Rattle.complete_rules.specs.Gathered.{transitionIn, guardIn, assignedIn, transition-is, guard-is, assigned-is}

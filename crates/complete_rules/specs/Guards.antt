@@ -17,10 +17,11 @@ use Rattle.table_format.specs.declared.Atom.{Atom}
 use Rattle.table_format.specs.declared.Record.the-variants.{Clause}
 use Rattle.table_format.specs.Variables.{behaviorVar}
 use Rattle.table_format.specs.Format.{recordTo}
-use Rattle.writer.specs.Written.{Wrote}
+use Rattle.writer.specs.Wrote.{Wrote}
 use Rattle.translate.specs.Parts.{constant, differs, plain, negatedOp}
 use Rattle.translate.specs.Rules.{variableOf, operandOf, atomWith, guardClauses, negatedGuard, perTransition, earlierClause, otherwiseClause}
-use Rattle.rule_writer.specs.Lists.{WroteAtoms, WroteClauses, Counted, joins-atoms, joins-clauses, wrote-none, wrote-both, wrote-clause, loop-ends}
+use Rattle.rule_writer.specs.Lists.{Counted, joins-atoms, joins-clauses, wrote-none, wrote-both, wrote-clause, loop-ends}
+use Rattle.rule_writer.specs.Wrote.{WroteAtoms, WroteClauses}
 use Rattle.complete_rules.specs.declared.gathered.Guard.{Guard}
 use Rattle.complete_rules.specs.Gathered.{guardOf, transitionIn, guardIn, atomIn, of-four, transition-is, guard-is, join-alike}
 use Rattle.complete_rules.specs.Named.{NamedBehavior, within}

@@ -17,7 +17,7 @@ ghost use mathlib.Core.List.{[], _∷_};
 ghost use Prim.Native.Nat.{_<_};
 ghost use Rattle.translate.specs.Parts.{plain, negatedOp};
 ghost use Rattle.translate.specs.Rules.{atomWith, perTransition, earlierClause, otherwiseClause};
-ghost use Rattle.rule_writer.specs.Lists.{WroteAtoms, WroteClauses};
+ghost use Rattle.rule_writer.specs.Wrote.{WroteAtoms, WroteClauses};
 ghost use Rattle.complete_rules.specs.Named.{NamedAtom, NamedGuard, NamedBehavior};
 ghost use Rattle.complete_rules.specs.Guards.{plainOf, negatedOf, leavesFrom, shutBy};
 

@@ -12,7 +12,7 @@ ghost use Rattle.model.specs.Tests.{execution, completed};
 ghost use Rattle.table_format.specs.Variables.{stateVar};
 ghost use Rattle.translate.specs.Parts.{setTo, stamped};
 ghost use Rattle.translate.specs.Rules.{stateIs, endIsNow, jobEnds, transitionRule, defaultRule, completeRules};
-ghost use Rattle.rule_writer.specs.Lists.{WroteClauses, WroteUpdates, WroteRules};
+ghost use Rattle.rule_writer.specs.Wrote.{WroteClauses, WroteUpdates, WroteRules};
 ghost use Rattle.complete_rules.specs.Named.{NamedGuard, NamedAssigned, NamedBehavior};
 ghost use Rattle.complete_rules.specs.Complete.{openClauses, updatesWith, defaultClauses, defaultUpdates};
 use gathered::Assigned;

@@ -12,7 +12,7 @@ ghost use mathlib.Core.List.{[], _∷_};
 ghost use Prim.Native.Nat.{_<_};
 ghost use Rattle.translate.specs.Parts.{negatedOp};
 ghost use Rattle.translate.specs.Rules.{variableOf, operandOf};
-ghost use Rattle.rule_writer.specs.Lists.{WroteAtoms};
+ghost use Rattle.rule_writer.specs.Wrote.{WroteAtoms};
 ghost use Rattle.complete_rules.specs.Named.{NamedOperand};
 
 // 1 input port, 2 local, 3 output port.

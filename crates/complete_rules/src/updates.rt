@@ -22,7 +22,7 @@ ghost use Rattle.model_format.specs.WellFormed.{GoodTiming};
 ghost use Rattle.table_format.specs.Variables.{outputVar};
 ghost use Rattle.translate.specs.Parts as parts;
 ghost use Rattle.translate.specs.Rules.{variableOf, assignedExpression, sendUpdates};
-ghost use Rattle.rule_writer.specs.Lists.{WroteUpdates};
+ghost use Rattle.rule_writer.specs.Wrote.{WroteUpdates};
 ghost use Rattle.complete_rules.specs.Named.{NamedAssignment, NamedAssigned};
 ghost use Rattle.complete_rules.specs.Assigned.{expressionOf, updatesOf, sentAfter, sentBy, sendOf};
 

@@ -8,7 +8,7 @@ ghost use Rattle.records.specs.Format.{partLengthAt};
 ghost use Rattle.records.specs.Refusals.{numberOf};
 ghost use Rattle.model_format.specs.Reading.{readModel};
 ghost use Rattle.table_format.specs.Reading.{readTable};
-ghost use Rattle.writer.specs.Written.{Wrote};
+ghost use Rattle.writer.specs.Wrote.{Wrote};
 ghost use Rattle.programs.specs.Programs.{stepsListing, tableListing};
 ghost use Rattle.programs.specs.Outcomes.{modelOutcome, tableOutcome};
 ghost use Rattle.lending.specs.Lending as lending;

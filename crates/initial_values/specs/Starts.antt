@@ -20,8 +20,10 @@ use Rattle.table_format.specs.Format.{recordTo, bytesOf}
 use Rattle.table_format.specs.Table.{initialTo}
 use Rattle.translate.specs.Shown.{standsFor}
 use Rattle.translate.specs.Translate.{initialOf}
-use Rattle.writer.specs.Written.{Wrote, records-one}
-use Rattle.rule_writer.specs.Lists.{WroteInitial, Counted, joins-initial, wrote-none}
+use Rattle.writer.specs.Written.{records-one}
+use Rattle.writer.specs.Wrote.{Wrote}
+use Rattle.rule_writer.specs.Lists.{Counted, joins-initial, wrote-none}
+use Rattle.rule_writer.specs.Wrote.{WroteInitial}
 use Rattle.initial_values.specs.Blocks.{SameBits, isShown, absent-on}
 
 -- variable j where its value is not 0

@@ -5,7 +5,7 @@ mod items;
 
 ghost use Rattle.table_format.specs.Variables.{variables};
 ghost use Rattle.translate.specs.Translate.{initialOf};
-ghost use Rattle.rule_writer.specs.Lists.{WroteInitial};
+ghost use Rattle.rule_writer.specs.Wrote.{WroteInitial};
 ghost use Rattle.initial_values.specs.Starts.{start, startsIn};
 use blocks::is_shown;
 pub use blocks::shown;

@@ -19,8 +19,9 @@ use Rattle.table_format.specs.Format.{recordTo}
 use Rattle.translate.specs.Shown.{bit}
 use Rattle.translate.specs.Parts.{constant, variable, equals, differs, multipleOf, plain, copied, update, setTo, Body, body, stamped}
 use Rattle.translate.specs.Rules.{phaseIs, activeUpdates, flagUpdates, requestRules, enterRules, leaveRules}
-use Rattle.writer.specs.Written.{Wrote}
-use Rattle.rule_writer.specs.Lists.{WroteAtoms, WroteClauses, WroteUpdates, WroteRules, Counted, joins-atoms, joins-clauses, joins-updates, joins-rules, wrote-both, wrote-then, wrote-clause, wrote-rule, wrote-still}
+use Rattle.writer.specs.Wrote.{Wrote}
+use Rattle.rule_writer.specs.Lists.{Counted, joins-atoms, joins-clauses, joins-updates, joins-rules, wrote-both, wrote-then, wrote-clause, wrote-rule, wrote-still}
+use Rattle.rule_writer.specs.Wrote.{WroteAtoms, WroteClauses, WroteUpdates, WroteRules}
 
 -- ---- REQUEST of transition q, granted and ignored, by the from-mode
 unfoldable pub granted : ℕ → ℕ → Body

@@ -7,7 +7,7 @@ ghost use Rattle.model_format.specs.WellFormed.{GoodTiming};
 ghost use Rattle.translate.specs.Shown.{bit};
 ghost use Rattle.translate.specs.Parts.{stamped};
 ghost use Rattle.translate.specs.Rules.{phaseIs, activeUpdates, flagUpdates, requestRules, enterRules, leaveRules};
-ghost use Rattle.rule_writer.specs.Lists.{WroteClauses, WroteUpdates, WroteRules};
+ghost use Rattle.rule_writer.specs.Wrote.{WroteClauses, WroteUpdates, WroteRules};
 ghost use Rattle.mode_rules.specs.Modes as modes;
 use model_format::Timing;
 use rule_writer::ENTERED;

@@ -53,7 +53,7 @@ accept s = record { answer = None; state = s }
 abbrev pub attempt : Bool → State → State → Stepped
 attempt b x s = cond b (accept x) (refuse NotEnabled s)
 
--- "TICK n: tick by tick; each needs that no event but REQUEST is enabled, then Now below 1,000,000,000": n ticks more, where s₀ is the
+-- "TICK n: tick by tick; each needs that no event but REQUEST is enabled .. then Now below 1,000,000,000": n ticks more, where s₀ is the
 -- state before all of them.
 unfoldable pub ticks : Timing → State → ℕ → State → Stepped
 ticks m s₀ zero s = accept s

@@ -18,11 +18,11 @@ use Rattle.model_format.specs.declared.Assignment.{Assignment}
 use Rattle.model_format.specs.declared.Record.{Record}
 use Rattle.model_format.specs.declared.Record.the-variants.{HeadRecord, ThreadRecord, InputRecord, OutputRecord, LocalRecord, ConnectionRecord, ModeRecord, TransitionRecord, AtomRecord, AssignmentRecord, Cut, Unknown}
 
--- "01 head: mode count, initial mode, u8 each"
+-- "01 head: mode count .. initial mode, u8 each"
 unfoldable pub headOf : List ℕ → Head
 headOf x = record { modes = getD x 1 0; initial = getD x 2 0 }
 
--- "02 thread: Period, Deadline, Min, Max as u32; mask, critical, first behaviour state, u8 each"
+-- "02 thread: Period, Deadline, Min, Max as u32; mask, critical .. first behaviour state .. u8 each"
 unfoldable pub threadOf : List ℕ → Thread
 threadOf x = record {
   period = durationAt x 1;
@@ -38,7 +38,7 @@ threadOf x = record {
 unfoldable pub localOf : List ℕ → Local
 localOf x = record { owner = getD x 1 0; start = valueAt x 2 }
 
--- "06 connection: type u8, output port u8, input port u8, mask"
+-- "06 connection: type u8 .. output port u8, input port u8, mask"
 unfoldable pub connectionOf : List ℕ → Connection
 connectionOf x = record { kind = getD x 1 0; source = getD x 2 0; target = getD x 3 0; modes = getD x 4 0 }
 
@@ -54,7 +54,7 @@ transitionOf x = record { thread = getD x 1 0; from = getD x 2 0; to = getD x 3 
 unfoldable pub atomOf : List ℕ → Atom
 atomOf x = record { op = getD x 1 0; tag = getD x 2 0; number = getD x 3 0; right = operandAt x 4 }
 
--- "0A assignment: target tag and number u8, op u8, two operands"
+-- "0A assignment: target tag and number u8, op u8 .. two operands"
 unfoldable pub assignmentOf : List ℕ → Assignment
 assignmentOf x = record { tag = getD x 1 0; number = getD x 2 0; op = getD x 3 0; first = operandAt x 4; second = operandAt x 9 }
 

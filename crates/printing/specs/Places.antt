@@ -8,7 +8,8 @@ use lib.ListN.{getD, length, take, drop, length-drop, drop-of-length-le}
 use lib.Seq.{drop-cons, take-all}
 use Rattle.listing.specs.declared.Line.{Line}
 use Rattle.listing.specs.Lines.{textOf}
-use Rattle.writer.specs.Written.{Wrote, farthest, keeps-length, and-then, wrote-nothing}
+use Rattle.writer.specs.Written.{keeps-length, and-then, wrote-nothing}
+use Rattle.writer.specs.Wrote.{Wrote, farthest}
 
 -- d, with the bytes `rest` written at a place, is `start` with the bytes `whole` written at `from`
 pub record Left (start : List ℕ) (from : ℕ) (whole : List ℕ) (d : List ℕ) (at : ℕ) (rest : List ℕ) : Type 0 where

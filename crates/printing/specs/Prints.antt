@@ -9,7 +9,7 @@ use Rattle.records.specs.declared.Notation.{Notation}
 use Rattle.records.specs.declared.Refusal.{Refusal}
 use Rattle.records.specs.Refusals.{numberOf, partOf}
 use Rattle.listing.specs.Listing.{refusedListing}
-use Rattle.writer.specs.Written.{Wrote, farthest}
+use Rattle.writer.specs.Wrote.{Wrote, farthest}
 use Rattle.programs.specs.Outcomes.{cutPart}
 use Rattle.printing.specs.declared.Printed.{Printed}
 

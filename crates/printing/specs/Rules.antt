@@ -19,7 +19,7 @@ use Rattle.listing.specs.Listing.{refusedListing}
 use Rattle.programs.specs.Programs.{room, tableListing, rulesListing, PrintsSame}
 use Rattle.programs.specs.Outcomes.{tableOutcome, rulesOutcome}
 use Rattle.programs.specs.Same.{demand-prints-same}
-use Rattle.writer.specs.Written.{Wrote}
+use Rattle.writer.specs.Wrote.{Wrote}
 use Rattle.printing.specs.declared.Printed.{Printed}
 use Rattle.printing.specs.Prints.{Prints, prints-end}
 

@@ -16,7 +16,7 @@ use Rattle.records.specs.Run.{Machine, Ended, runFrom, run}
 use Rattle.records.specs.Walk as walk
 use Rattle.listing.specs.Listing.{line, lastLine, listingFrom, listing}
 use Rattle.listing.specs.RunLaws.{listing-on, listing-end, listing-refused}
-use Rattle.writer.specs.Written.{Wrote, farthest}
+use Rattle.writer.specs.Wrote.{Wrote, farthest}
 use Rattle.printing.specs.declared.Printed.{Printed}
 use Rattle.printing.specs.Prints.{Prints}
 use Rattle.printing.specs.Places.{Left, left-begin, left-on}

@@ -12,7 +12,7 @@ use Rattle.listing.specs.Listing.{listing, refusedListing}
 use Rattle.programs.specs.Programs.{stepsListing}
 use Rattle.programs.specs.Outcomes.{modelOutcome}
 use Rattle.printing.specs.declared.Printed.{Printed}
-use Rattle.writer.specs.Written.{Wrote}
+use Rattle.writer.specs.Wrote.{Wrote}
 use Rattle.printing.specs.Prints.{Prints, prints-end}
 
 module _ {d e : List ℕ} {x : Printed} (model script : List ℕ) (r : ModelRead) (b : Bool) (h : r ≡ readModel model) (g : b ≡ isNone (r .refusal .cause)) where

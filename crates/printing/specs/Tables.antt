@@ -12,7 +12,7 @@ use Rattle.listing.specs.Listing.{listing, refusedListing}
 use Rattle.programs.specs.Programs.{tableListing}
 use Rattle.programs.specs.Outcomes.{tableOutcome}
 use Rattle.printing.specs.declared.Printed.{Printed}
-use Rattle.writer.specs.Written.{Wrote}
+use Rattle.writer.specs.Wrote.{Wrote}
 use Rattle.printing.specs.Prints.{Prints, prints-end}
 
 module _ {d e : List ℕ} {x : Printed} (table script : List ℕ) (r : Refusal) (b : Bool) (h : r ≡ readTable table) (g : b ≡ isNone (r .cause)) where

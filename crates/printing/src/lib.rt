@@ -21,7 +21,7 @@ ghost use Rattle.table_format.specs.Table.{tableOf};
 ghost use Rattle.table.specs.Machine as table-machine;
 ghost use Rattle.programs.specs.Programs.{room, stepsListing, tableListing, rulesListing, PrintsSame};
 ghost use Rattle.programs.specs.Outcomes.{modelOutcome, tableOutcome, rulesOutcome};
-ghost use Rattle.writer.specs.Written.{Wrote};
+ghost use Rattle.writer.specs.Wrote.{Wrote};
 ghost use Rattle.printing.specs.Prints.{Prints, HandsBack, toldPrinted};
 
 // What writing a listing comes to: its length, and the refusal that stopped the run.

@@ -9,7 +9,7 @@ use Rattle.records.specs.declared.Notation.{Notation}
 use Rattle.records.specs.declared.Notation.the-variants.{Model, Table, Script}
 use Rattle.records.specs.declared.Operand.{Operand}
 
--- "A record is one byte of kind, then a body whose length the kind fixes": the body's length and 1 for the kind byte; 0 for a kind
+-- "A record is one byte of kind .. then a body whose length the kind fixes": the body's length and 1 for the kind byte; 0 for a kind
 -- that is unknown in this notation.
 unfoldable pub recordSize : Notation → ℕ → ℕ
 recordSize Model k =
@@ -66,6 +66,6 @@ partsFrom w zero (k ∷ r) =
 abbrev pub parts : Notation → List ℕ → List (List ℕ)
 parts w s = partsFrom w 0 s
 
--- "An operand is a tag u8 and an i32"
+-- "An operand is a tag u8 .. and an i32"
 unfoldable pub operandAt : List ℕ → ℕ → Operand
 operandAt s p = record { tag = getD s p 0; value = valueAt s (p + 1) }

@@ -1,2 +1,4 @@
+pub mod Wrote
 pub mod Lists
+pub mod Operands
 pub mod SameBytes

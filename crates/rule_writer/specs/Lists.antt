@@ -1,4 +1,4 @@
--- Lists of atoms, clauses, updates and rules, written one after the other.
+-- Laws of lists of atoms, clauses, updates and rules that are written one after the other.
 use mathlib.Core.Path.{_≡_, refl}
 use mathlib.Core.List.{List, [], _∷_, _++_}
 use Prim.Native.Nat.{ℕ, _+_, _^_, _<_, _≤_}
@@ -13,24 +13,11 @@ use Rattle.table_format.specs.declared.InitialValue.{InitialValue}
 use Rattle.table_format.specs.declared.Record.{Record}
 use Rattle.table_format.specs.declared.Record.the-variants.{Head, Clause, Atomic, Change}
 use Rattle.table_format.specs.Format.{recordTo}
-use Rattle.table_format.specs.Table.{Rule, atomsTo, clausesTo, updatesTo, rulesTo, initialTo}
+use Rattle.table_format.specs.Table.{atomsTo, clausesTo, updatesTo, rulesTo, initialTo}
 use Rattle.table_format.specs.BytesLaws.{atoms-append, clauses-append, rules-append}
-use Rattle.writer.specs.Written.{Wrote, WroteRecords, records-none, records-one, records-then, keeps-length}
-
-abbrev pub WroteAtoms : List ℕ → ℕ → List Atom → List ℕ → ℕ → Type 0
-WroteAtoms d at l e p = WroteRecords d at (atomsTo l []) e p
-
-abbrev pub WroteClauses : List ℕ → ℕ → List (List Atom) → List ℕ → ℕ → Type 0
-WroteClauses d at l e p = WroteRecords d at (clausesTo l []) e p
-
-abbrev pub WroteUpdates : List ℕ → ℕ → List Update → List ℕ → ℕ → Type 0
-WroteUpdates d at l e p = WroteRecords d at (updatesTo l []) e p
-
-abbrev pub WroteInitial : List ℕ → ℕ → List InitialValue → List ℕ → ℕ → Type 0
-WroteInitial d at l e p = WroteRecords d at (initialTo l []) e p
-
-abbrev pub WroteRules : List ℕ → ℕ → List Rule → List ℕ → ℕ → Type 0
-WroteRules d at l e p = WroteRecords d at (rulesTo l) e p
+use Rattle.writer.specs.Written.{records-none, records-one, records-then, keeps-length}
+use Rattle.writer.specs.Wrote.{Wrote, WroteRecords}
+use Rattle.rule_writer.specs.Wrote.{WroteAtoms, WroteClauses, WroteUpdates, WroteRules}
 
 -- the records of two lists are those of the one and then those of the other
 pub record Joins {A : Type 0} (f : List A → List Record) : Type 0 where

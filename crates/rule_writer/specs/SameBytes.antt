@@ -11,8 +11,10 @@ use Rattle.numbers.specs.Values.{value, signed, natural, bitsOf}
 use Rattle.records.specs.declared.Operand.{Operand}
 use Rattle.table_format.specs.declared.Record.the-variants.{Atomic, Change}
 use Rattle.table_format.specs.Format.{recordTo}
-use Rattle.writer.specs.Written.{Wrote}
-use Rattle.rule_writer.specs.Lists.{WroteAtoms, WroteUpdates, wrote-atom, wrote-update}
+use Rattle.writer.specs.Wrote.{Wrote}
+use Rattle.rule_writer.specs.Lists.{wrote-atom, wrote-update}
+use Rattle.rule_writer.specs.Wrote.{WroteAtoms, WroteUpdates}
+use Rattle.rule_writer.specs.Operands.{constantBits}
 
 pub record SameBytes (o p : Operand) : Type 0 where
   pub tag : o .tag ≡ p .tag
@@ -20,10 +22,6 @@ pub record SameBytes (o p : Operand) : Type 0 where
 
 pub same-as : {o p : Operand} → o ≡ p → SameBytes o p
 same-as e = rw e (record { tag = refl; bits = refl })
-
--- The constant that has the bits of n: n itself, or, where n lies past the largest value, n less 2^32.
-abbrev pub constantBits : ℕ → Operand
-constantBits n = record { tag = 0; value = value (signed n) }
 
 -- its bytes are those of n
 pub constant-bytes : (n : ℕ) → Fits w32 n → SameBytes (constantBits n) (record { tag = 0; value = natural n })

@@ -23,7 +23,8 @@ use Rattle.table_format.specs.declared.Record.the-variants.{Initial, Head, Clau
 use Rattle.table_format.specs.Variables.{variables}
 use Rattle.table_format.specs.Format.{recordOf, records, updateOf}
 use Rattle.table_format.specs.Table.{gather}
-use Rattle.table_format.specs.Laws.{kindOf, records-end}
+use Rattle.table_format.specs.Laws.{records-end}
+use Rattle.table_format.specs.Format.{kindOf}
 use Rattle.table.specs.Rules.{applies, newValue, Write, writes, writtenTo, inconsistent, written}
 use Rattle.table.specs.Runs.{values}
 use Rattle.table.specs.Index.{bytesAt}

@@ -21,7 +21,8 @@ use Rattle.table_format.specs.declared.Record.the-variants.{Initial, Head, Clau
 use Rattle.table_format.specs.Variables.{nowVar}
 use Rattle.table_format.specs.Format.{recordOf, records, atomOf}
 use Rattle.table_format.specs.Table.{Rule, gather}
-use Rattle.table_format.specs.Laws.{kindOf, records-at, records-end}
+use Rattle.table_format.specs.Laws.{records-at, records-end}
+use Rattle.table_format.specs.Format.{kindOf}
 use Rattle.table.specs.declared.Found.{Found}
 use Rattle.table.specs.Rules.{valueOf, operandValue, holdsOp, holds, clauseHolds, allHold, enabledRules}
 use Rattle.table.specs.Machine.{isBusy}

@@ -19,7 +19,8 @@ use Rattle.table_format.specs.declared.Record.{Record}
 use Rattle.table_format.specs.Format.{recordOf, records}
 use Rattle.table_format.specs.Table.{Rule, gather, tableOf}
 use Rattle.table_format.specs.Reading.{longestTable}
-use Rattle.table_format.specs.Laws.{kindOf, kind-cut, records-end}
+use Rattle.table_format.specs.Laws.{kind-cut, records-end}
+use Rattle.table_format.specs.Format.{kindOf}
 use Rattle.table.specs.declared.Variables.{Variables}
 use Rattle.table.specs.declared.Stepped.{Stepped}
 use Rattle.table.specs.declared.Heads.{Heads}

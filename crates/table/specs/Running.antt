@@ -26,7 +26,8 @@ use Rattle.table_format.specs.declared.Record.the-variants.{Initial, Head, Clau
 use Rattle.table_format.specs.Variables.{variables}
 use Rattle.table_format.specs.Format.{recordOf, records}
 use Rattle.table_format.specs.Table.{Rule, gather, tableOf}
-use Rattle.table_format.specs.Laws.{kindOf, records-at, records-end}
+use Rattle.table_format.specs.Laws.{records-at, records-end}
+use Rattle.table_format.specs.Format.{kindOf}
 use Rattle.table.specs.declared.Variables.{Variables}
 use Rattle.table.specs.declared.Stepped.{Stepped}
 use Rattle.table.specs.declared.Found.{Found}

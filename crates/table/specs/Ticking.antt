@@ -24,7 +24,8 @@ use Rattle.table_format.specs.declared.Record.the-variants.{Head}
 use Rattle.table_format.specs.Variables.{variables, nowVar}
 use Rattle.table_format.specs.Format.{recordOf, records}
 use Rattle.table_format.specs.Table.{Rule, gather}
-use Rattle.table_format.specs.Laws.{kindOf, records-at, records-end}
+use Rattle.table_format.specs.Laws.{records-at, records-end}
+use Rattle.table_format.specs.Format.{kindOf}
 use Rattle.table.specs.Rules.{valueOf, operandValue, holds, clauseHolds, allHold}
 use Rattle.table.specs.Machine.{isBusy, nowIn}
 use Rattle.table.specs.Index.{clausesAt, rulesFrom}

@@ -19,7 +19,7 @@ use Rattle.table_format.specs.declared.Record.the-variants.{Initial, Hea
 unfoldable pub initialOf : List ℕ → InitialValue
 initialOf x = record { variable = u16At x 1; value = valueAt x 3 }
 
--- "21 rule: event kind, id, u8 each, low, high u32"
+-- "21 rule: event kind .. id, u8 each, low, high u32"
 unfoldable pub headOf : List ℕ → RuleHead
 headOf x = record { kind = getD x 1 0; id = getD x 2 0; low = u32At x 3; high = u32At x 7 }
 
@@ -27,7 +27,7 @@ headOf x = record { kind = getD x 1 0; id = getD x 2 0; low = u32At x 3; high = 
 unfoldable pub atomOf : List ℕ → Atom
 atomOf x = record { op = getD x 1 0; variable = u16At x 2; right = operandAt x 4 }
 
--- "24 update: condition variable u16, wanted value u8, target u16, op u8, two operands"
+-- "24 update: condition variable u16 .. wanted value u8, target u16, op u8 .. two operands"
 unfoldable pub updateOf : List ℕ → Update
 updateOf x = record { condition = u16At x 1; wanted = getD x 3 0; target = u16At x 4; op = getD x 6 0; first = operandAt x 7; second = operandAt x 12 }
 
@@ -68,3 +68,13 @@ recordTo Unknown r = r
 unfoldable pub bytesOf : List Record → List ℕ
 bytesOf [] = []
 bytesOf (x ∷ l) = recordTo x (bytesOf l)
+
+-- ---- the kind of a record: walks that look for one kind decode no other
+unfoldable pub kindOf : Record → ℕ
+kindOf (Initial x) = 32
+kindOf (Head h) = 33
+kindOf Clause = 34
+kindOf (Atomic a) = 35
+kindOf (Change u) = 36
+kindOf Cut = 0
+kindOf Unknown = 0

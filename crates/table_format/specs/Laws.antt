@@ -28,6 +28,7 @@ use Rattle.table_format.specs.declared.Record.the-variants.{Initial, Hea
 use Rattle.table_format.specs.Variables.{isVariable}
 use Rattle.table_format.specs.Format.{initialOf, headOf, atomOf, updateOf, recordOfWhole, recordOf, recordsOf, records}
 use Rattle.table_format.specs.Reading.{operandFits, atomFits, begin, causeOf, nextContext, readFrom, readTable, longestTable, namesVariable}
+use Rattle.table_format.specs.Format.{kindOf}
 
 -- ---- the fields of a part: numbers and operands as the code has read them
 module _ (x : List ℕ) where
@@ -80,16 +81,6 @@ module _ (x : List ℕ) where
 
       pub record-update : (y : Update) → (k ≡ 32 → ⊥) → (k ≡ 33 → ⊥) → (k ≡ 34 → ⊥) → (k ≡ 35 → ⊥) → y ≡ updateOf x → Change y ≡ recordOf x
       record-update y h1 h2 h3 h4 e = rw (e, ← record-whole, ne-eqb k 32 h1, ne-eqb k 33 h2, ne-eqb k 34 h3, ne-eqb k 35 h4)
-
--- ---- the kind of a record: walks that look for one kind decode no other
-unfoldable pub kindOf : Record → ℕ
-kindOf (Initial x) = 32
-kindOf (Head h) = 33
-kindOf Clause = 34
-kindOf (Atomic a) = 35
-kindOf (Change u) = 36
-kindOf Cut = 0
-kindOf Unknown = 0
 
 size-kind : (k : ℕ) (x : List ℕ) → (recordSize notations.Table k ≡ 0 → ⊥) → kindOf (recordOfWhole k x) ≡ k
 unfolding kindOf recordSize

@@ -15,7 +15,7 @@ ghost use Rattle.records.specs.Events.{startKind};
 ghost use Rattle.records.specs.Refusals.{inModel};
 ghost use Rattle.table_format.specs.Variables.{isVariable};
 ghost use Rattle.table_format.specs.Format.{initialOf, headOf, atomOf, updateOf, recordOf};
-ghost use Rattle.table_format.specs.Laws.{kindOf};
+ghost use Rattle.table_format.specs.Format.{kindOf};
 ghost use Rattle.table_format.specs.Reading.{namesVariable, operandFits, initialFits, headFits, atomFits, updateFits, judged, causeOf, nextContext, readTable};
 
 // Kind 20, a start: the value with which an environment variable begins.

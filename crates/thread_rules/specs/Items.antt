@@ -17,7 +17,8 @@ use Rattle.table_format.specs.declared.Update.{Update}
 use Rattle.table_format.specs.Variables.{flagVar, inputVar, bufferVar, outputVar, noVariable}
 use Rattle.translate.specs.Parts.{variable, copied, updateWhen}
 use Rattle.translate.specs.Rules.{delayedClause, besideClause, comingClause, takeBuffer, immediateInto, dispatchPort, startPort}
-use Rattle.rule_writer.specs.Lists.{WroteClauses, WroteUpdates, joins-updates, Counted}
+use Rattle.rule_writer.specs.Lists.{joins-updates, Counted}
+use Rattle.rule_writer.specs.Wrote.{WroteClauses, WroteUpdates}
 use Rattle.thread_rules.specs.Pieces.{delayedFrom, besideFrom, comingFrom, sentFrom, feedsAtOnce}
 use Rattle.thread_rules.specs.Laws.{same-variable, update-named, where-passed, where-failed}
 

@@ -10,8 +10,9 @@ use Rattle.records.specs.declared.Operand.{Operand}
 use Rattle.table_format.specs.declared.Record.{Record}
 use Rattle.table_format.specs.declared.Record.the-variants.{Head}
 use Rattle.table_format.specs.Format.{recordTo}
-use Rattle.writer.specs.Written.{Wrote, WroteRecords}
-use Rattle.rule_writer.specs.Lists.{WroteAtoms, WroteClauses, WroteUpdates, WroteRules, Joins, joins-rules, Counted, wrote-none, wrote-then, wrote-rule}
+use Rattle.writer.specs.Wrote.{Wrote, WroteRecords}
+use Rattle.rule_writer.specs.Lists.{Joins, joins-rules, Counted, wrote-none, wrote-then, wrote-rule}
+use Rattle.rule_writer.specs.Wrote.{WroteAtoms, WroteClauses, WroteUpdates, WroteRules}
 use Rattle.translate.specs.Parts.{Body, stamped}
 
 -- ---- a variable by its number: j is what the code has computed, k what the definition names

@@ -35,7 +35,7 @@ ghost use mathlib.Core.List.{[], _∷_};
 ghost use Rattle.model_format.specs.WellFormed.{GoodTiming};
 ghost use Rattle.translate.specs.Parts.{stamped};
 ghost use Rattle.translate.specs.Rules as rules;
-ghost use Rattle.rule_writer.specs.Lists.{WroteClauses, WroteUpdates, WroteRules};
+ghost use Rattle.rule_writer.specs.Wrote.{WroteClauses, WroteUpdates, WroteRules};
 ghost use Rattle.thread_rules.specs.Pieces as pieces;
 
 // ---- 1 and 2

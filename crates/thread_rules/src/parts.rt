@@ -15,7 +15,7 @@ ghost use mathlib.Core.List.{[], _∷_};
 ghost use Rattle.table_format.specs.Variables.{stateVar};
 ghost use Rattle.translate.specs.Parts.{setTo};
 ghost use Rattle.translate.specs.Rules.{stateIs, activeIs, dueIsNow, jobEnds, missUpdates};
-ghost use Rattle.rule_writer.specs.Lists.{WroteClauses, WroteUpdates};
+ghost use Rattle.rule_writer.specs.Wrote.{WroteClauses, WroteUpdates};
 
 pub fn put_state_is(d: &mut [u8], at: usize, t: u8, code: u32) -> usize
     ensures { λ r. ⌜ WroteClauses (now (d .entry)) at (stateIs t code ∷ []) (now (d .exit)) r ⌝ }

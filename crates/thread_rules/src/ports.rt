@@ -12,7 +12,7 @@ ghost use Rattle.table_format.specs.Variables.{inputVar};
 ghost use Rattle.model_format.specs.WellFormed.{GoodTiming};
 ghost use Rattle.translate.specs.Parts.{updateWhen};
 ghost use Rattle.translate.specs.Rules.{takeBuffer, immediateInto, dispatchPort, startPort};
-ghost use Rattle.rule_writer.specs.Lists.{WroteUpdates};
+ghost use Rattle.rule_writer.specs.Wrote.{WroteUpdates};
 ghost use Rattle.thread_rules.specs.Pieces as pieces;
 
 // The immediate connection into input port i, or the number of connections.

@@ -12,7 +12,7 @@ ghost use Rattle.model_format.specs.WellFormed.{GoodTiming};
 ghost use Rattle.translate.specs.Parts.{copied, variable};
 ghost use Rattle.translate.specs.Rules.{sendUpdates};
 ghost use Rattle.table_format.specs.Variables.{outputVar};
-ghost use Rattle.rule_writer.specs.Lists.{WroteUpdates};
+ghost use Rattle.rule_writer.specs.Wrote.{WroteUpdates};
 ghost use Rattle.thread_rules.specs.Pieces.{sentFrom};
 
 // What connection c, which is x, sends.

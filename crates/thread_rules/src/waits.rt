@@ -11,7 +11,7 @@ use rule_writer::put_related;
 use rule_writer::state_var;
 ghost use mathlib.Core.List.{[], _∷_};
 ghost use Rattle.model_format.specs.WellFormed.{GoodTiming};
-ghost use Rattle.rule_writer.specs.Lists.{WroteClauses};
+ghost use Rattle.rule_writer.specs.Wrote.{WroteClauses};
 ghost use Rattle.thread_rules.specs.Pieces as pieces;
 
 // "[Flag=0, State(src)=0, State(src)=1, Due(src)≠Now]"

@@ -30,7 +30,7 @@ tableFrom m = record { initial = initialOf m; rules = rulesOf m }
 abbrev pub tableBytes : Model → List ℕ
 tableBytes m = encode (tableFrom m)
 
--- the refusal of the model, or "8: output shorter than the table, empty part at the model's end", or how many bytes are written
+-- the refusal of the model, or 8, "output shorter than the table", with the "empty part at the model's end", or how many bytes are written
 unfoldable pub translated : List ℕ → ℕ → Translation
 translated model room =
     let r = readModel model in

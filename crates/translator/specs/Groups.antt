@@ -11,7 +11,8 @@ use Rattle.model_format.specs.declared.Model.{Model}
 use Rattle.model_format.specs.WellFormed.{GoodTiming}
 use Rattle.table_format.specs.Table.{Rule}
 use Rattle.writer.specs.Written.{keeps-length}
-use Rattle.rule_writer.specs.Lists.{WroteRules, Counted, joins-rules, wrote-none, loop-begins, loop-next}
+use Rattle.rule_writer.specs.Lists.{Counted, joins-rules, wrote-none, loop-begins, loop-next}
+use Rattle.rule_writer.specs.Wrote.{WroteRules}
 use Rattle.translate.specs.Parts.{Body, stamped, rulesOfGroups}
 use Rattle.translate.specs.Rules.{activateRules, deactivateRules, dispatchRules, startRules, completeRules, deadlineRules, missRules, requestRules, enterRules, leaveRules, groupsOf, rulesOf}
 

@@ -19,8 +19,10 @@ use Rattle.model_format.specs.WellFormed.{Bytes, WellFormed}
 use Rattle.model_format.specs.Accepted.{accepted-well-formed}
 use Rattle.table_format.specs.Table.{rulesTo, initialTo}
 use Rattle.table_format.specs.BytesLaws.{initial-append}
-use Rattle.writer.specs.Written.{Wrote, records-then}
-use Rattle.rule_writer.specs.Lists.{WroteRules, WroteInitial, Counted}
+use Rattle.writer.specs.Written.{records-then}
+use Rattle.writer.specs.Wrote.{Wrote}
+use Rattle.rule_writer.specs.Lists.{Counted}
+use Rattle.rule_writer.specs.Wrote.{WroteRules, WroteInitial}
 use Rattle.translate.specs.declared.Translation.{Translation}
 use Rattle.translate.specs.Rules.{rulesOf}
 use Rattle.translate.specs.Translate.{initialOf, tableFrom, tableBytes, translated, outputAfter}

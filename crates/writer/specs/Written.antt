@@ -1,8 +1,7 @@
--- Bytes written into a lent slice, one after the other. What would lie past its end is counted and not written, so that the same walk
--- tells how long a table is and writes it.
+-- Laws of bytes and records that are written one after the other.
 use mathlib.Core.Path.{_≡_, refl, sym, _∙_, ap}
 use mathlib.Core.List.{List, [], _∷_, _++_, append-assoc}
-use Prim.Native.Nat.{ℕ, suc, _+_, _-_, _≤_, min}
+use Prim.Native.Nat.{ℕ, suc, _+_, _≤_, min}
 use native.Mathlib.Nat.{add-zero, add-suc, suc-add}
 use native.Mathlib.Numerals.{add-one, add-two, add-three, add-four, add-five, add-six, add-seven, add-eight}
 use native.Mathlib.Omega.{arith}
@@ -12,15 +11,7 @@ use lib.Seq.{sets, length-sets, set-out}
 use Rattle.table_format.specs.declared.Record.{Record}
 use Rattle.table_format.specs.declared.Record.the-variants.{Initial, Head, Clause, Atomic, Change, Cut, Unknown}
 use Rattle.table_format.specs.Format.{recordTo, bytesOf}
-
--- the farthest place that a writer counts to; no slice is longer
-abbrev pub farthest : ℕ
-farthest = 18446744073709551615
-
--- the bytes bs are written at a place, and the next place is behind them
-pub record Wrote (before : List ℕ) (at : ℕ) (bs : List ℕ) (after : List ℕ) (next : ℕ) : Type 0 where
-  pub bytes : after ≡ sets before at bs
-  pub place : next ≡ min (at + length bs) farthest
+use Rattle.writer.specs.Wrote.{farthest, Wrote, WroteRecords}
 
 -- bytes that the slice has room for
 pub stored : {d e : List ℕ} (bs : List ℕ) (at : ℕ) → at + length bs ≤ length d → length d ≤ farthest → e ≡ sets d at bs → Wrote d at bs e (at + length bs)
@@ -88,10 +79,6 @@ bytes-append (x ∷ a) b = ap (recordTo x) (bytes-append a b) ∙ apart x (bytes
     apart (Change x) r = unfold recordTo in refl
     apart Cut r = unfold recordTo in refl
     apart Unknown r = unfold recordTo in refl
-
--- the records l are written
-abbrev pub WroteRecords : List ℕ → ℕ → List Record → List ℕ → ℕ → Type 0
-WroteRecords before at l after next = Wrote before at (bytesOf l) after next
 
 pub records-none : (d : List ℕ) (at : ℕ) → at ≤ farthest → WroteRecords d at [] d at
 unfolding bytesOf

@@ -9,7 +9,7 @@ ghost use lib.ListN.{length};
 ghost use lib.Seq.{sets};
 ghost use Rattle.numbers.specs.Values.{u16To, u32To, bitsOf};
 ghost use Rattle.table_format.specs.Format.{operandTo, recordTo};
-ghost use Rattle.writer.specs.Written.{farthest, Wrote};
+ghost use Rattle.writer.specs.Wrote.{farthest, Wrote};
 use numbers::Value;
 use records::Operand;
 use table_format::Atom;

@@ -3,7 +3,8 @@ use Prim.Native.Nat.{_≤_, _-_}
 use native.Mathlib.Omega.{arith}
 use Rattle.numbers.specs.Lists.{joinBelow}
 use Rattle.translate.specs.Parts.{stamped}
-use Rattle.rule_writer.specs.Lists.{WroteRules, loop-begins, loop-next}
+use Rattle.rule_writer.specs.Lists.{loop-begins, loop-next}
+use Rattle.rule_writer.specs.Wrote.{WroteRules}
 use Rattle.complete_rules.specs.Complete.{rulesAt, joins-stamped, rule-written, rule-none, complete-end}
 use borrow.Author.Needs.{needs}
 use Rattle.complete_rules.proofs.put_complete.Statement.{statement}

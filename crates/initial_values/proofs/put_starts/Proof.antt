@@ -1,6 +1,7 @@
 use Rattle.translate.specs.Shown.{standsFor}
 use Rattle.initial_values.specs.Starts.{startsIn, start-same, starts-skip}
-use Rattle.rule_writer.specs.Lists.{WroteInitial, joins-initial, loop-begins, loop-next, loop-ends}
+use Rattle.rule_writer.specs.Lists.{joins-initial, loop-begins, loop-next, loop-ends}
+use Rattle.rule_writer.specs.Wrote.{WroteInitial}
 use Rattle.writer.specs.Written.{keeps-length}
 use native.Mathlib.Omega.{arith}
 use Prim.Native.Nat.{_≤_, _-_}

@@ -1,6 +1,7 @@
 use Rattle.mode_rules.specs.Modes.{activeUpdate}
 use Rattle.writer.specs.Written.{keeps-length}
-use Rattle.rule_writer.specs.Lists.{WroteUpdates, joins-updates, loop-begins, loop-next, loop-ends}
+use Rattle.rule_writer.specs.Lists.{joins-updates, loop-begins, loop-next, loop-ends}
+use Rattle.rule_writer.specs.Wrote.{WroteUpdates}
 use Rattle.numbers.specs.Lists.{joinBelow}
 use native.Mathlib.Omega.{arith}
 use Prim.Native.Nat.{_≤_, _-_}

@@ -1,7 +1,8 @@
 use Rattle.table_format.specs.Format.{recordTo}
 use Prim.Native.Nat.{_≤_}
 use lib.ListN.{length}
-use Rattle.writer.specs.Written.{farthest, and-then, stored}
+use Rattle.writer.specs.Written.{and-then, stored}
+use Rattle.writer.specs.Wrote.{farthest}
 use borrow.Author.Needs.{needs}
 use Rattle.writer.proofs.put_atom.Statement.{statement}
 use Rattle.writer.proofs.put_atom.Tie as tie

@@ -1,4 +1,5 @@
-use Rattle.writer.specs.Written.{farthest, and-then}
+use Rattle.writer.specs.Written.{and-then}
+use Rattle.writer.specs.Wrote.{farthest}
 use lib.ListN.{length}
 use Prim.Native.Nat.{_≤_}
 use borrow.Author.Needs.{needs}

@@ -1,5 +1,6 @@
 use Rattle.table_format.specs.Format.{recordTo}
-use Rattle.writer.specs.Written.{farthest, and-then}
+use Rattle.writer.specs.Written.{and-then}
+use Rattle.writer.specs.Wrote.{farthest}
 use lib.ListN.{length}
 use Prim.Native.Nat.{_≤_}
 use borrow.Author.Needs.{needs}

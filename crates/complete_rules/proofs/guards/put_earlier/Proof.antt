@@ -2,7 +2,8 @@ use Rattle.writer.specs.Written.{keeps-length}
 use Prim.Native.Nat.{_≤_, _-_}
 use native.Mathlib.Omega.{arith}
 use Rattle.numbers.specs.Lists.{joinBelow}
-use Rattle.rule_writer.specs.Lists.{WroteClauses, joins-clauses, loop-begins, loop-next}
+use Rattle.rule_writer.specs.Lists.{joins-clauses, loop-begins, loop-next}
+use Rattle.rule_writer.specs.Wrote.{WroteClauses}
 use Rattle.complete_rules.specs.Named.{within, guard-named}
 use Rattle.complete_rules.specs.Guards.{earlierAt, earlier-written, earlier-none, earlier-end}
 use borrow.Author.Needs.{needs}

@@ -2,14 +2,16 @@ use Rattle.writer.specs.Written.{keeps-length}
 use Prim.Native.Nat.{_≤_, _-_}
 use native.Mathlib.Omega.{arith}
 use Rattle.numbers.specs.Lists.{joinBelow}
-use Rattle.rule_writer.specs.Lists.{WroteClauses, joins-clauses, loop-begins, loop-next, loop-ends}
+use Rattle.rule_writer.specs.Lists.{joins-clauses, loop-begins, loop-next, loop-ends}
+use Rattle.rule_writer.specs.Wrote.{WroteClauses}
 use Rattle.complete_rules.specs.Guards.{plainAt}
 use borrow.Author.Needs.{needs}
 use Rattle.writer.specs.Written.{keeps-length}
 use Prim.Native.Nat.{_≤_, _-_}
 use native.Mathlib.Omega.{arith}
 use Rattle.numbers.specs.Lists.{joinBelow}
-use Rattle.rule_writer.specs.Lists.{WroteClauses, joins-clauses, loop-begins, loop-next, loop-ends}
+use Rattle.rule_writer.specs.Lists.{joins-clauses, loop-begins, loop-next, loop-ends}
+use Rattle.rule_writer.specs.Wrote.{WroteClauses}
 use Rattle.complete_rules.specs.Guards.{plainAt}
 use Rattle.complete_rules.proofs.guards.put_guard.Statement.{statement}
 use Rattle.complete_rules.proofs.guards.put_guard.Tie as tie

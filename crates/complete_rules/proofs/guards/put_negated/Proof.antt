@@ -2,14 +2,16 @@ use Rattle.writer.specs.Written.{keeps-length}
 use Prim.Native.Nat.{_≤_, _-_}
 use native.Mathlib.Omega.{arith}
 use Rattle.numbers.specs.Lists.{joinBelow}
-use Rattle.rule_writer.specs.Lists.{WroteAtoms, joins-atoms, loop-begins, loop-next, loop-ends}
+use Rattle.rule_writer.specs.Lists.{joins-atoms, loop-begins, loop-next, loop-ends}
+use Rattle.rule_writer.specs.Wrote.{WroteAtoms}
 use Rattle.complete_rules.specs.Guards.{negatedAt}
 use borrow.Author.Needs.{needs}
 use Rattle.writer.specs.Written.{keeps-length}
 use Prim.Native.Nat.{_≤_, _-_}
 use native.Mathlib.Omega.{arith}
 use Rattle.numbers.specs.Lists.{joinBelow}
-use Rattle.rule_writer.specs.Lists.{WroteAtoms, joins-atoms, loop-begins, loop-next, loop-ends}
+use Rattle.rule_writer.specs.Lists.{joins-atoms, loop-begins, loop-next, loop-ends}
+use Rattle.rule_writer.specs.Wrote.{WroteAtoms}
 use Rattle.complete_rules.specs.Guards.{negatedAt}
 use Rattle.complete_rules.proofs.guards.put_negated.Statement.{statement}
 use Rattle.complete_rules.proofs.guards.put_negated.Tie as tie

@@ -2,7 +2,8 @@ use Rattle.writer.specs.Written.{keeps-length}
 use Prim.Native.Nat.{_≤_, _-_}
 use native.Mathlib.Omega.{arith}
 use Rattle.numbers.specs.Lists.{joinBelow}
-use Rattle.rule_writer.specs.Lists.{WroteClauses, joins-clauses, loop-begins, loop-next, loop-ends}
+use Rattle.rule_writer.specs.Lists.{joins-clauses, loop-begins, loop-next, loop-ends}
+use Rattle.rule_writer.specs.Wrote.{WroteClauses}
 use Rattle.complete_rules.specs.Named.{guard-named}
 use Rattle.complete_rules.specs.Guards.{otherwiseAt, otherwise-written, otherwise-none}
 use borrow.Author.Needs.{needs}

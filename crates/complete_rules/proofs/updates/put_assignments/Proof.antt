@@ -2,14 +2,16 @@ use Rattle.writer.specs.Written.{keeps-length}
 use Prim.Native.Nat.{_≤_, _-_}
 use native.Mathlib.Omega.{arith}
 use Rattle.numbers.specs.Lists.{joinBelow}
-use Rattle.rule_writer.specs.Lists.{WroteUpdates, joins-updates, loop-begins, loop-next, loop-ends}
+use Rattle.rule_writer.specs.Lists.{joins-updates, loop-begins, loop-next, loop-ends}
+use Rattle.rule_writer.specs.Wrote.{WroteUpdates}
 use Rattle.complete_rules.specs.Assigned.{assignedAt}
 use borrow.Author.Needs.{needs}
 use Rattle.writer.specs.Written.{keeps-length}
 use Prim.Native.Nat.{_≤_, _-_}
 use native.Mathlib.Omega.{arith}
 use Rattle.numbers.specs.Lists.{joinBelow}
-use Rattle.rule_writer.specs.Lists.{WroteUpdates, joins-updates, loop-begins, loop-next, loop-ends}
+use Rattle.rule_writer.specs.Lists.{joins-updates, loop-begins, loop-next, loop-ends}
+use Rattle.rule_writer.specs.Wrote.{WroteUpdates}
 use Rattle.complete_rules.specs.Assigned.{assignedAt}
 use Rattle.complete_rules.proofs.updates.put_assignments.Statement.{statement}
 use Rattle.complete_rules.proofs.updates.put_assignments.Tie as tie

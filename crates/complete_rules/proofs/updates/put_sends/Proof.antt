@@ -2,7 +2,8 @@ use Rattle.writer.specs.Written.{keeps-length}
 use Prim.Native.Nat.{_≤_, _-_}
 use native.Mathlib.Omega.{arith}
 use Rattle.numbers.specs.Lists.{joinBelow}
-use Rattle.rule_writer.specs.Lists.{WroteUpdates, joins-updates, loop-begins, loop-next, loop-ends}
+use Rattle.rule_writer.specs.Lists.{joins-updates, loop-begins, loop-next, loop-ends}
+use Rattle.rule_writer.specs.Wrote.{WroteUpdates}
 use Rattle.complete_rules.specs.Assigned.{sentBy, sentAt, source-small, target-small, sent-over, sent-not}
 use borrow.Author.Needs.{needs}
 use Rattle.complete_rules.proofs.updates.put_sends.Statement.{statement}

@@ -1,7 +1,8 @@
 use Prim.Native.Nat.{_≤_, _-_}
 use native.Mathlib.Omega.{arith}
 use Rattle.numbers.specs.Lists.{joinBelow}
-use Rattle.rule_writer.specs.Lists.{WroteUpdates, joins-updates, loop-begins, loop-next, loop-ends}
+use Rattle.rule_writer.specs.Lists.{joins-updates, loop-begins, loop-next, loop-ends}
+use Rattle.rule_writer.specs.Wrote.{WroteUpdates}
 use Rattle.thread_rules.specs.Pieces.{sentOver}
 use Rattle.thread_rules.specs.Laws.{where-joined, where-not-joined}
 use Rattle.thread_rules.specs.Items.{kind-is, source-small, target-small, source-is, sent-over}
