@@ -8,7 +8,8 @@ use native.Mathlib.Decide.{decLt}
 use lib.Dec.{ltb}
 use borrow.Author.Tests.{ltb-true, ltb-false}
 use Rattle.numbers.specs.Lists.{foldBelow}
-use Rattle.numbers.specs.Multiples.{isMultiple, lcm, lcmUpTo, lcm-positive, lcm-divided, lcm-divides, multiple-divides, divides-multiple}
+use Rattle.numbers.specs.MultipleLaws.{lcm-positive, lcm-divided, lcm-divides, multiple-divides, divides-multiple}
+use Rattle.numbers.specs.Multiples.{isMultiple, lcm, lcmUpTo}
 use Rattle.records.specs.Events.{lastClock}
 use Rattle.model_format.specs.declared.Timing.{Timing}
 use Rattle.model_format.specs.Model.{threadAt, criticalIn, hyperperiod}

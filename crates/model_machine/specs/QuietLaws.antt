@@ -14,7 +14,8 @@ use Rattle.numbers.specs.declared.Duration.{Duration}
 use Rattle.numbers.specs.Lists.{item, store, anyBelow, foldBelow}
 use Rattle.numbers.specs.ListLaws.{any-none, length-store}
 use Rattle.numbers.specs.Values.{duration, oneMore}
-use Rattle.numbers.specs.Multiples.{isMultiple, multiple-of-none, multiple-by-rest}
+use Rattle.numbers.specs.MultipleLaws.{multiple-of-none, multiple-by-rest}
+use Rattle.numbers.specs.Multiples.{isMultiple}
 use Rattle.model_format.specs.declared.Thread.{Thread}
 use Rattle.model_format.specs.declared.ModeTransition.{ModeTransition}
 use Rattle.model_format.specs.declared.Timing.{Timing}

@@ -3,3 +3,4 @@ pub mod ListLaws
 pub mod Values
 pub mod ValueLaws
 pub mod Multiples
+pub mod MultipleLaws

@@ -1,5 +1,5 @@
 use borrow.Author.Needs.{needs}
-use Rattle.numbers.specs.Multiples.{multiple-of-none, multiple-by-rest}
+use Rattle.numbers.specs.MultipleLaws.{multiple-of-none, multiple-by-rest}
 use Rattle.numbers.proofs.is_multiple.Statement.{statement}
 use Rattle.numbers.proofs.is_multiple.Tie as tie
 

@@ -1,7 +1,7 @@
 use native.Mathlib.Omega.{arith}
 use borrow.Author.Needs.{needs}
-use Rattle.numbers.specs.Multiples.{lcm-above, lcm-none, lcm-some, lcm-fits}
-use Rattle.numbers.specs.Multiples.{lcm-above, lcm-none, lcm-some}
+use Rattle.numbers.specs.MultipleLaws.{lcm-above, lcm-none, lcm-some, lcm-fits}
+use Rattle.numbers.specs.MultipleLaws.{lcm-above, lcm-none, lcm-some}
 use Rattle.numbers.proofs.lcm_up_to.Statement.{statement}
 use Rattle.numbers.proofs.lcm_up_to.Tie as tie
 
