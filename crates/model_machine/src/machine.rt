@@ -32,7 +32,7 @@ ghost use Rattle.model.specs.State.{nowOf};
 ghost use Rattle.model.specs.Machine as machine;
 ghost use Rattle.model_machine.specs.Runs as runs;
 
-// One event on a state: one match over its kind.
+// One event on a state: one match over its kind. Each arm returns by itself, so that its answer is not copied once more.
 pub fn step(m: Model, s: State, e: Event) -> Stepped
     ensures { λ r. ⌜ r ≡ machine.step m s e ⌝ }
 {
@@ -43,20 +43,20 @@ pub fn step(m: Model, s: State, e: Event) -> Stepped
     let t = usize_of_u8(e.id);
     let kind = e.kind;
     match kind {
-        1 => on_activate(m.timing.threads, s, t),
-        2 => on_deactivate(m.timing.threads, s, t),
-        3 => on_dispatch(m.timing, s, t),
-        4 => on_start(m.timing, s, e.id, e.amount),
-        5 => on_complete(m, s, t),
-        6 => on_deadline(m.timing, s, t),
-        7 => on_miss(m.timing, s, t),
-        8 => on_request(m.timing, s, e.id),
-        9 => on_enter(m.timing, s, t),
-        10 => on_leave(m.timing, s, t),
-        11 => ticks(m.timing, s, e.amount),
+        1 => return on_activate(m.timing.threads, s, t),
+        2 => return on_deactivate(m.timing.threads, s, t),
+        3 => return on_dispatch(m.timing, s, t),
+        4 => return on_start(m.timing, s, e.id, e.amount),
+        5 => return on_complete(m, s, t),
+        6 => return on_deadline(m.timing, s, t),
+        7 => return on_miss(m.timing, s, t),
+        8 => return on_request(m.timing, s, e.id),
+        9 => return on_enter(m.timing, s, t),
+        10 => return on_leave(m.timing, s, t),
+        11 => return ticks(m.timing, s, e.amount),
         _ => {
             let c = Cause::BrokenEvent;
-            answered(c, s)
+            return answered(c, s);
         }
     }
 }

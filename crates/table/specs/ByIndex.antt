@@ -2,9 +2,8 @@
 -- fails tells apart are passed over without a look at the table: listed or not, their rule is not for the event, or stops no tick.
 use mathlib.Core.Path.{_≡_, refl, sym, _∙_, ap}
 use mathlib.Core.Bool.{Bool, true, false, cond, _&&_, _||_, not}
-use mathlib.Core.List.{List, [], _∷_, _++_}
-use Prim.Native.Nat.{ℕ, zero, suc, _+_, _-_, _*_, _/_, _%_, _<_, _≤_}
-use native.Mathlib.Omega.{arith}
+use mathlib.Core.List.{List, _∷_, _++_}
+use Prim.Native.Nat.{ℕ, _+_, _/_, _%_, _<_, _≤_}
 use native.Mathlib.Numerals.{add-one}
 use lib.ListN.{getD, length, drop, drop-of-length-le}
 use lib.Seq.{drop-cons}
@@ -22,7 +21,7 @@ use Rattle.table.specs.Rules.{allHold, enabledRules}
 use Rattle.table.specs.Machine.{isBusy}
 use Rattle.table.specs.Index.{headIn, clausesAt, ruleAt, isHead, keyOf, keyAt, guardAt, isListed, listed}
 use Rattle.table.specs.Places.{HeadAt, head-kind, head-id}
-use Rattle.table.specs.Enabled.{isAsked, foundOneMore, foundRule, Choice, choice, rulesFound, FindsIn, find-rule, ruleStops}
+use Rattle.table.specs.Enabled.{isAsked, foundOneMore, foundRule, choice, rulesFound, FindsIn, find-rule, ruleStops}
 use Rattle.table.specs.Ticking.{later, and-false, first-before, first-or, first-same, quietIn}
 use Rattle.table.specs.Guards.{mayHold, guard-fails, later-may, never}
 use Rattle.table.specs.IndexLaws.{head-at}

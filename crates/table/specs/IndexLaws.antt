@@ -2,7 +2,7 @@
 use mathlib.Core.Path.{_≡_, refl, sym, _∙_, ap}
 use mathlib.Core.Bool.{Bool, true, false, cond, _&&_}
 use mathlib.Core.List.{List, [], _∷_, _++_, map}
-use Prim.Native.Nat.{ℕ, zero, suc, _+_, _-_, _*_, _/_, _%_, _<_, _≤_}
+use Prim.Native.Nat.{ℕ, zero, suc, _+_, _-_, _/_, _%_, _<_, _≤_}
 use native.Mathlib.Nat.{sub-zero}
 use native.Mathlib.Omega.{arith}
 use native.Mathlib.Numerals.{add-one}
@@ -22,7 +22,6 @@ use Rattle.table_format.specs.Reading.{longestTable}
 use Rattle.table_format.specs.Laws.{kind-cut, records-end}
 use Rattle.table_format.specs.Format.{kindOf}
 use Rattle.table.specs.declared.Variables.{Variables}
-use Rattle.table.specs.declared.Stepped.{Stepped}
 use Rattle.table.specs.declared.Heads.{Heads}
 use Rattle.table.specs.Machine.{step}
 use Rattle.table.specs.Index.{bytesAt, headIn, ruleAt, rulesFrom, isHead, headsFrom, headPlaces, keyAt, entryAt, guardAt, fewer, roomFor, placesListed, entriesListed, guardsListed, headsListed, isListed, listed, rulesIn, rulesBy, stepBy}
@@ -258,23 +257,21 @@ fewer-within n m = go (ltb n m) refl
     go false e = let l = ltb-false n m e in (omega arith, omega arith, λ x y. omega arith)
 
 module _ (k n m q r : ℕ) (eq : q ≡ fewer n m) (er : r ≡ fewer k q) where
-  pub fewest : (r ≤ k) × (r ≤ n) × (r ≤ m) × (r < k → r < n → r < m → ⊥)
-  fewest = go (ltb n m) (ltb k q) refl refl
+  under : r < n → r < m → r < q
+  under a b = go (ltb n m) refl
     where
-      go : (a b : Bool) → ltb n m ≡ a → ltb k q ≡ b → (r ≤ k) × (r ≤ n) × (r ≤ m) × (r < k → r < n → r < m → ⊥)
-      go a b e f = let x = fewer-within n m in let y = fewer-within k q in
-          let x0 : q ≤ n = rw eq (x .0) in
-          let x1 : q ≤ m = rw eq (x .1) in
-          let y0 : r ≤ k = rw er (y .0) in
-          let y1 : r ≤ q = rw er (y .1) in
-          (y0, omega arith, omega arith, λ c d g. y .2 (rw er at c) (lower x1 c d g))
-        where
-          lower : q ≤ m → r < k → r < n → r < m → fewer k q < q
-          lower h c d g = rw (← er) (least (ltb n m) refl)
-            where
-              least : (z : Bool) → ltb n m ≡ z → r < q
-              least true z = rw (eq, z) d
-              least false z = rw (eq, z) g
+      go : (c : Bool) → ltb n m ≡ c → r < q
+      go true e = rw (eq, e) a
+      go false e = rw (eq, e) b
+
+  pub fewest : (r ≤ k) × (r ≤ n) × (r ≤ m) × (r < k → r < n → r < m → ⊥)
+  fewest =
+      let x = fewer-within n m in
+      let y = fewer-within k q in
+      let l : q ≤ n = rw eq (x .0) in
+      let p : q ≤ m = rw eq (x .1) in
+      let i : r ≤ q = rw er (y .1) in
+      (rw er (y .0), omega arith, omega arith, λ a b c. y .2 (rw er at a) (rw er at (under b c)))
 
 pub rules-clip : (s d g : List ℕ) (h : Heads) (m : ℕ) → (m ≤ h .listed) × (m ≤ length d) × (m ≤ length g) × (m < h .listed → m < length d → m < length g → ⊥) →
     rulesIn s (take m d) (take m g) (h .rest) ≡ rulesBy s d g h

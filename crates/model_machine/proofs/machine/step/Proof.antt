@@ -97,26 +97,26 @@ step-spec =
     returns
     usize-of-u8-requires
     on-activate-requires
-    on-deactivate-requires
-    on-dispatch-requires
-    on-start-requires
-    on-complete-requires
-    on-deadline-requires
-    on-miss-requires
-    on-request-requires
-    on-enter-requires
-    on-leave-requires
-    ticks-requires
-    answered-requires-2
     returns-2
+    on-deactivate-requires
     returns-3
+    on-dispatch-requires
     returns-4
+    on-start-requires
     returns-5
+    on-complete-requires
     returns-6
+    on-deadline-requires
     returns-7
+    on-miss-requires
     returns-8
+    on-request-requires
     returns-9
+    on-enter-requires
     returns-10
+    on-leave-requires
     returns-11
+    ticks-requires
     returns-12
+    answered-requires-2
     returns-13)
