@@ -1,8 +1,9 @@
 /* Futonkestrel: timing models of a handwriting pad, their rule tables, and runs of both, with proof.
  *
- * Link with libfutonkestrel.a (x86-64 Linux). The library keeps no state, allocates nothing and calls nothing: every function is a
- * function of the bytes that it is given, may be called from any thread, and always returns. It needs stack: 128 KB were enough for the
- * largest models tried, 96 KB were not, so give a thread that calls it 256 KB or more.
+ * Link with libfutonkestrel.a (x86-64 Linux). The library keeps no state and allocates nothing: every function is a function of the bytes
+ * that it is given, may be called from any thread, and always returns. Of other libraries it needs memcpy and memset alone, which every C
+ * library has; without one, supply the two. It needs stack: 128 KB were enough for the largest models tried, 96 KB were not, so give a
+ * thread that calls it 256 KB or more.
  *
  * A slice is a pointer and a count. Every count is good, 0 too, and with a count of 0 the pointer may be NULL. There is no condition on
  * what a slice holds. A slice that is written (no const) must be memory of that size that no other argument overlaps: beside the

@@ -1,2 +1,4 @@
 pub mod Shows
+pub mod ShowLaws
 pub mod Makes
+pub mod MakeLaws

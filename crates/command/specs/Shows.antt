@@ -1,6 +1,6 @@
 -- What a program promises of the bytes that it reads and prints.
-use mathlib.Core.Path.{_≡_, refl, sym}
-use mathlib.Core.Bool.{true, false, true≢false}
+use mathlib.Core.Path.{_≡_}
+use mathlib.Core.Bool.{true, false}
 use mathlib.Core.List.{List}
 use Prim.Native.Nat.{ℕ}
 use lib.ListN.{take}
@@ -15,11 +15,3 @@ pub record Shows (listing : List ℕ → List ℕ → List ℕ) (model script be
   pub scripts : Counts (r .script) script
   pub listed : r .good ≡ true → Wrote before 0 (listing (take (r .model) model) (take (r .script) script)) after (r .printed)
   pub unread : r .good ≡ false → (after ≡ before) × (r .printed ≡ 0)
-
-module _ {listing : List ℕ → List ℕ → List ℕ} {model script : List ℕ} (r : Shown) (m s : ℕ) (a : Counts m model) (b : Counts s script) where
-  pub shows-nothing : {out : List ℕ} → r ≡ record { model = m; script = s; good = false; printed = 0 } → Shows listing model script out r out
-  shows-nothing e = rw e (record { models = a; scripts = b; listed = λ p. absurd (true≢false (sym p)); unread = λ p. (refl, refl) })
-
-  pub shows-listing : {before after : List ℕ} (n : ℕ) → r ≡ record { model = m; script = s; good = true; printed = n } →
-      Wrote before 0 (listing (take m model) (take s script)) after n → Shows listing model script before r after
-  shows-listing n e w = rw e (record { models = a; scripts = b; listed = λ p. w; unread = λ p. absurd (true≢false p) })

@@ -1,5 +1,6 @@
 pub mod Places
 pub mod Prints
+pub mod PrintLaws
 pub mod Rules
 pub mod Runs
 pub mod Steps

@@ -1,14 +1,12 @@
 -- What writing a listing promises, and what the open calls promise that hand the refused record back.
-use mathlib.Core.Path.{_≡_, _∙_}
+use mathlib.Core.Path.{_≡_}
 use mathlib.Core.List.{List, [], _∷_}
-use Prim.Native.Nat.{ℕ, _+_, min}
-use native.Mathlib.Omega.{arith}
+use Prim.Native.Nat.{ℕ, min}
 use lib.ListN.{length}
 use lib.Seq.{sets}
 use Rattle.records.specs.declared.Notation.{Notation}
 use Rattle.records.specs.declared.Refusal.{Refusal}
 use Rattle.records.specs.Refusals.{numberOf, partOf}
-use Rattle.listing.specs.Listing.{refusedListing}
 use Rattle.writer.specs.Wrote.{Wrote, farthest}
 use Rattle.programs.specs.Outcomes.{cutPart}
 use Rattle.printing.specs.declared.Printed.{Printed}
@@ -17,10 +15,6 @@ use Rattle.printing.specs.declared.Printed.{Printed}
 pub record Prints (text : List ℕ) (refused : Refusal) (before : List ℕ) (r : Printed) (after : List ℕ) : Type 0 where
   pub wrote : Wrote before 0 text after (r .length)
   pub told : r .refusal ≡ refused
-
--- the last line alone
-pub prints-end : {c : Refusal} {d e : List ℕ} {x : Printed} → (Wrote d 0 (refusedListing (c .cause)) e (x .length) × (x .refusal ≡ c)) → Prints (refusedListing (c .cause)) c d x e
-prints-end w = record { wrote = w .0; told = w .1 }
 
 -- what is told beside the part, in this order; a slice with fewer places gets as many
 abbrev pub toldPrinted : ℕ → Refusal → List ℕ
@@ -33,16 +27,3 @@ pub record HandsBack (w : Notation) (text : List ℕ) (refused : Refusal) (model
   pub tells : toldAfter ≡ sets told 0 (toldPrinted (min (length text) farthest) refused)
   pub is-part : part ≡ partOf refused model script
   pub is-cut : part ≡ cutPart w refused model script
-
-module _ {w : Notation} {text : List ℕ} {refused : Refusal} {model script out told part outAfter toldAfter : List ℕ} where
-  pub hands-back : (r : Printed) → Prints text refused out r outAfter → toldAfter ≡ sets told 0 (toldPrinted (r .length) (r .refusal)) →
-      part ≡ partOf (r .refusal) model script → partOf refused model script ≡ cutPart w refused model script →
-      HandsBack w text refused model script out told part outAfter toldAfter
-  hands-back r p t h c =
-      let n : r .length ≡ min (length text) farthest = let e = p .wrote .place in omega arith in
-      record {
-        wrote = rw n at (p .wrote);
-        tells = rw (p .told, n) at t;
-        is-part = rw (p .told) at h;
-        is-cut = (rw (p .told) at h) ∙ c;
-      }

@@ -21,7 +21,8 @@ use Rattle.programs.specs.Outcomes.{tableOutcome, rulesOutcome}
 use Rattle.programs.specs.Same.{demand-prints-same}
 use Rattle.writer.specs.Wrote.{Wrote}
 use Rattle.printing.specs.declared.Printed.{Printed}
-use Rattle.printing.specs.Prints.{Prints, prints-end}
+use Rattle.printing.specs.PrintLaws.{prints-end}
+use Rattle.printing.specs.Prints.{Prints}
 
 module _ (model out after : List ℕ) (r : Translation) (b : Bool) (size : room ≡ length out) (t : Translates model out r after) (g : b ≡ isNone (r .refusal .cause)) where
   -- demand 3, which translating promises, makes it the listing of `steps`

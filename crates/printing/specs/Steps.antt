@@ -13,7 +13,8 @@ use Rattle.programs.specs.Programs.{stepsListing}
 use Rattle.programs.specs.Outcomes.{modelOutcome}
 use Rattle.printing.specs.declared.Printed.{Printed}
 use Rattle.writer.specs.Wrote.{Wrote}
-use Rattle.printing.specs.Prints.{Prints, prints-end}
+use Rattle.printing.specs.PrintLaws.{prints-end}
+use Rattle.printing.specs.Prints.{Prints}
 
 module _ {d e : List ℕ} {x : Printed} (model script : List ℕ) (r : ModelRead) (b : Bool) (h : r ≡ readModel model) (g : b ≡ isNone (r .refusal .cause)) where
   pub steps-run : b ≡ true → Prints (listing (machineOf (r .model)) nowOf (startState (r .model .timing)) script) (runModel (r .model) script .refusal) d x e →

@@ -13,7 +13,8 @@ use Rattle.programs.specs.Programs.{tableListing}
 use Rattle.programs.specs.Outcomes.{tableOutcome}
 use Rattle.printing.specs.declared.Printed.{Printed}
 use Rattle.writer.specs.Wrote.{Wrote}
-use Rattle.printing.specs.Prints.{Prints, prints-end}
+use Rattle.printing.specs.PrintLaws.{prints-end}
+use Rattle.printing.specs.Prints.{Prints}
 
 module _ {d e : List ℕ} {x : Printed} (table script : List ℕ) (r : Refusal) (b : Bool) (h : r ≡ readTable table) (g : b ≡ isNone (r .cause)) where
   pub table-run : b ≡ true → Prints (listing (machineOf (tableOf table .rules)) clockOf (startVariables (tableOf table)) script) (runTable table script .refusal) d x e →

@@ -1,4 +1,4 @@
-use Rattle.command.specs.Makes.{makes-nothing, makes-table, makes-refusal}
+use Rattle.command.specs.MakeLaws.{makes-nothing, makes-table, makes-refusal}
 use lib.Seq.{length-take-le}
 use Rattle.translator.specs.Tables.{bytes-within}
 use mathlib.Core.Path.{sym}
@@ -6,11 +6,11 @@ use borrow.Author.Needs.{needs}
 use Rattle.command.proofs.make_main.Statement.{statement}
 use Rattle.command.proofs.make_main.Tie as tie
 
-slice-aggregate-read-argument : tie.Need-slice-aggregate-read-argument
-slice-aggregate-read-argument c = search needs
+slice-aggregate-read-model : tie.Need-slice-aggregate-read-model
+slice-aggregate-read-model c = search needs
 
-read-argument-requires : tie.Need-read-argument-requires
-read-argument-requires c κs = search needs
+read-model-requires : tie.Need-read-model-requires
+read-model-requires c κs = search needs
 
 table-told-requires : tie.Need-table-told-requires
 table-told-requires c κs = search needs
@@ -19,7 +19,7 @@ same-length : tie.Need-same-length
 same-length c = search needs
 
 returns : tie.Need-returns
-returns c = makes-nothing _ _ (c .before .before .before .before .before .read-argument .ensures) (c .table-told .ensures)
+returns c = makes-nothing _ _ (c .before .before .before .before .before .read-model .ensures) (c .table-told .ensures)
 
 slice-reshare-prefix-translate : tie.Need-slice-reshare-prefix-translate
 slice-reshare-prefix-translate c = search needs
@@ -55,13 +55,22 @@ same-length-3 : tie.Need-same-length-3
 same-length-3 c = search needs
 
 returns-2 : tie.Need-returns-2
-returns-2 c = makes-table _ _ (c .before .before .before .before .before .before .before .before .before .before .before .before .before .before .before .before .read-argument .ensures) _ (c .before .before .before .before .before .before .before .before .before .translate .ensures) (c .before .before .before .before .before .is-none .ensures) (c .before .before .before .before .if2 .taken) (c .table-told2 .ensures)
+returns-2 c = makes-table _ _ (c .before .before .before .before .before .before .before .before .before .before .before .before .before .before .before .before .read-model .ensures) _ (c .before .before .before .before .before .before .before .before .before .translate .ensures) (c .before .before .before .before .before .is-none .ensures) (c .before .before .before .before .if2 .taken) (c .table-told2 .ensures)
 
 refused-listing-requires : tie.Need-refused-listing-requires
 refused-listing-requires c κs = search needs
 
 print-start-requires : tie.Need-print-start-requires
 print-start-requires c κs = search needs
+
+slice-reshare-prefix-tell-untranslated : tie.Need-slice-reshare-prefix-tell-untranslated
+slice-reshare-prefix-tell-untranslated c = search needs
+
+slice-aggregate-tell-untranslated : tie.Need-slice-aggregate-tell-untranslated
+slice-aggregate-tell-untranslated c = search needs
+
+tell-untranslated-requires : tie.Need-tell-untranslated-requires
+tell-untranslated-requires c κs = search needs
 
 table-told-requires-3 : tie.Need-table-told-requires-3
 table-told-requires-3 c κs = search needs
@@ -76,14 +85,14 @@ same-length-6 : tie.Need-same-length-6
 same-length-6 c = search needs
 
 returns-3 : tie.Need-returns-3
-returns-3 c = makes-refusal _ _ (c .before .before .before .before .before .before .before .before .before .before .before .before .before .before .before .before .before .before .before .read-argument .ensures) _ (c .before .before .before .before .before .before .before .before .before .before .before .before .translate .ensures) (c .before .before .before .before .before .before .before .before .is-none .ensures) (c .before .before .before .before .before .before .before .if2 .left) _ (c .before .before .before .before .before .refused-listing .ensures) (c .table-told3 .ensures)
+returns-3 c = makes-refusal _ _ (c .before .before .before .before .before .before .before .before .before .before .before .before .before .before .before .before .before .before .before .before .before .read-model .ensures) _ (c .before .before .before .before .before .before .before .before .before .before .before .before .before .before .translate .ensures) (c .before .before .before .before .before .before .before .before .before .before .is-none .ensures) (c .before .before .before .before .before .before .before .before .before .if2 .left) _ (c .before .before .before .before .before .before .before .refused-listing .ensures) (c .table-told3 .ensures)
 
 pub make-main-spec : {M : Type 1} → statement M
 make-main-spec =
     tie.close
     (tie.spec
-    slice-aggregate-read-argument
-    read-argument-requires
+    slice-aggregate-read-model
+    read-model-requires
     table-told-requires
     same-length
     returns
@@ -101,6 +110,9 @@ make-main-spec =
     returns-2
     refused-listing-requires
     print-start-requires
+    slice-reshare-prefix-tell-untranslated
+    slice-aggregate-tell-untranslated
+    tell-untranslated-requires
     table-told-requires-3
     same-length-4
     same-length-5

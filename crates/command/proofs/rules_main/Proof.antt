@@ -1,10 +1,13 @@
-use Rattle.command.specs.Shows.{shows-nothing, shows-listing}
+use Rattle.command.specs.ShowLaws.{shows-nothing, shows-listing}
 use borrow.Author.Needs.{needs}
 use Rattle.command.proofs.rules_main.Statement.{statement}
 use Rattle.command.proofs.rules_main.Tie as tie
 
 slice-aggregate-read-inputs : tie.Need-slice-aggregate-read-inputs
 slice-aggregate-read-inputs c = search needs
+
+slice-aggregate-read-inputs-2 : tie.Need-slice-aggregate-read-inputs-2
+slice-aggregate-read-inputs-2 c = search needs
 
 read-inputs-requires : tie.Need-read-inputs-requires
 read-inputs-requires c κs = search needs
@@ -21,23 +24,20 @@ same-length-2 c = search needs
 returns : tie.Need-returns
 returns c = shows-nothing _ _ _ (c .before .before .before .before .before .before .before .read-inputs .ensures .0) (c .before .before .before .before .before .before .before .read-inputs .ensures .1) (c .outcome .ensures)
 
-slice-reshare-prefix-rules-listing : tie.Need-slice-reshare-prefix-rules-listing
-slice-reshare-prefix-rules-listing c = search needs
+slice-reshare-prefix-show-rules : tie.Need-slice-reshare-prefix-show-rules
+slice-reshare-prefix-show-rules c = search needs
 
-slice-aggregate-rules-listing : tie.Need-slice-aggregate-rules-listing
-slice-aggregate-rules-listing c = search needs
+slice-aggregate-show-rules : tie.Need-slice-aggregate-show-rules
+slice-aggregate-show-rules c = search needs
 
-slice-reshare-prefix-rules-listing-2 : tie.Need-slice-reshare-prefix-rules-listing-2
-slice-reshare-prefix-rules-listing-2 c = search needs
+slice-reshare-prefix-show-rules-2 : tie.Need-slice-reshare-prefix-show-rules-2
+slice-reshare-prefix-show-rules-2 c = search needs
 
-slice-aggregate-rules-listing-2 : tie.Need-slice-aggregate-rules-listing-2
-slice-aggregate-rules-listing-2 c = search needs
+slice-aggregate-show-rules-2 : tie.Need-slice-aggregate-show-rules-2
+slice-aggregate-show-rules-2 c = search needs
 
-rules-listing-requires : tie.Need-rules-listing-requires
-rules-listing-requires c κs = search needs
-
-print-start-requires : tie.Need-print-start-requires
-print-start-requires c κs = search needs
+show-rules-requires : tie.Need-show-rules-requires
+show-rules-requires c κs = search needs
 
 outcome-requires-2 : tie.Need-outcome-requires-2
 outcome-requires-2 c κs = search needs
@@ -52,24 +52,24 @@ same-length-5 : tie.Need-same-length-5
 same-length-5 c = search needs
 
 returns-2 : tie.Need-returns-2
-returns-2 c = shows-listing _ _ _ (c .before .before .before .before .before .before .before .before .before .before .before .before .before .before .before .read-inputs .ensures .0) (c .before .before .before .before .before .before .before .before .before .before .before .before .before .before .before .read-inputs .ensures .1) _ (c .outcome2 .ensures) (c .before .before .before .before .before .rules-listing .ensures .written)
+returns-2 c = shows-listing _ _ _ (c .before .before .before .before .before .before .before .before .before .before .before .before .before .read-inputs .ensures .0) (c .before .before .before .before .before .before .before .before .before .before .before .before .before .read-inputs .ensures .1) _ (c .outcome2 .ensures) (c .before .before .before .show-rules .ensures)
 
 pub rules-main-spec : {M : Type 1} → statement M
 rules-main-spec =
     tie.close
     (tie.spec
     slice-aggregate-read-inputs
+    slice-aggregate-read-inputs-2
     read-inputs-requires
     outcome-requires
     same-length
     same-length-2
     returns
-    slice-reshare-prefix-rules-listing
-    slice-aggregate-rules-listing
-    slice-reshare-prefix-rules-listing-2
-    slice-aggregate-rules-listing-2
-    rules-listing-requires
-    print-start-requires
+    slice-reshare-prefix-show-rules
+    slice-aggregate-show-rules
+    slice-reshare-prefix-show-rules-2
+    slice-aggregate-show-rules-2
+    show-rules-requires
     outcome-requires-2
     same-length-3
     same-length-4

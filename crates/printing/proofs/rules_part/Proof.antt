@@ -1,4 +1,4 @@
-use Rattle.printing.specs.Prints.{hands-back}
+use Rattle.printing.specs.PrintLaws.{hands-back}
 use Rattle.printing.specs.Rules.{made-accepted}
 use Rattle.programs.specs.Parts.{rules-part}
 use Rattle.translator.specs.Tables.{bytes-known}

@@ -1,4 +1,4 @@
-use Rattle.printing.specs.Prints.{hands-back}
+use Rattle.printing.specs.PrintLaws.{hands-back}
 use Rattle.programs.specs.Parts.{table-part}
 use borrow.Author.Needs.{needs}
 use Rattle.printing.proofs.table_part.Statement.{statement}
