@@ -59,8 +59,8 @@ opposite-written a op h w = rw (← h) w
 
 -- ---- other transitions
 -- transition x is one of thread t, from a behaviour state given
-abbrev pub leavesFrom : Transition → ℕ → ℕ → Bool
-leavesFrom x t from = eqb (x .thread) t && eqb (x .from) from
+abbrev pub startsFrom : Transition → ℕ → ℕ → Bool
+startsFrom x t from = eqb (x .thread) t && eqb (x .from) from
 
 -- transition e, from a behaviour state given
 abbrev pub earlierAt : Behavior → ℕ → ℕ → ℕ → List (List Atom)
@@ -73,8 +73,8 @@ otherwiseAt b t k = cond (eqb (transitionAt b k .thread) t) (otherwiseClause b t
 abbrev pub shutBy : ℕ → ℕ → Guard → List Atom
 shutBy t from g = differs (behaviorVar t) (constant from) ∷ negatedOf g
 
-module _ (b : Behavior) (n : NamedBehavior b) (t from e : ℕ) (l : e < b .transitions) (r : Bool) (k : r ≡ leavesFrom (transitionIn b e) t from) where
-  leaves-is : r ≡ leavesFrom (transitionAt b e) t from
+module _ (b : Behavior) (n : NamedBehavior b) (t from e : ℕ) (l : e < b .transitions) (r : Bool) (k : r ≡ startsFrom (transitionIn b e) t from) where
+  leaves-is : r ≡ startsFrom (transitionAt b e) t from
   leaves-is = rw (← transition-is b e (within b n e l)) k
 
   pub earlier-written : {d h : List ℕ} {at q : ℕ} (g : Guard) → g ≡ guardIn b e → r ≡ true → WroteClauses d at (negatedOf g ∷ []) h q → WroteClauses d at (earlierAt b t from e) h q

@@ -19,7 +19,7 @@ ghost use Rattle.translate.specs.Parts.{plain, negatedOp};
 ghost use Rattle.translate.specs.Rules.{atomWith, perTransition, earlierClause, otherwiseClause};
 ghost use Rattle.rule_writer.specs.Wrote.{WroteAtoms, WroteClauses};
 ghost use Rattle.complete_rules.specs.Named.{NamedAtom, NamedGuard, NamedBehavior};
-ghost use Rattle.complete_rules.specs.Guards.{plainOf, negatedOf, leavesFrom, shutBy};
+ghost use Rattle.complete_rules.specs.Guards.{plainOf, negatedOf, startsFrom, shutBy};
 
 // Atom a with the comparison given.
 fn put_with(d: &mut [u8], at: usize, op: u8, a: Atom) -> usize
@@ -89,8 +89,8 @@ fn put_failing(d: &mut [u8], at: usize, g: Guard) -> usize
 }
 
 // Transition x is one of thread t, from the behaviour state given.
-fn leaves(x: Transition, t: u8, from: u8) -> bool
-    ensures { λ r. ⌜ r ≡ leavesFrom x t from ⌝ }
+fn starts_from(x: Transition, t: u8, from: u8) -> bool
+    ensures { λ r. ⌜ r ≡ startsFrom x t from ⌝ }
 {
     (x.thread == t) & (x.from == from)
 }
@@ -108,7 +108,7 @@ pub fn put_earlier(d: &mut [u8], at: usize, b: Behavior, t: u8, k: usize) -> usi
         let x = b.transition[e];
         let i = e * 4;
         e += 1;
-        if leaves(x, t, from) {
+        if starts_from(x, t, from) {
             let first = b.atom[i];
             let second = b.atom[i + 1];
             let third = b.atom[i + 2];

@@ -51,14 +51,14 @@ rulesOutcome model script =
     cond (isNone (r .refusal .cause)) (tableOutcome (tableBytes (readModel model .model)) script) (refusedOutcome (r .refusal))
 
 -- "kind byte to body end, or to the input's end if cut or unknown": what cutting an input gives at a place; nothing at its end.
-abbrev pub partAt : Notation → List ℕ → ℕ → List ℕ
-partAt w s p = take (partLengthAt w s p) (drop p s)
+abbrev pub cutAt : Notation → List ℕ → ℕ → List ℕ
+cutAt w s p = take (partLengthAt w s p) (drop p s)
 
 -- "A table too long hands back its whole, before any record is read."
 unfoldable pub partOfInput : Notation → List ℕ → ℕ → List ℕ
-partOfInput notations.Model s p = partAt notations.Model s p
-partOfInput notations.Table s p = cond (ltb longestTable (length s)) s (partAt notations.Table s p)
-partOfInput notations.Script s p = partAt notations.Script s p
+partOfInput notations.Model s p = cutAt notations.Model s p
+partOfInput notations.Table s p = cond (ltb longestTable (length s)) s (cutAt notations.Table s p)
+partOfInput notations.Script s p = cutAt notations.Script s p
 
 -- "from the model or the script, whichever holds it"; w is the notation of the model, or of the table that stands for it.
 unfoldable pub partIn : Holder → Notation → ℕ → List ℕ → List ℕ → List ℕ

@@ -27,7 +27,7 @@ use Rattle.table_format.specs.Table.{tableOf}
 use Rattle.table.specs.Machine.{startVariables, machineOf as tableMachine, runTable}
 use Rattle.translate.specs.Translate.{translated, tableBytes}
 use Rattle.programs.specs.Programs.{room}
-use Rattle.programs.specs.Outcomes.{modelOutcome, tableOutcome, rulesOutcome, partAt, partOfInput, partIn, cutPart}
+use Rattle.programs.specs.Outcomes.{modelOutcome, tableOutcome, rulesOutcome, cutAt, partOfInput, partIn, cutPart}
 
 -- no part is left at the end alone
 at-end : (w : Notation) (s : List ℕ) (p : ℕ) → parts w (drop p s) ≡ [] → length s ≤ p
@@ -42,7 +42,7 @@ at-end w s p e = go (decLt p (length s))
 
 -- ---- the part x at place p
 module _ (w : Notation) (s : List ℕ) (p : ℕ) (x : List ℕ) (l : List (List ℕ)) (e : parts w (drop p s) ≡ x ∷ l) where
-  part-here : take (p + length x - p) (drop p s) ≡ partAt w s p
+  part-here : take (p + length x - p) (drop p s) ≡ cutAt w s p
   part-here =
       let n = parts-split w s p x l e .size in
       let z : p + length x - p ≡ partLengthAt w s p = omega arith in
@@ -70,7 +70,7 @@ module _ {S : Type 0} (mac : Machine S) (w : Notation) (model script : List ℕ)
 
 -- ---- reading a model
 module _ (model script : List ℕ) where
-  no-head-part : (p : ℕ) → length model ≤ p → take (p - p) (drop p model) ≡ partAt Model model p
+  no-head-part : (p : ℕ) → length model ≤ p → take (p - p) (drop p model) ≡ cutAt Model model p
   unfolding partLengthAt
   no-head-part p h = let z : p - p ≡ 0 = omega arith in rw (z, le-ltb p (length model) h)
 

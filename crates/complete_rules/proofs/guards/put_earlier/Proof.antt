@@ -37,8 +37,8 @@ mul-i c = search needs
 add-e : tie.Need-add-e Inv-loop μ-loop
 add-e c = search needs
 
-leaves-requires : tie.Need-leaves-requires Inv-loop μ-loop
-leaves-requires c κs = search needs
+starts-from-requires : tie.Need-starts-from-requires Inv-loop μ-loop
+starts-from-requires c κs = search needs
 
 mul-first : tie.Need-mul-first Inv-loop μ-loop
 mul-first c = search needs
@@ -83,13 +83,13 @@ loop-less : tie.Need-loop-less Inv-loop μ-loop
 loop-less c = search needs
 
 loop-again : tie.Need-loop-again Inv-loop μ-loop
-loop-again c = (omega arith, loop-next joins-clauses _ (earlierAt (c .before .before .before .before .before .before .before .before .before .before .before .before .before .before .before .before .args .t3) _ _) (c .before .before .before .before .before .before .before .before .before .before .before .before .before .before .before .before .good .0 .0) (c .before .before .before .before .before .before .before .before .before .before .before .before .before .loop .inv .1) (earlier-written (c .before .before .before .before .before .before .before .before .before .before .before .before .before .before .before .before .args .t3) (c .before .before .before .before .before .before .before .before .before .before .before .before .before .before .before .before .pre .0) _ _ _ (let l = c .before .before .before .before .before .before .before .before .before .before .before .before .before .before .before .before .pre .1 in let n = c .before .before .before .before .before .before .before .before .before .before .before .before .loop-test .taken in omega arith) _ (c .before .before .before .before .before .before .before .before .before .before .leaves .ensures) _ (c .before .before .before .before .guard-from .ensures) (c .before .before .before .before .before .before .before .before .before .if1 .taken) (c .before .before .put-failing .ensures)))
+loop-again c = (omega arith, loop-next joins-clauses _ (earlierAt (c .before .before .before .before .before .before .before .before .before .before .before .before .before .before .before .before .args .t3) _ _) (c .before .before .before .before .before .before .before .before .before .before .before .before .before .before .before .before .good .0 .0) (c .before .before .before .before .before .before .before .before .before .before .before .before .before .loop .inv .1) (earlier-written (c .before .before .before .before .before .before .before .before .before .before .before .before .before .before .before .before .args .t3) (c .before .before .before .before .before .before .before .before .before .before .before .before .before .before .before .before .pre .0) _ _ _ (let l = c .before .before .before .before .before .before .before .before .before .before .before .before .before .before .before .before .pre .1 in let n = c .before .before .before .before .before .before .before .before .before .before .before .before .loop-test .taken in omega arith) _ (c .before .before .before .before .before .before .before .before .before .before .starts-from .ensures) _ (c .before .before .before .before .guard-from .ensures) (c .before .before .before .before .before .before .before .before .before .if1 .taken) (c .before .before .put-failing .ensures)))
 
 loop-less-2 : tie.Need-loop-less-2 Inv-loop μ-loop
 loop-less-2 c = search needs
 
 loop-again-2 : tie.Need-loop-again-2 Inv-loop μ-loop
-loop-again-2 c = (omega arith, loop-next joins-clauses _ (earlierAt (c .before .before .before .before .before .before .before .args .t3) _ _) (c .before .before .before .before .before .before .before .good .0 .0) (c .before .before .before .before .loop .inv .1) (earlier-none (c .before .before .before .before .before .before .before .args .t3) (c .before .before .before .before .before .before .before .pre .0) _ _ _ (let l = c .before .before .before .before .before .before .before .pre .1 in let n = c .before .before .before .loop-test .taken in omega arith) _ (c .before .leaves .ensures) (c .if1 .left) (search needs)))
+loop-again-2 c = (omega arith, loop-next joins-clauses _ (earlierAt (c .before .before .before .before .before .before .before .args .t3) _ _) (c .before .before .before .before .before .before .before .good .0 .0) (c .before .before .before .before .loop .inv .1) (earlier-none (c .before .before .before .before .before .before .before .args .t3) (c .before .before .before .before .before .before .before .pre .0) _ _ _ (let l = c .before .before .before .before .before .before .before .pre .1 in let n = c .before .before .before .loop-test .taken in omega arith) _ (c .before .starts-from .ensures) (c .if1 .left) (search needs)))
 
 same-length : tie.Need-same-length Inv-loop μ-loop
 same-length c = keeps-length (c .before .loop .inv .1)
@@ -110,7 +110,7 @@ put-earlier-spec =
     element-copy-out-x
     mul-i
     add-e
-    leaves-requires
+    starts-from-requires
     mul-first
     element-copy-out-first
     add-second
