@@ -1,15 +1,14 @@
 -- What translating promises to a caller of the static library.
 use mathlib.Core.Path.{_≡_}
 use mathlib.Core.List.{List}
-use Prim.Native.Nat.{ℕ, _≤_}
-use lib.ListN.{getD, length}
+use Prim.Native.Nat.{ℕ}
+use lib.ListN.{length}
 use Rattle.translate.specs.Translate.{translated, outputAfter}
 use Rattle.simulation.specs.Compared.{Simulates}
 use Rattle.lending.specs.Lending.{Tells, toldTranslation}
 
--- the number, the part and the length, the output afterwards, and, where the number is 0 and the length was told, demand 3 for every
--- event list
+-- the number, the part and the length, the output afterwards, and, where nothing is refused, demand 3 of the table there for every event list
 pub record Exports (model out after before : List ℕ) (r : ℕ) (told : List ℕ) : Type 0 where
   pub tells : Tells (translated model (length out) .refusal .cause) (toldTranslation (translated model (length out))) before r told
   pub output : after ≡ outputAfter model out
-  pub simulated : (script : List ℕ) → r ≡ 0 → 3 ≤ length told → Simulates model script (getD told 2 0) after
+  pub simulated : (script : List ℕ) → r ≡ 0 → Simulates model script (translated model (length out) .bytes) after
