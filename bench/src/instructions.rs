@@ -21,35 +21,38 @@ const TIMES: usize = 2;
 /// Tables above this length are given fewer events.
 const LONG_TABLE: usize = 65_536;
 
-/// Each call counted, in the order of the profiles: without events, and of a
-/// size.
-fn calls(measurement: &Measurement) -> [(&'static str, usize); 4] {
+/// The size of the calls that are counted.
+fn size(measurement: &Measurement) -> usize {
     let events = if measurement.table_bytes > LONG_TABLE {
         400
     } else {
         2_000
     };
-    let size = match measurement.most {
+    match measurement.most {
         usize::MAX => TIMES,
         most => most.min(events),
-    };
-    [("ours", 0), ("ours", size), ("plain", 0), ("plain", size)]
+    }
 }
 
-/// The program that is counted: every call once. It prints the units of each.
+/// The program that is counted: every side without events, then with some. It
+/// prints name, side and units of each call, in the order of the profiles.
 pub fn be_counted(text: &str) {
     let amounts = Amounts {
         events: 2_000,
         ticks: 70_000,
     };
     for measurement in measurements(text, amounts) {
-        for (side, size) in calls(&measurement) {
-            let work = match side {
-                "ours" => &measurement.ours,
-                _ => &measurement.plain,
-            };
-            let done = bench_measured(work, size);
-            println!("{}\t{side}\t{}", measurement.name, done.units);
+        let sides = [
+            ("ours", Some(&measurement.ours)),
+            ("plain", Some(&measurement.plain)),
+            ("limit", measurement.limit.as_ref()),
+        ];
+        for (side, work) in sides {
+            let Some(work) = work else { continue };
+            for size in [0, size(&measurement)] {
+                let done = bench_measured(work, size);
+                println!("{}\t{side}\t{}", measurement.name, done.units);
+            }
         }
     }
 }
@@ -80,32 +83,55 @@ pub fn report(text: &str) -> Result<(), String> {
     }
     let lines = String::from_utf8_lossy(&counted.stdout).into_owned();
     let lines: Vec<&str> = lines.lines().collect();
-    println!(
-        "{:<36} {:>12} {:>12} {:>8}  profiles",
+    print!(
+        "{:<36} {:>12} {:>12} {:>8}",
         "instructions of one unit", "ours", "plain", "ratio"
     );
-    for (number, calls) in lines.chunks(4).enumerate() {
-        let first = 4 * number + 1;
-        let counts: Vec<Count> = calls
+    println!(" {:>12} {:>8}  profiles", "limit", "of it");
+    let counts: Vec<Count> = lines
+        .iter()
+        .zip(1..)
+        .map(|(line, profile)| count(line, &folder.join(format!("profile.{profile}"))))
+        .collect::<Result<_, _>>()?;
+    let mut first = 0;
+    while first < counts.len() {
+        let name = &counts[first].name;
+        let own = counts[first..]
             .iter()
-            .zip(first..)
-            .map(|(line, profile)| count(line, &folder.join(format!("profile.{profile}"))))
-            .collect::<Result<_, _>>()?;
-        let ours = counts[1].per_unit(&counts[0]);
-        let plain = counts[3].per_unit(&counts[2]);
-        let name = calls[0].split('\t').next().unwrap_or_default();
-        println!(
-            "{name:<36} {ours:>12.1} {plain:>12.1} {:>8.3}  {} {}",
-            plain / ours,
-            first + 1,
-            first + 3
-        );
+            .take_while(|count| count.name == *name);
+        let sides = own.count() / 2;
+        print_line(&counts[first..first + 2 * sides], first + 1);
+        first += 2 * sides;
     }
     Ok(())
 }
 
+/// One measurement: two counts of each side. `first` is its first profile.
+fn print_line(counts: &[Count], first: usize) {
+    let sides: Vec<f64> = counts
+        .chunks(2)
+        .map(|side| side[1].per_unit(&side[0]))
+        .collect();
+    let (ours, plain) = (sides[0], sides[1]);
+    print!(
+        "{:<36} {ours:>12.1} {plain:>12.1} {:>8.3}",
+        counts[0].name,
+        plain / ours
+    );
+    match sides.get(2) {
+        Some(limit) => print!(" {limit:>12.1} {:>8.3}", limit / ours),
+        None => print!(" {:>12} {:>8}", "", ""),
+    }
+    let profiles: Vec<String> = (1..counts.len())
+        .step_by(2)
+        .map(|at| (first + at).to_string())
+        .collect();
+    println!("  {}", profiles.join(" "));
+}
+
 /// The units of a call and its instructions.
 struct Count {
+    name: String,
     units: u64,
     instructions: u64,
 }
@@ -128,6 +154,7 @@ fn count(line: &str, profile: &Path) -> Result<Count, String> {
         .or_else(|| text.lines().find_map(|line| line.strip_prefix("totals: ")))
         .ok_or_else(|| format!("{}: no total", profile.display()))?;
     Ok(Count {
+        name: line.split('\t').next().unwrap_or_default().to_string(),
         units: units.parse().map_err(|_| format!("no units: {line}"))?,
         instructions: total
             .trim()

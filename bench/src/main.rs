@@ -1,12 +1,15 @@
-//! The speed of the verified library beside that of the plain model.
+//! The speed of the verified library beside those of the plain model and of the
+//! limit, the fastest that we know how to write without a proof.
 //!
 //!     bench [--instructions] [TEXT]
 //!
-//! Each measurement gives both sides the same input and compares what they make
+//! Each measurement gives all sides the same input and compares what they make
 //! of it. `--instructions` counts instructions in place of time. With a TEXT,
 //! only measurements whose name has it are made.
 
 mod instructions;
+mod limit;
+mod limit_work;
 mod measure;
 mod models;
 mod scripts;

@@ -1,9 +1,9 @@
-//! Measuring one thing on both sides.
+//! Measuring one thing on all sides.
 
 use std::hint::black_box;
 use std::time::{Duration, Instant};
 
-/// What a piece of work came to. Both sides must come to the same.
+/// What a piece of work came to. All sides must come to the same.
 #[derive(PartialEq, Eq)]
 pub struct Done {
     /// The events, ticks, tables and so on that were done.
@@ -25,6 +25,8 @@ pub struct Measurement {
     pub most: usize,
     pub ours: Work,
     pub plain: Work,
+    /// Only what is run has a limit.
+    pub limit: Option<Work>,
 }
 
 /// The least time of one call, and how many times as long as one without events
@@ -39,12 +41,14 @@ const ENOUGH_TIME: Duration = Duration::from_millis(400);
 const FEWEST: u32 = 3;
 const MOST: u32 = 30;
 
-/// The best times of both sides for the same work.
+/// The best times of all sides for the same work.
 pub struct Times {
     pub units: u64,
     pub ours: Duration,
     pub plain: Duration,
-    /// The part of the time in percent that each side needs without any event.
+    pub limit: Option<Duration>,
+    /// The part of the time in percent that we and the plain model need without
+    /// any event.
     pub reading: [f64; 2],
 }
 
@@ -54,27 +58,24 @@ impl Times {
     }
 }
 
-/// Measures the times of both sides in turns, and keeps the best.
+/// Measures the times of all sides in turns, and keeps the best.
 pub fn times(measurement: &Measurement) -> Times {
     let idle = [&measurement.ours, &measurement.plain].map(|work| best_of_three(work, 0));
     let size = sized(measurement, idle);
     let began = Instant::now();
-    let (mut ours, mut plain) = (Duration::MAX, Duration::MAX);
-    let mut units = 0;
-    let mut rounds = 0;
+    let mut best = measurement.round(size);
+    let mut rounds = 1;
     while rounds < FEWEST || (rounds < MOST && began.elapsed() < ENOUGH_TIME) {
-        let both = measurement.both(size);
-        ours = ours.min(both.ours);
-        plain = plain.min(both.plain);
-        units = both.units;
+        best = best.or_better(&measurement.round(size));
         rounds += 1;
     }
     let part = |idle: Duration, all: Duration| 100.0 * idle.as_secs_f64() / all.as_secs_f64();
     Times {
-        units,
-        ours,
-        plain,
-        reading: [part(idle[0], ours), part(idle[1], plain)],
+        units: best.units,
+        ours: best.ours,
+        plain: best.plain,
+        limit: best.limit,
+        reading: [part(idle[0], best.ours), part(idle[1], best.plain)],
     }
 }
 
@@ -83,9 +84,9 @@ fn sized(measurement: &Measurement, idle: [Duration; 2]) -> usize {
     let least = idle.map(|idle| LEAST.max(idle * LEAST_TIMES));
     let mut size = measurement.most.min(16);
     loop {
-        let both = measurement.both(size);
-        let enough = both.ours >= least[0] && both.plain >= least[1];
-        if enough || both.ours + both.plain > LONG || size == measurement.most {
+        let round = measurement.round(size);
+        let enough = round.ours >= least[0] && round.plain >= least[1];
+        if enough || round.ours + round.plain > LONG || size == measurement.most {
             return size;
         }
         size = size.saturating_mul(2).min(measurement.most);
@@ -99,22 +100,42 @@ fn best_of_three(work: &Work, size: usize) -> Duration {
         .unwrap_or_default()
 }
 
-struct Both {
+/// The times of one call of each side.
+struct Round {
     units: u64,
     ours: Duration,
     plain: Duration,
+    limit: Option<Duration>,
+}
+
+impl Round {
+    /// The better time of each side.
+    fn or_better(&self, other: &Round) -> Round {
+        Round {
+            units: other.units,
+            ours: self.ours.min(other.ours),
+            plain: self.plain.min(other.plain),
+            limit: self.limit.min(other.limit),
+        }
+    }
 }
 
 impl Measurement {
     /// One call of each side; they must come to the same.
-    fn both(&self, size: usize) -> Both {
+    fn round(&self, size: usize) -> Round {
         let (ours, our_time) = timed(&self.ours, size);
         let (plain, plain_time) = timed(&self.plain, size);
         assert!(ours == plain, "{}: both come to the same", self.name);
-        Both {
+        let limit = self.limit.as_ref().map(|limit| {
+            let (limit, time) = timed(limit, size);
+            assert!(ours == limit, "{}: the limit comes to the same", self.name);
+            time
+        });
+        Round {
             units: ours.units,
             ours: our_time,
             plain: plain_time,
+            limit,
         }
     }
 }

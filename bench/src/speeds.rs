@@ -1,4 +1,4 @@
-//! The speeds of both sides. How fast code with large copies runs depends on
+//! The speeds of all sides. How fast code with large copies runs depends on
 //! where the system puts its stack and heap, so each measurement is made in
 //! several processes. The one with the middle ratio stands for all.
 
@@ -15,6 +15,9 @@ pub const MEASURED: &str = "--measured";
 /// How many processes measure the same.
 const PROCESSES: usize = 5;
 
+/// Speeds are to be at least such a part of the limit's.
+const LIMIT_GOAL: f64 = 0.5;
+
 /// Measures in this process, and prints what [`Speeds::parse`] reads.
 pub fn measure(name: &str) {
     let amounts = Amounts {
@@ -25,11 +28,12 @@ pub fn measure(name: &str) {
         let times = times(&measurement);
         let [our_part, plain_part] = times.reading;
         println!(
-            "{}\t{}\t{}\t{}\t{our_part}\t{plain_part}\t{}",
+            "{}\t{}\t{}\t{}\t{}\t{our_part}\t{plain_part}\t{}",
             measurement.table_bytes,
             measurement.goal.unwrap_or(0.0),
             times.per_second(times.ours),
             times.per_second(times.plain),
+            times.limit.map_or(0.0, |limit| times.per_second(limit)),
             measurement.note,
         );
     }
@@ -38,10 +42,20 @@ pub fn measure(name: &str) {
 /// Prints the speeds of all measurements whose name has a text.
 pub fn report(text: &str) -> Result<(), String> {
     println!(
-        "{:<36} {:>11} {:>11} {:>7} {:>5}  {:<5}  {:>13}  {:>11}",
-        "measurement", "ours/s", "plain/s", "ratio", "goal", "", "ratios", "reading"
+        "{:<36} {:>11} {:>11} {:>7} {:>5}  {:<5}  {:>13}  {:>11} {:>6}  {:<5}  {:>11}",
+        "measurement",
+        "ours/s",
+        "plain/s",
+        "ratio",
+        "goal",
+        "",
+        "ratios",
+        "limit/s",
+        "of it",
+        "",
+        "reading"
     );
-    let mut short = 0;
+    let (mut short, mut short_of_limit) = (0, 0);
     let mut table_before = 0;
     for name in names(text) {
         let mut all: Vec<Speeds> = (0..PROCESSES)
@@ -56,10 +70,12 @@ pub fn report(text: &str) -> Result<(), String> {
         let range = [all[0].ratio(), all[PROCESSES - 1].ratio()];
         println!("{}", middle.line(&name, range).trim_end());
         short += usize::from(middle.falls_short());
+        short_of_limit += usize::from(middle.falls_short_of_limit());
     }
-    println!("{short} short");
+    println!("{short} short of their goal, {short_of_limit} of {LIMIT_GOAL} of the limit");
     println!("Of {PROCESSES} processes the one with the middle ratio; ratios: least and greatest.");
-    println!("reading: the part of both times that goes without any event.");
+    println!("reading: the part of our time and the plain model's that goes without any event.");
+    println!("limit: unproved interpreters of decoded models and tables; see docs/SPEED.md.");
     Ok(())
 }
 
@@ -82,6 +98,8 @@ struct Speeds {
     goal: f64,
     ours: f64,
     plain: f64,
+    /// 0 where there is none.
+    limit: f64,
     reading: [f64; 2],
     note: String,
 }
@@ -89,7 +107,7 @@ struct Speeds {
 impl Speeds {
     fn parse(line: &str) -> Option<Speeds> {
         let fields: Vec<&str> = line.split('\t').collect();
-        let [table_bytes, goal, ours, plain, our_part, plain_part, note] = fields[..] else {
+        let [table_bytes, goal, ours, plain, limit, our_part, plain_part, note] = fields[..] else {
             return None;
         };
         Some(Speeds {
@@ -97,6 +115,7 @@ impl Speeds {
             goal: goal.parse().ok()?,
             ours: ours.parse().ok()?,
             plain: plain.parse().ok()?,
+            limit: limit.parse().ok()?,
             reading: [our_part.parse().ok()?, plain_part.parse().ok()?],
             note: note.to_string(),
         })
@@ -110,23 +129,42 @@ impl Speeds {
         self.ratio() < self.goal
     }
 
+    fn falls_short_of_limit(&self) -> bool {
+        self.ours < LIMIT_GOAL * self.limit
+    }
+
     fn line(&self, name: &str, [least, greatest]: [f64; 2]) -> String {
         let (goal, word) = if self.goal == 0.0 {
             (String::new(), "")
-        } else if self.falls_short() {
-            (format!("{:.1}", self.goal), "short")
         } else {
-            (format!("{:.1}", self.goal), "ok")
+            (format!("{:.1}", self.goal), word(self.falls_short()))
         };
         let [our_part, plain_part] = self.reading;
         let ratios = format!("{least:.3} {greatest:.3}");
         format!(
-            "{name:<36} {:>11.0} {:>11.0} {:>7.3} {goal:>5}  {word:<5}  {ratios:>13}  \
+            "{name:<36} {:>11.0} {:>11.0} {:>7.3} {goal:>5}  {word:<5}  {ratios:>13}  {}  \
              {our_part:>4.1}% {plain_part:>4.1}%  {}",
             self.ours,
             self.plain,
             self.ratio(),
+            self.beside_limit(),
             self.note,
         )
+    }
+
+    /// The limit's speed, and ours as a part of it.
+    fn beside_limit(&self) -> String {
+        if self.limit == 0.0 {
+            return format!("{:>11} {:>6}  {:<5}", "", "", "");
+        }
+        let (part, word) = (self.ours / self.limit, word(self.falls_short_of_limit()));
+        format!("{:>11.0} {part:>6.3}  {word:<5}", self.limit)
+    }
+}
+
+fn word(short: bool) -> &'static str {
+    match short {
+        true => "short",
+        false => "ok",
     }
 }

@@ -1,4 +1,5 @@
-//! What is measured: the library's work and the plain model's on one input.
+//! What is measured: the library's work and the plain model's on one input, and
+//! beside them the limit's.
 
 use std::cell::{LazyCell, RefCell};
 use std::fmt::Write;
@@ -9,6 +10,7 @@ use futonkestrel::{raw, ROOM_FOR_TABLE};
 use plain::script::{read_event, run, Answer, TICK};
 use plain::table::variable::NOW;
 
+use crate::limit_work;
 use crate::measure::{Done, Measurement, Work};
 use crate::scripts::Script;
 use crate::subjects::{Amounts, Pair, Subject};
@@ -121,8 +123,10 @@ fn model_run(name: String, pair: &Pair, script: &Rc<Script>, unit: Unit) -> Meas
         assert_eq!(refusal, None, "all events are taken");
         done_run(taken, state.now.0, script, size, unit)
     });
+    limit_work::assert_same_state(pair, script);
     Measurement {
         note: ticks_each(script, unit),
+        limit: Some(limit_work::model_run(pair, script, unit)),
         ..measurement(name, pair, MODEL_GOAL, script.events(), ours, plain)
     }
 }
@@ -147,6 +151,7 @@ fn table_run(name: String, pair: &Pair, script: &Rc<Script>, unit: Unit) -> Meas
     });
     Measurement {
         note: ticks_each(script, unit),
+        limit: Some(limit_work::table_run(pair, script, unit)),
         ..measurement(name, pair, TABLE_GOAL, script.events(), ours, plain)
     }
 }
@@ -181,7 +186,10 @@ fn table_steps(name: String, pair: &Pair, script: &Rc<Script>) -> Measurement {
         }
         done_steps(taken, &variables)
     });
-    measurement(name, pair, TABLE_GOAL, script.events(), ours, plain)
+    Measurement {
+        limit: Some(limit_work::table_steps(pair, script)),
+        ..measurement(name, pair, TABLE_GOAL, script.events(), ours, plain)
+    }
 }
 
 /// The output has room for any table.
@@ -224,7 +232,10 @@ fn model_listing(name: String, pair: &Pair, script: &Rc<Script>) -> Measurement 
         let lines = plain::listing::steps(black_box(model), script);
         done_bytes(size, lines.as_bytes())
     });
-    measurement(name, pair, NO_GOAL, script.events(), ours, plain)
+    Measurement {
+        limit: Some(limit_work::model_listing(pair, script)),
+        ..measurement(name, pair, NO_GOAL, script.events(), ours, plain)
+    }
 }
 
 fn table_listing(name: String, pair: &Pair, script: &Rc<Script>) -> Measurement {
@@ -243,7 +254,10 @@ fn table_listing(name: String, pair: &Pair, script: &Rc<Script>) -> Measurement 
         let lines = plain_table_listing(black_box(table), black_box(script.first(size)));
         done_bytes(size, lines.as_bytes())
     });
-    measurement(name, pair, NO_GOAL, script.events(), ours, plain)
+    Measurement {
+        limit: Some(limit_work::table_listing(pair, script)),
+        ..measurement(name, pair, NO_GOAL, script.events(), ours, plain)
+    }
 }
 
 fn model_reading(name: String, pair: &Pair) -> Measurement {
@@ -288,12 +302,13 @@ fn measurement(
         most,
         ours,
         plain,
+        limit: None,
     }
 }
 
 /// What a run's speed is counted in.
 #[derive(Clone, Copy)]
-enum Unit {
+pub enum Unit {
     Event,
     Tick,
 }
@@ -311,7 +326,7 @@ fn ticks_each(script: &Script, unit: Unit) -> String {
 }
 
 /// Work on an input that it keeps.
-fn with<I: 'static>(input: I, work: impl Fn(&I, usize) -> Done + 'static) -> Work {
+pub fn with<I: 'static>(input: I, work: impl Fn(&I, usize) -> Done + 'static) -> Work {
     Box::new(move |size| work(&input, size))
 }
 
@@ -320,7 +335,7 @@ fn our_run(run: futonkestrel::Run, script: &Script, size: usize, unit: Unit) -> 
     done_run(run.taken, run.clock.into(), script, size, unit)
 }
 
-fn done_run(taken: usize, clock: u64, script: &Script, size: usize, unit: Unit) -> Done {
+pub fn done_run(taken: usize, clock: u64, script: &Script, size: usize, unit: Unit) -> Done {
     assert_eq!(taken, size, "all events are taken");
     assert_eq!(clock, script.ticks(size), "all ticks are taken");
     let units = match unit {
@@ -333,7 +348,7 @@ fn done_run(taken: usize, clock: u64, script: &Script, size: usize, unit: Unit) 
     }
 }
 
-fn done_steps(taken: u64, variables: &[i32]) -> Done {
+pub fn done_steps(taken: u64, variables: &[i32]) -> Done {
     Done {
         units: taken,
         result: variables.iter().flat_map(|v| v.to_le_bytes()).collect(),
@@ -341,7 +356,7 @@ fn done_steps(taken: u64, variables: &[i32]) -> Done {
 }
 
 /// A table or a listing. The last line of a listing is not counted.
-fn done_bytes(units: usize, result: &[u8]) -> Done {
+pub fn done_bytes(units: usize, result: &[u8]) -> Done {
     Done {
         units: units as u64,
         result: result.to_vec(),

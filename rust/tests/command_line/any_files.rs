@@ -46,6 +46,8 @@ fn every_command_answers() {
             &["rules", "--words", "--values", &good_model, &script],
             &["run", "--words", "--values", &table, &script],
             &["trace", "--table", &table, &script],
+            &["timeline", &model, &script, &out],
+            &["timeline", &good_model, &script, &out],
             &["show", &model],
         ] {
             answers(words);

@@ -2,8 +2,9 @@
 
 use crate::tools::{example, run};
 
-const COMMANDS: [&str; 9] = [
-    "steps", "rules", "run", "table", "check", "compare", "trace", "show", "pack",
+const COMMANDS: [&str; 11] = [
+    "steps", "rules", "run", "table", "check", "compare", "trace", "timeline", "promela", "show",
+    "pack",
 ];
 
 #[test]

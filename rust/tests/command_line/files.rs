@@ -28,6 +28,7 @@ fn missing_files() {
         &["run", "nowhere", &model],
         &["trace", &model, "nowhere"],
         &["compare", &model, "nowhere"],
+        &["timeline", &model, "nowhere", "-"],
         &["steps", "--names", "nowhere", &model, &model],
     ] {
         let done = run(words);

@@ -99,21 +99,25 @@ fn unless_gone(written: io::Result<()>) -> io::Result<bool> {
     }
 }
 
-/// Writes a whole file, never over `input`: ordinary files by way of a
+/// Writes a whole file, never over one of `inputs`: ordinary files by way of a
 /// temporary one beside them, all others, such as devices and pipes, straight.
-pub fn write(file: &OsStr, bytes: &[u8], input: &Input) -> Result<(), Failure> {
+pub fn write(file: &OsStr, bytes: &[u8], inputs: &[&Input]) -> Result<(), Failure> {
     if file == "-" {
         return print(bytes).map(|_| ());
     }
     let fail = |error| failure(&file.to_string_lossy(), &error);
     let path = followed(Path::new(file)).map_err(fail)?;
-    match fs::metadata(&path) {
-        Ok(about) if about.is_file() && Some(identity(&about)) == input.identity => {
-            let (out, read) = (file.to_string_lossy(), &input.name);
-            Err(Failure::Usage(format!(
-                "{out} is the input {read}; write to another file"
-            )))
-        }
+    let about = fs::metadata(&path);
+    let itself = about.as_ref().ok().filter(|about| about.is_file());
+    let itself = itself.map(identity);
+    let over = |input: &&&Input| itself.is_some() && input.identity == itself;
+    if let Some(input) = inputs.iter().find(over) {
+        let (out, read) = (file.to_string_lossy(), &input.name);
+        return Err(Failure::Usage(format!(
+            "{out} is the input {read}; write to another file"
+        )));
+    }
+    match about {
         Ok(about) if is_standard_output(&about) => print(bytes).map(|_| ()),
         Ok(about) if about.is_file() => replace(&path, bytes, Some(&about)).map_err(fail),
         Ok(_) => straight(&path, bytes).map_err(fail),

@@ -181,7 +181,12 @@ pub const NO_CONDITION: i64 = 65_535;
 pub const NONE: i64 = 255;
 /// Event kinds that are asked for by themselves.
 pub const START: u8 = 0x04;
+pub const COMPLETE: u8 = 0x05;
+pub const DEADLINE: u8 = 0x06;
+pub const MISS: u8 = 0x07;
 pub const REQUEST: u8 = 0x08;
+pub const ENTER: u8 = 0x09;
+pub const LEAVE: u8 = 0x0A;
 pub const TICK: u8 = 0x0B;
 
 /// Signs of comparisons by their op; 6 and 7 ask for multiples.
@@ -382,12 +387,12 @@ pub static SCRIPT: Format = Format {
         event(0x02, "DEACTIVATE", &[OWNER]),
         event(0x03, "DISPATCH", &[OWNER]),
         event(START, "START", &[OWNER, field("for", 4, Number, Length)]),
-        event(0x05, "COMPLETE", &[OWNER]),
-        event(0x06, "DEADLINE", &[OWNER]),
-        event(0x07, "MISS", &[OWNER]),
+        event(COMPLETE, "COMPLETE", &[OWNER]),
+        event(DEADLINE, "DEADLINE", &[OWNER]),
+        event(MISS, "MISS", &[OWNER]),
         event(REQUEST, "REQUEST", &[BY_TRANSITION]),
-        event(0x09, "ENTER", &[BY_TRANSITION]),
-        event(0x0A, "LEAVE", &[BY_TRANSITION]),
+        event(ENTER, "ENTER", &[BY_TRANSITION]),
+        event(LEAVE, "LEAVE", &[BY_TRANSITION]),
         event(TICK, "TICK", &[field("", 2, Number, Within(1, 65_535))]),
     ],
 };

@@ -6,9 +6,10 @@ use std::collections::BTreeMap;
 
 use futonkestrel::{Table, Variables};
 
-use crate::format::{Item, MULTIPLE, NO_MULTIPLE, REQUEST, SCRIPT, START, TABLE, TICK};
+use crate::format::{Item, MULTIPLE, NO_MULTIPLE, REQUEST, SCRIPT, START, TICK};
 use crate::names::Names;
 use crate::record::{records, Record};
+use crate::rules::{rules, Atom, Rule};
 use crate::text;
 use crate::variables;
 
@@ -18,17 +19,6 @@ const MOST_TICKS: u16 = u16::MAX;
 const TRIES: usize = 16;
 /// So many events are told by name, and only the number of further ones.
 const TOLD: usize = 16;
-
-struct Rule {
-    event: u8,
-    id: u8,
-    low: u32,
-    high: u32,
-    clauses: Vec<Vec<Atom>>,
-}
-
-/// Op, variable, and the operand's tag and number.
-type Atom = [i64; 4];
 
 pub struct Machine<'a> {
     table: Table<'a>,
@@ -321,7 +311,7 @@ pub fn item_of_event(event: u8) -> Option<Item> {
 }
 
 /// An event in few words, as it is told in messages.
-fn event_words(event: &[u8], names: &Names) -> String {
+pub fn event_words(event: &[u8], names: &Names) -> String {
     let whole = records(&SCRIPT, event);
     let Some((kind, values)) = whole.first().and_then(Record::whole) else {
         let kind = SCRIPT.kind(event[0]).map(|kind| kind.word.to_string());
@@ -360,31 +350,4 @@ fn listed(words: &[String], count: usize) -> String {
         }
         [others @ .., last] => format!("{} and {last} are", others.join(", ")),
     }
-}
-
-/// The rules of an accepted table.
-fn rules(table: &[u8]) -> Vec<Rule> {
-    let mut rules: Vec<Rule> = Vec::new();
-    for record in records(&TABLE, table) {
-        let Some((kind, values)) = record.whole() else {
-            continue;
-        };
-        match (kind.item, values, rules.last_mut()) {
-            (Item::Rule, &[event, id, low, high], _) => rules.push(Rule {
-                event: event as u8,
-                id: id as u8,
-                low: low as u32,
-                high: high as u32,
-                clauses: Vec::new(),
-            }),
-            (Item::Clause, _, Some(rule)) => rule.clauses.push(Vec::new()),
-            (Item::Atom, &[op, variable, tag, number], Some(rule)) => {
-                if let Some(clause) = rule.clauses.last_mut() {
-                    clause.push([op, variable, tag, number]);
-                }
-            }
-            _ => {}
-        }
-    }
-    rules
 }

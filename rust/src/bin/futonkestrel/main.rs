@@ -14,8 +14,11 @@ mod machine;
 mod names;
 mod options;
 mod pack;
+mod promela;
 mod record;
+mod rules;
 mod text;
+mod timeline;
 mod variables;
 mod words;
 

@@ -2,7 +2,7 @@
 
 use std::ffi::OsStr;
 
-use crate::files;
+use crate::files::{self, Input};
 use crate::format::{Item, NAMED};
 use crate::words::Line;
 use crate::Failure;
@@ -10,6 +10,8 @@ use crate::Failure;
 #[derive(Default)]
 pub struct Names {
     names: Vec<(Item, i64, String)>,
+    /// The file that they were read from.
+    pub file: Option<Input>,
 }
 
 impl Names {
@@ -24,7 +26,10 @@ impl Names {
         for mut line in Line::all(text) {
             names.push(name(&mut line).map_err(|fault| fault.in_file(&input.name))?);
         }
-        Ok(Names { names })
+        Ok(Names {
+            names,
+            file: Some(input),
+        })
     }
 
     pub fn of(&self, item: Item, number: i64) -> Option<&str> {

@@ -3,7 +3,7 @@
 use std::ffi::{OsStr, OsString};
 use std::os::unix::ffi::OsStrExt;
 
-use crate::commands::{check, compare, listing, show, table, trace};
+use crate::commands::{check, compare, listing, promela, show, table, timeline, trace};
 use crate::{files, Failure, Status};
 
 struct Opt {
@@ -42,6 +42,12 @@ impl Call {
     }
 }
 
+const NAMES: Opt = opt(
+    "--names",
+    "FILE",
+    "use the names of FILE, a line each as 'thread 0 sample'",
+);
+
 const LISTING_OPTIONS: &[Opt] = &[
     opt("--words", "", "say behind each line what happened"),
     opt(
@@ -49,11 +55,7 @@ const LISTING_OPTIONS: &[Opt] = &[
         "",
         "say behind each line which variables it changed",
     ),
-    opt(
-        "--names",
-        "FILE",
-        "use the names of FILE, a line each as 'thread 0 sample'",
-    ),
+    NAMES,
     opt(
         "--limit",
         "",
@@ -149,6 +151,50 @@ for a refused model or table.",
         run: trace::trace,
     },
     Command {
+        name: "timeline",
+        operands: "MODEL SCRIPT OUT.svg",
+        options: &[
+            opt(
+                "--from",
+                "STEP",
+                "draw from this step on, or from a clock as clock:20",
+            ),
+            opt(
+                "--to",
+                "STEP",
+                "draw up to this step, or up to a clock as clock:60",
+            ),
+            NAMES,
+        ],
+        about: "draw a model's run as a picture",
+        help: "\
+Writes a picture that any browser opens: a lane for each thread (waiting, running,
+done), periods, deadlines and misses, the values that connections carry, the mode,
+the processor and the clock. Each step stands at its instant and has the number
+that it has in the listing of 'steps'. Long quiet stretches are folded, and of a
+long run the steps in which no deadline is missed and no mode changes; what is
+folded is told, and --from and --to show it.
+
+A refused model writes no file. A refused event ends the picture; it is explained
+on standard error, and the status is then 1.",
+        example:
+            "futonkestrel timeline examples/lesson/model.bin examples/lesson/script.bin lesson.svg",
+        run: timeline::timeline,
+    },
+    Command {
+        name: "promela",
+        operands: "TABLE OUT.pml",
+        options: &[],
+        about: "write a table as a model for the checker SPIN",
+        help: "\
+The Promela model has the table's variables, rules and quiet ticks: its states are
+those that the table's events reach. 'spin -DLAST=60' lets no tick pass clock 60,
+'-DENDS' gives STARTs their shortest and longest length only. A refused table
+writes no file.",
+        example: "futonkestrel promela table.bin table.pml",
+        run: promela::promela,
+    },
+    Command {
         name: "show",
         operands: "FILE",
         options: &[
@@ -230,7 +276,7 @@ commands:
     );
     for command in COMMANDS {
         text += &format!(
-            "  {:8} {:13} {}\n",
+            "  {:8} {:20} {}\n",
             command.name, command.operands, command.about
         );
     }

@@ -21,8 +21,8 @@ const LIMIT: usize = 65_536;
 /// What is said stands behind the line from here on.
 const COLUMN: usize = 9;
 
-/// A run that is to be printed.
-struct Job<'a> {
+/// A run that is to be shown.
+pub struct Job<'a> {
     format: &'static Format,
     file: &'a Input,
     /// What is read of it.
@@ -30,11 +30,11 @@ struct Job<'a> {
     script: &'a Input,
     events: &'a [u8],
     /// The listing, by the library.
-    listing: Vec<u8>,
+    pub listing: Vec<u8>,
     /// Why the run stopped.
-    refusal: Option<Refusal>,
+    pub refusal: Option<Refusal>,
     /// The table, to look at variables; none where nothing is run.
-    table: Option<Vec<u8>>,
+    pub table: Option<Vec<u8>>,
     /// Whether it is the model that is run.
     of_model: bool,
 }
@@ -42,19 +42,7 @@ struct Job<'a> {
 pub fn steps(call: &Call) -> Result<Status, Failure> {
     let names = names(call)?;
     let (model, script) = files::read_two(&call.operands[0], &call.operands[1])?;
-    let (bytes, events) = (limited(call, &model), limited(call, &script));
-    let job = Job {
-        format: &MODEL,
-        file: &model,
-        bytes,
-        script: &script,
-        events,
-        listing: model_listing(bytes, events),
-        refusal: run_model(bytes, events).refusal,
-        table: translate_to_vec(bytes).ok(),
-        of_model: true,
-    };
-    job.print(call, &names)
+    Job::of_model(call, &model, &script).print(call, &names)
 }
 
 pub fn rules(call: &Call) -> Result<Status, Failure> {
@@ -109,7 +97,7 @@ pub fn run(call: &Call) -> Result<Status, Failure> {
 }
 
 /// Names may come from standard input, if no other file does.
-fn names(call: &Call) -> Result<Names, Failure> {
+pub fn names(call: &Call) -> Result<Names, Failure> {
     let file = call.value("--names");
     if file.is_some_and(|file| file == "-" && call.operands.iter().any(|other| other == file)) {
         return Err(files::one_standard_input());
@@ -135,7 +123,23 @@ fn limited_table(model: &[u8]) -> Result<Vec<u8>, Refusal> {
     Ok(table)
 }
 
-impl Job<'_> {
+impl<'a> Job<'a> {
+    /// A model's run.
+    pub fn of_model(call: &Call, model: &'a Input, script: &'a Input) -> Job<'a> {
+        let (bytes, events) = (limited(call, model), limited(call, script));
+        Job {
+            format: &MODEL,
+            file: model,
+            bytes,
+            script,
+            events,
+            listing: model_listing(bytes, events),
+            refusal: run_model(bytes, events).refusal,
+            table: translate_to_vec(bytes).ok(),
+            of_model: true,
+        }
+    }
+
     fn print(&self, call: &Call, names: &Names) -> Result<Status, Failure> {
         let (words, values) = (call.has("--words"), call.has("--values"));
         if words || values {
@@ -150,13 +154,19 @@ impl Job<'_> {
     }
 
     /// A refusal in the script concerns an event, any other the model or table.
-    fn tell_refusal(&self, refusal: &Refusal, names: &Names) -> Status {
-        let Some(mut machine) = self
-            .machine()
-            .filter(|_| refusal.holder() == Holder::Script)
-        else {
+    pub fn tell_refusal(&self, refusal: &Refusal, names: &Names) -> Status {
+        let Some(mut lines) = self.refused_event(refusal, names) else {
             return tell_file(self.format, self.file, self.bytes, refusal);
         };
+        lines.push(format!("cause: {}", refusal.cause()));
+        lines.push(format!("what to do: {}", refusal.remedy()));
+        tell(refusal, self.script, &lines)
+    }
+
+    /// What can be said of a refused event, first which step it is.
+    pub fn refused_event(&self, refusal: &Refusal, names: &Names) -> Option<Vec<String>> {
+        let of_script = refusal.holder() == Holder::Script;
+        let mut machine = self.machine().filter(|_| of_script)?;
         let mut taken = 0;
         for event in events(&self.events[..refusal.start]) {
             machine.step(event);
@@ -165,9 +175,7 @@ impl Job<'_> {
         let part = records(&SCRIPT, &self.events[refusal.start..refusal.end]);
         let mut lines = machine.refused(&part[0], refusal.number, names);
         lines[0] = format!("step {}: {}", taken + 1, lines[0]);
-        lines.push(format!("cause: {}", refusal.cause()));
-        lines.push(format!("what to do: {}", refusal.remedy()));
-        tell(refusal, self.script, &lines)
+        Some(lines)
     }
 
     fn machine(&self) -> Option<Machine<'_>> {

@@ -10,8 +10,10 @@ use crate::{complain, Status};
 pub mod check;
 pub mod compare;
 pub mod listing;
+pub mod promela;
 pub mod show;
 pub mod table;
+pub mod timeline;
 pub mod trace;
 
 /// Tells a refusal: a first line for programs, then words for people.

@@ -35,7 +35,7 @@ pub fn show(call: &Call) -> Result<Status, Failure> {
 pub fn pack(call: &Call) -> Result<Status, Failure> {
     let file = files::read(&call.operands[0])?;
     let bytes = crate::pack::pack(file.text()?).map_err(|fault| fault.in_file(&file.name))?;
-    files::write(&call.operands[1], &bytes, &file)?;
+    files::write(&call.operands[1], &bytes, &[&file])?;
     Ok(Status::Done)
 }
 

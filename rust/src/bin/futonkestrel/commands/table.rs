@@ -11,7 +11,7 @@ pub fn table(call: &Call) -> Result<Status, Failure> {
     let model = files::read(&call.operands[0])?;
     match translate_to_vec(&model.bytes) {
         Ok(table) => {
-            files::write(&call.operands[1], &table, &model)?;
+            files::write(&call.operands[1], &table, &[&model])?;
             Ok(Status::Done)
         }
         Err(refusal) => Ok(tell_file(&MODEL, &model, &model.bytes, &refusal)),

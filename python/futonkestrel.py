@@ -1,0 +1,368 @@
+"""Timing models and rule tables, over the verified library.
+
+A model, a table and a script (a list of events) are bytes. Reading is total: any
+bytes are accepted, or refused with a number and the part that it concerns.
+
+    model = Model(Path("examples/lesson/model.bin").read_bytes())
+    print(model.listing(script))
+    table = model.table()
+    variables = table.start()
+    table.step(variables, activate(0))
+
+python/build makes the shared object; the variable FUTONKESTREL_SO names another.
+"""
+
+import ctypes
+import os
+from collections.abc import Callable, Iterator
+from dataclasses import dataclass
+from pathlib import Path
+
+__all__ = [
+    "LONGEST_MADE_TABLE",
+    "MEANINGS",
+    "Model",
+    "Refusal",
+    "Run",
+    "Table",
+    "VARIABLES",
+    "Variables",
+    "activate",
+    "complete",
+    "deactivate",
+    "deadline",
+    "dispatch",
+    "enter",
+    "event_length",
+    "events",
+    "leave",
+    "miss",
+    "request",
+    "start",
+    "tick",
+]
+
+# How many variables a table has.
+VARIABLES = 288
+# No table made from a model is longer.
+LONGEST_MADE_TABLE = 394_304
+
+# What each refusal means, and what to do about it.
+MEANINGS: dict[int, tuple[str, str]] = {
+    1: (
+        "a record's body runs past the end",
+        "the file is cut, or a byte is missing before this record",
+    ),
+    2: (
+        "kind unknown or out of order, or no head",
+        "put the records into their order; often a body before this one has the wrong length",
+    ),
+    3: (
+        "one item too many, or a table over 1,000,000 bytes",
+        "leave items out until the limit is kept",
+    ),
+    4: (
+        "a field outside its range, or naming nothing",
+        "change the field; owners, ports, modes and masks must exist",
+    ),
+    5: (
+        "a port or local of another thread",
+        "let a behaviour read and write its own thread's ports and locals only",
+    ),
+    6: (
+        "an input port connected twice, or a target set twice in a transition",
+        "remove one of the two",
+    ),
+    7: (
+        "the critical periods' common multiple is over 1,000,000,000",
+        "let critical periods divide each other",
+    ),
+    8: (
+        "the output is shorter than the table",
+        "give more room: no table is longer than 394,304 bytes",
+    ),
+    9: (
+        "an event is cut or unknown, or TICK 0",
+        "mend the script at this place",
+    ),
+    10: (
+        "the event is not enabled, names no item, or START's length lies outside Min and Max",
+        "do first what is due, or wait until the clock is there",
+    ),
+    11: (
+        "TICK past the last clock, 1,000,000,000",
+        "end the script here: the run is over",
+    ),
+    12: (
+        "two rules of a table are enabled",
+        "change the table: its rules overlap, which those of a made table never do",
+    ),
+    13: (
+        "two updates of one variable",
+        "change the table: a rule sets a variable twice, which those of a made table never do",
+    ),
+}
+
+_BUILT = Path(__file__).parent.parent / "target" / "python" / "libfutonkestrel.so"
+
+
+def _load() -> ctypes.CDLL:
+    """The shared object with the types of its functions."""
+    library = ctypes.CDLL(os.environ.get("FUTONKESTREL_SO", str(_BUILT)))
+    size, number = ctypes.c_size_t, ctypes.c_uint32
+    given = [ctypes.c_char_p, size]
+    written = [ctypes.POINTER(ctypes.c_uint8), size]
+    told = [ctypes.POINTER(size), size]
+    variables = [ctypes.POINTER(ctypes.c_int32), size]
+    for name, result, arguments in [
+        ("fk_read_model", number, given + told),
+        ("fk_read_table", number, given + told),
+        ("fk_translate", number, given + written + told),
+        ("fk_model_listing", size, given + given + written),
+        ("fk_table_listing", size, given + given + written),
+        ("fk_run_model", number, given + given + told),
+        ("fk_run_table", number, given + given + told),
+        ("fk_event_length", size, given),
+        ("fk_table_start", number, given + variables),
+        ("fk_table_step", number, given + variables + given),
+        ("fk_model_after", number, given + given + given + variables),
+    ]:
+        function = getattr(library, name)
+        function.restype = result
+        function.argtypes = arguments
+    return library
+
+
+_library = _load()
+
+
+class Refusal(Exception):
+    """A refusal by its number, and the part that it returns: bytes `start` up to,
+    not including, `end` of the model or table (1 to 8) or of the script."""
+
+    def __init__(self, number: int, start: int, end: int) -> None:
+        self.number = number
+        self.start = start
+        self.end = end
+        self.cause, self.remedy = MEANINGS[number]
+        super().__init__(
+            f"refused {number} at bytes {start} to {end}: {self.cause} ({self.remedy})"
+        )
+
+
+@dataclass(frozen=True)
+class Run:
+    """A run up to its end or to its first refused event."""
+
+    # What stopped it.
+    refusal: Refusal | None
+    # The events taken before the refused one, or all.
+    taken: int
+    # The clock at the end.
+    clock: int
+
+
+class Variables:
+    """The state of a table. Variable 0 is the clock."""
+
+    __slots__ = ("_values",)
+
+    def __init__(self) -> None:
+        self._values = (ctypes.c_int32 * VARIABLES)()
+
+    def __getitem__(self, variable: int) -> int:
+        return self._values[variable]
+
+    def __setitem__(self, variable: int, value: int) -> None:
+        self._values[variable] = value
+
+    def __len__(self) -> int:
+        return VARIABLES
+
+    def __bytes__(self) -> bytes:
+        """Equal for equal states: a key for those that were seen."""
+        return bytes(self._values)
+
+    def __eq__(self, other: object) -> bool:
+        return isinstance(other, Variables) and bytes(self) == bytes(other)
+
+    # It changes from step to step: keep bytes(variables) in sets.
+    __hash__ = None  # type: ignore[assignment]
+
+    def copy(self) -> "Variables":
+        copied = Variables()
+        ctypes.memmove(copied._values, self._values, ctypes.sizeof(self._values))
+        return copied
+
+
+_Places = ctypes.Array[ctypes.c_size_t]
+
+
+def _places(count: int) -> _Places:
+    return (ctypes.c_size_t * count)()
+
+
+def _run(number: int, told: _Places) -> Run:
+    begin, end, taken, clock = told
+    refusal = Refusal(number, begin, end) if number else None
+    return Run(refusal, taken, clock)
+
+
+def _listing(function: Callable[..., int], item: bytes, script: bytes) -> str:
+    """Asks for the length of a listing, then for all of it."""
+    length = function(item, len(item), script, len(script), None, 0)
+    output = (ctypes.c_uint8 * length)()
+    function(item, len(item), script, len(script), output, length)
+    return bytes(output).decode("ascii")
+
+
+class Model:
+    """An accepted model."""
+
+    def __init__(self, data: bytes) -> None:
+        """Raises Refusal where the model is refused."""
+        told = _places(2)
+        number = _library.fk_read_model(data, len(data), told, len(told))
+        if number:
+            raise Refusal(number, *told)
+        self.data = data
+
+    def table(self) -> "Table":
+        """The table made from it, which takes the same events."""
+        output, told = (ctypes.c_uint8 * LONGEST_MADE_TABLE)(), _places(3)
+        number = _library.fk_translate(
+            self.data, len(self.data), output, len(output), told, len(told)
+        )
+        if number:
+            raise Refusal(number, told[0], told[1])
+        return Table(bytes(output[: told[2]]))
+
+    def run(self, script: bytes) -> Run:
+        """Runs a script up to the first refused event."""
+        told = _places(4)
+        number = _library.fk_run_model(
+            self.data, len(self.data), script, len(script), told, len(told)
+        )
+        return _run(number, told)
+
+    def listing(self, script: bytes) -> str:
+        """The lines of such a run."""
+        return _listing(_library.fk_model_listing, self.data, script)
+
+    def after(self, script: bytes, event: bytes = b"") -> tuple[int, Variables]:
+        """Runs a script, going on after refused events, then gives an event to the
+        state left: its answer, and what the table's variables stand for afterwards
+        (Due and End are 0). No event shows the state as it is, with answer 9."""
+        variables = Variables()
+        answer = _library.fk_model_after(
+            self.data,
+            len(self.data),
+            script,
+            len(script),
+            event,
+            len(event),
+            variables._values,
+            VARIABLES,
+        )
+        return answer, variables
+
+
+class Table:
+    """An accepted table, to be run event by event on variables that the caller keeps."""
+
+    def __init__(self, data: bytes) -> None:
+        """Raises Refusal where the table is refused."""
+        told = _places(2)
+        number = _library.fk_read_table(data, len(data), told, len(told))
+        if number:
+            raise Refusal(number, *told)
+        self.data = data
+
+    def start(self) -> Variables:
+        """The variables before any event."""
+        variables = Variables()
+        _library.fk_table_start(self.data, len(self.data), variables._values, VARIABLES)
+        return variables
+
+    def answer(self, variables: Variables, event: bytes) -> int:
+        """Gives one event: 0, or the number of its refusal, which leaves the variables
+        as they were."""
+        return _library.fk_table_step(
+            self.data, len(self.data), variables._values, VARIABLES, event, len(event)
+        )
+
+    def step(self, variables: Variables, event: bytes) -> None:
+        """The same, raising Refusal; its part is the event."""
+        number = self.answer(variables, event)
+        if number:
+            raise Refusal(number, 0, len(event))
+
+    def run(self, script: bytes) -> Run:
+        """Runs a script from the start up to the first refused event."""
+        told = _places(4)
+        number = _library.fk_run_table(
+            self.data, len(self.data), script, len(script), told, len(told)
+        )
+        return _run(number, told)
+
+    def listing(self, script: bytes) -> str:
+        """The lines of such a run."""
+        return _listing(_library.fk_table_listing, self.data, script)
+
+
+def event_length(script: bytes) -> int:
+    """The bytes of the event at the start of a script: a whole record, or the rest
+    where it is cut or of unknown kind; 0 for an empty script."""
+    return _library.fk_event_length(script, len(script))
+
+
+def events(script: bytes) -> Iterator[bytes]:
+    """The parts of a script, one for each event."""
+    while script:
+        length = event_length(script)
+        yield script[:length]
+        script = script[length:]
+
+
+def activate(thread: int) -> bytes:
+    return bytes([0x01, thread])
+
+
+def deactivate(thread: int) -> bytes:
+    return bytes([0x02, thread])
+
+
+def dispatch(thread: int) -> bytes:
+    return bytes([0x03, thread])
+
+
+def start(thread: int, length: int) -> bytes:
+    return bytes([0x04, thread]) + length.to_bytes(4, "little")
+
+
+def complete(thread: int) -> bytes:
+    return bytes([0x05, thread])
+
+
+def deadline(thread: int) -> bytes:
+    return bytes([0x06, thread])
+
+
+def miss(thread: int) -> bytes:
+    return bytes([0x07, thread])
+
+
+def request(transition: int) -> bytes:
+    return bytes([0x08, transition])
+
+
+def enter(transition: int) -> bytes:
+    return bytes([0x09, transition])
+
+
+def leave(transition: int) -> bytes:
+    return bytes([0x0A, transition])
+
+
+def tick(ticks: int) -> bytes:
+    return bytes([0x0B]) + ticks.to_bytes(2, "little")

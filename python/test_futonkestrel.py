@@ -1,0 +1,149 @@
+"""The module against the examples, the header and the Rust crate's words."""
+
+import ctypes
+import inspect
+import random
+import re
+import unittest
+from pathlib import Path
+
+import futonkestrel as fk
+import wander
+
+ROOT = Path(__file__).parent.parent
+
+
+def example(name: str) -> bytes:
+    return (ROOT / "examples" / name).read_bytes()
+
+
+class Examples(unittest.TestCase):
+    def test_listings(self) -> None:
+        for name in ["lesson", "m"]:
+            model = fk.Model(example(f"{name}/model.bin"))
+            script = example(f"{name}/script.bin")
+            wanted = example(f"{name}/listing.txt").decode()
+            self.assertEqual(model.listing(script), wanted)
+            self.assertEqual(model.table().listing(script), wanted)
+
+    def test_runs(self) -> None:
+        model, script = fk.Model(example("m/model.bin")), example("m/script.bin")
+        for runs in [model, model.table()]:
+            self.assertEqual(runs.run(script), fk.Run(None, 7, 4))
+            run = runs.run(script[:10] + fk.tick(3))
+            self.assertEqual((run.taken, run.clock), (3, 0))
+            self.assertEqual((run.refusal.number, run.refusal.start, run.refusal.end), (10, 10, 13))
+
+    def test_steps_have_the_values_of_the_model(self) -> None:
+        model, script = fk.Model(example("lesson/model.bin")), example("lesson/script.bin")
+        table = model.table()
+        variables, before = table.start(), b""
+        for event in fk.events(script):
+            table.step(variables, event)
+            answer, shown = model.after(before, event)
+            self.assertEqual(answer, 0)
+            due_and_end = range(64, 96)
+            for number in set(range(fk.VARIABLES)) - set(due_and_end):
+                self.assertEqual(shown[number], variables[number])
+            before += event
+        self.assertEqual(variables[0], 62)
+
+
+class Refusals(unittest.TestCase):
+    def test_of_models_and_tables(self) -> None:
+        for sort, data, number, part in [
+            (fk.Model, b"", 2, (0, 0)),
+            (fk.Model, b"\x01\x01", 1, (0, 2)),
+            (fk.Table, b"\x22", 2, (0, 1)),
+        ]:
+            with self.assertRaises(fk.Refusal) as caught:
+                sort(data)
+            refusal = caught.exception
+            self.assertEqual((refusal.number, (refusal.start, refusal.end)), (number, part))
+            self.assertEqual((refusal.cause, refusal.remedy), fk.MEANINGS[number])
+            self.assertIn(refusal.cause, str(refusal))
+
+    def test_of_events_change_nothing(self) -> None:
+        table = fk.Model(example("m/model.bin")).table()
+        variables = table.start()
+        kept = variables.copy()
+        self.assertEqual(table.answer(variables, fk.dispatch(0)), 10)
+        self.assertEqual(table.answer(variables, b"\x04"), 9)
+        with self.assertRaises(fk.Refusal) as caught:
+            table.step(variables, fk.start(0, 6))
+        self.assertEqual((caught.exception.number, caught.exception.end), (10, 6))
+        self.assertEqual(variables, kept)
+        table.step(variables, fk.activate(0))
+        self.assertNotEqual(bytes(variables), bytes(kept))
+
+    def test_words_are_those_of_the_crate(self) -> None:
+        text = (ROOT / "rust/src/refusals.rs").read_text()
+        told = re.findall(r'meaning\(\s*(\d+),\s*Holder::\w+,\s*"(.*)",\s*"(.*)",\s*\)', text)
+        wanted = {int(number): (cause, remedy) for number, cause, remedy in told}
+        self.assertEqual(fk.MEANINGS, wanted)
+
+
+class Library(unittest.TestCase):
+    def test_every_function_of_the_header_has_types(self) -> None:
+        header = (ROOT / "c/futonkestrel.h").read_text()
+        functions = re.findall(r"^\w+ (fk_\w+)\(([^;]*)\);", header, re.MULTILINE)
+        self.assertGreater(len(functions), 8)
+        for name, arguments in functions:
+            function = getattr(fk._library, name)
+            self.assertIsNotNone(function.argtypes, name)
+            self.assertEqual(len(function.argtypes), len(arguments.split(",")), name)
+
+    def test_every_function_of_the_module_has_types(self) -> None:
+        sorts = [fk.Model, fk.Table, fk.Refusal, fk.Variables]
+        functions = inspect.getmembers(fk, inspect.isfunction)
+        for sort in sorts:
+            functions += inspect.getmembers(sort, inspect.isfunction)
+        own = [(name, one) for name, one in functions if one.__module__ == fk.__name__]
+        self.assertGreater(len(own), 20)
+        for name, function in own:
+            signature = inspect.signature(function)
+            self.assertIsNot(signature.return_annotation, inspect.Signature.empty, name)
+            for parameter in signature.parameters.values():
+                typed = parameter.annotation is not inspect.Parameter.empty
+                self.assertTrue(typed or parameter.name == "self", (name, parameter))
+
+    def test_constants_of_the_header(self) -> None:
+        header = (ROOT / "c/futonkestrel.h").read_text()
+        constants = dict(re.findall(r"^#define FK_(\w+) (\d+)$", header, re.MULTILINE))
+        self.assertEqual(int(constants["VARIABLES"]), fk.VARIABLES)
+        self.assertEqual(int(constants["LONGEST_MADE_TABLE"]), fk.LONGEST_MADE_TABLE)
+
+    def test_variables(self) -> None:
+        variables = fk.Variables()
+        variables[287] = -5
+        other = variables.copy()
+        self.assertEqual((len(variables), other[287], variables == other), (288, -5, True))
+        other[0] = 1
+        self.assertNotEqual(variables, other)
+        with self.assertRaises(IndexError):
+            variables[288]
+        with self.assertRaises(TypeError):
+            hash(variables)
+        self.assertEqual(len(bytes(variables)), ctypes.sizeof(ctypes.c_int32) * 288)
+
+    def test_events(self) -> None:
+        script = example("lesson/script.bin")
+        self.assertEqual(b"".join(fk.events(script)), script)
+        self.assertEqual(len(list(fk.events(script))), 105)
+        self.assertEqual(list(fk.events(b"\x01\x00\x0b\x01")), [b"\x01\x00", b"\x0b\x01"])
+        self.assertEqual(fk.event_length(b""), 0)
+
+
+class Wandering(unittest.TestCase):
+    def test_a_miss_is_found_and_replayed(self) -> None:
+        for name in ["lesson", "m"]:
+            model = fk.Model(example(f"{name}/model.bin"))
+            script = wander.wander(model.table(), 10_000, random.Random(1))
+            self.assertIsNotNone(script)
+            lines = model.listing(script).splitlines()
+            self.assertEqual(lines[-2].split()[2], "7")
+            self.assertEqual(lines[-1].split()[2], "0")
+
+
+if __name__ == "__main__":
+    unittest.main()

@@ -1,0 +1,180 @@
+//! The steps of a run, and the variables around those that are drawn.
+
+use futonkestrel::{events, Table, Variables};
+
+use super::folding::Piece;
+use crate::format::TICK;
+use crate::machine::event_words;
+use crate::names::Names;
+use crate::variables;
+
+/// A line of the listing.
+#[derive(Clone, Copy, Debug, PartialEq, Eq)]
+pub struct Step {
+    /// The very number that the listing has.
+    pub number: usize,
+    /// The clock before it and after it.
+    pub before: i64,
+    pub after: i64,
+    pub kind: u8,
+    /// The thread or mode transition; for TICK, how many ticks.
+    pub id: i64,
+}
+
+impl Step {
+    pub fn is_tick(&self) -> bool {
+        self.kind == TICK
+    }
+}
+
+/// The steps that a listing has; its last line is none.
+pub fn steps(listing: &[u8]) -> Vec<Step> {
+    let mut before = 0;
+    let lines = listing.split(|byte| *byte == b'\n');
+    let step = |line: &[u8]| {
+        let mut figures = std::str::from_utf8(line).ok()?.split(' ');
+        let mut figure = || figures.next()?.parse::<i64>().ok();
+        let (number, after) = (figure()? as usize, figure()?);
+        let step = Step {
+            number,
+            before,
+            after,
+            kind: figure()? as u8,
+            id: figure()?,
+        };
+        before = after;
+        Some(step)
+    };
+    lines.map_while(step).collect()
+}
+
+/// The variables at some moment, by what they stand for.
+#[derive(Clone)]
+pub struct Look {
+    variables: Variables,
+}
+
+impl Look {
+    fn single(&self, name: &str) -> i64 {
+        self.value(variables::number(name, None))
+    }
+
+    fn of(&self, name: &str, item: usize) -> i64 {
+        self.value(variables::number(name, Some(item as i64)))
+    }
+
+    fn value(&self, variable: Option<i64>) -> i64 {
+        let variable = variable.expect("a variable of this name");
+        i64::from(self.variables[variable as usize])
+    }
+
+    pub fn clock(&self) -> i64 {
+        self.single("Now")
+    }
+
+    pub fn mode(&self) -> usize {
+        self.single("Mode") as usize
+    }
+
+    pub fn phase(&self) -> i64 {
+        self.single("Phase")
+    }
+
+    pub fn pending(&self) -> usize {
+        self.single("Pending") as usize
+    }
+
+    pub fn processor(&self) -> usize {
+        self.single("Cpu") as usize
+    }
+
+    pub fn is_active(&self, thread: usize) -> bool {
+        self.of("Active", thread) == 1
+    }
+
+    pub fn code(&self, thread: usize) -> usize {
+        self.of("State", thread) as usize
+    }
+
+    pub fn due(&self, thread: usize) -> i64 {
+        self.of("Due", thread)
+    }
+
+    pub fn is_live(&self, connection: usize) -> bool {
+        self.of("Flag", connection) == 1
+    }
+
+    pub fn buffer(&self, input: i64) -> i64 {
+        self.of("Buffer", input as usize)
+    }
+}
+
+/// A piece of the run with the variables around it.
+pub struct Moment {
+    pub piece: Piece,
+    /// The first and the last step of the piece.
+    pub first: Step,
+    pub last: Step,
+    pub before: Look,
+    pub after: Look,
+    /// The first step's event in words.
+    pub words: String,
+    /// Whether it is the first step of an instant.
+    pub begins_instant: bool,
+}
+
+impl Moment {
+    /// A step that takes no time and has a column of its own.
+    pub fn is_event(&self) -> bool {
+        self.piece.is_one() && !self.first.is_tick()
+    }
+
+    /// Time passes and nothing else happens.
+    pub fn is_time(&self) -> bool {
+        !self.is_event() && self.piece.hidden.is_none()
+    }
+}
+
+/// Runs the script on the table as far as it is drawn, and looks at it around
+/// each piece.
+pub fn moments(
+    table: &Table,
+    script: &[u8],
+    steps: &[Step],
+    pieces: &[Piece],
+    names: &Names,
+) -> Vec<Moment> {
+    let mut variables = table.start();
+    let mut moments: Vec<Moment> = Vec::new();
+    let mut wanted = pieces.iter();
+    let mut next = wanted.next();
+    for (at, event) in events(script).enumerate() {
+        let Some(piece) = next else { break };
+        let before = variables;
+        let _ = table.step(&mut variables, event);
+        if at == piece.first {
+            moments.push(Moment {
+                piece: piece.clone(),
+                first: steps[piece.first],
+                last: steps[piece.last],
+                before: Look { variables: before },
+                after: Look { variables },
+                words: event_words(event, names),
+                begins_instant: begins_instant(steps, piece.first),
+            });
+        }
+        if at == piece.last {
+            if let Some(moment) = moments.last_mut() {
+                moment.after = Look { variables };
+            }
+            next = wanted.next();
+        }
+    }
+    moments
+}
+
+/// No time has passed since the step before, unless that was a tick.
+fn begins_instant(steps: &[Step], at: usize) -> bool {
+    let after_event = at > 0 && !steps[at - 1].is_tick();
+    !steps[at].is_tick() && !after_event
+}
