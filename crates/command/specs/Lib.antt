@@ -1,4 +1,2 @@
 pub mod Shows
 pub mod ShowLaws
-pub mod Makes
-pub mod MakeLaws

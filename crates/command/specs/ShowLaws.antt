@@ -7,8 +7,8 @@ use lib.ListN.{take, getD, replicate}
 use Rattle.io.specs.Counts.{Counts}
 use Rattle.records.specs.declared.Notation.{Notation}
 use Rattle.records.specs.declared.Refusal.{Refusal}
-use Rattle.writer.specs.Wrote.{Wrote}
-use Rattle.printing.specs.Prints.{HandsBack}
+use Rattle.table_writer.specs.Wrote.{Wrote}
+use Rattle.listing_writer.specs.Prints.{HandsBack}
 use Rattle.command.specs.declared.Shown.{Shown}
 use Rattle.command.specs.Shows.{Shows}
 

@@ -5,7 +5,7 @@ use mathlib.Core.List.{List}
 use Prim.Native.Nat.{ℕ}
 use lib.ListN.{take}
 use Rattle.io.specs.Counts.{Counts}
-use Rattle.writer.specs.Wrote.{Wrote}
+use Rattle.table_writer.specs.Wrote.{Wrote}
 use Rattle.command.specs.declared.Shown.{Shown}
 
 -- What is printed is the listing of the bytes that were read: `out` begins with it, and is untouched behind it. Where a file could not be

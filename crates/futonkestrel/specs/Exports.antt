@@ -3,9 +3,9 @@ use mathlib.Core.Path.{_≡_}
 use mathlib.Core.List.{List}
 use Prim.Native.Nat.{ℕ}
 use lib.ListN.{length}
-use Rattle.translate.specs.Translate.{translated, outputAfter}
+use Rattle.translation.specs.Translate.{translated, outputAfter}
 use Rattle.simulation.specs.Compared.{Simulates}
-use Rattle.lending.specs.Lending.{Tells, toldTranslation}
+use Rattle.futonkestrel_lending.specs.Lending.{Tells, toldTranslation}
 
 -- the number, the part and the length, the output afterwards, and, where nothing is refused, demand 3 of the table there for every event list
 pub record Exports (model out after before : List ℕ) (r : ℕ) (told : List ℕ) : Type 0 where

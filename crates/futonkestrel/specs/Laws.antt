@@ -1,12 +1,12 @@
 -- From what translating promises to what a caller of the static library has.
-use mathlib.Core.Path.{_≡_, sym, _∙_}
+use mathlib.Core.Path.{sym, _∙_}
 use mathlib.Core.List.{List}
 use Prim.Native.Nat.{ℕ}
 use borrow.Author.Tests.{eq-eqb}
 use Rattle.records.specs.Refusals.{numberOf}
-use Rattle.translate.specs.declared.Translation.{Translation}
+use Rattle.translation.specs.declared.Translation.{Translation}
 use Rattle.translator.specs.Translates.{Translates}
-use Rattle.lending.specs.Lending.{Tells, toldTranslation}
+use Rattle.futonkestrel_lending.specs.Lending.{Tells, toldTranslation}
 use Rattle.futonkestrel.specs.Exports.{Exports}
 
 pub exported : {model out after before told : List ℕ} {r : ℕ} {t : Translation} → Translates model out t after →

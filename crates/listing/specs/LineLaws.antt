@@ -12,7 +12,7 @@ use Rattle.records.specs.Refusals.{numberOf}
 use Rattle.records.specs.Events.{figureOf}
 use Rattle.listing.specs.declared.Line.{Line}
 use Rattle.listing.specs.Listing.{digitsIn, decimal, space, newline, line, lastLine}
-use Rattle.listing.specs.Lines.{zeros, textOf, Room, Written}
+use Rattle.listing.specs.Lines.{lineRoom, zeros, textOf, Room, Written}
 
 take-zeros : (k n : ℕ) → k ≤ n → take k (zeros n) ≡ zeros k
 take-zeros zero n h = refl
@@ -21,20 +21,20 @@ take-zeros (suc k) (suc n) h = ap (_∷_ 0) (take-zeros k n (omega arith))
 
 -- one byte more, before a text that begins at suc k
 module _ (s : List ℕ) (k b : ℕ) (h : k < length s) where
-  pub drop-written : drop k (set s k b) ≡ b ∷ drop (suc k) s
+  drop-written : drop k (set s k b) ≡ b ∷ drop (suc k) s
   drop-written = rw (set-split s k b h) (drop-at (take k s) (b ∷ drop (suc k) s) k (length-take-le k s (omega arith)))
 
-  pub zeros-kept : take (suc k) s ≡ zeros (suc k) → take k (set s k b) ≡ zeros k
+  zeros-kept : take (suc k) s ≡ zeros (suc k) → take k (set s k b) ≡ zeros k
   zeros-kept z =
       take-set-le k s k b (omega arith) ∙ sym (take-take k (suc k) s (omega arith)) ∙ ap (take k) z ∙ take-zeros k (suc k) (omega arith)
 
-module _ (l : Line) (n : length (l .bytes) ≡ 96) where
+module _ (l : Line) (n : length (l .bytes) ≡ lineRoom) where
   pub byte-written : (b : ℕ) → Room l 1 → Written l (record { start = l .start - 1; bytes = set (l .bytes) (l .start - 1) b }) 1 (b ∷ textOf l)
   unfolding textOf
   byte-written b m =
       let k = l .start - 1 in
       let o : 1 ≤ l .start = m .left in
-      let w : l .start ≤ 96 = m .padded .within in
+      let w : l .start ≤ lineRoom = m .padded .within in
       let e : l .start ≡ suc k = omega arith in
       let h : k < length (l .bytes) = omega arith in
       record {

@@ -5,6 +5,10 @@ use Prim.Native.Nat.{ℕ, _+_, _≤_}
 use lib.ListN.{take, drop, replicate}
 use Rattle.listing.specs.declared.Line.{Line}
 
+-- the room of a line: four figures of 20 digits at most, with the byte after each, and more
+abbrev pub lineRoom : ℕ
+lineRoom = 96
+
 abbrev pub zeros : ℕ → List ℕ
 zeros n = replicate n 0
 
@@ -14,7 +18,7 @@ textOf l = drop (l .start) (l .bytes)
 
 -- The text ends where the room ends, and zeros stand before it: so a line is known by its text.
 pub record Padded (l : Line) : Type 0 where
-  pub within : l .start ≤ 96
+  pub within : l .start ≤ lineRoom
   pub blank : take (l .start) (l .bytes) ≡ zeros (l .start)
 
 -- n bytes more can be written

@@ -6,34 +6,40 @@ ghost use mathlib.Core.Path.{_≡_};
 ghost use mathlib.Core.List.{[], _∷_};
 ghost use Prim.Native.Nat.{_+_, _%_};
 ghost use Rattle.listing.specs.Listing.{decimal, line, lastLine};
-ghost use Rattle.listing.specs.Lines.{textOf, Padded, Room, Written};
+ghost use Rattle.listing.specs.Lines.{lineRoom, textOf, Padded, Room, Written};
+
+// More than any line has: four figures of at most 20 digits and the byte after each, or three and "end ".
+const LINE_ROOM: usize = 96;
+
+// The digits of a number of 64 bits.
+const MOST_DIGITS: usize = 20;
 
 // A line of text. It is written from its end: the text stands from `start` to the end of `bytes`, after zeros.
 pub struct Line {
     pub start: usize,
-    pub bytes: [u8; 96],
+    pub bytes: [u8; LINE_ROOM],
 }
 
 fn empty_line() -> Line
-    ensures { λ r. ⌜ (textOf r ≡ []) × (Room r 96) ⌝ }
+    ensures { λ r. ⌜ (textOf r ≡ []) × (Room r lineRoom) ⌝ }
 {
-    let b = [0; 96];
+    let bytes = [0; LINE_ROOM];
     Line {
-        start: 96,
-        bytes: b,
+        start: LINE_ROOM,
+        bytes: bytes,
     }
 }
 
-fn with_byte(l: Line, b: u8) -> Line
-    requires { ⌜ Room l 1 ⌝ }
-    ensures { λ r. ⌜ Written l r 1 (b ∷ textOf l) ⌝ }
+fn with_byte(line: Line, byte: u8) -> Line
+    requires { ⌜ Room line 1 ⌝ }
+    ensures { λ r. ⌜ Written line r 1 (byte ∷ textOf line) ⌝ }
 {
-    let at = l.start - 1;
-    let mut a = l.bytes;
-    a[at] = b;
+    let at = line.start - 1;
+    let mut bytes = line.bytes;
+    bytes[at] = byte;
     Line {
         start: at,
-        bytes: a,
+        bytes: bytes,
     }
 }
 
@@ -44,13 +50,13 @@ fn digit(n: u64) -> u8
 }
 
 // The digits go in from the last to the first.
-fn with_decimal(l: Line, n: u64) -> Line
-    requires { ⌜ Room l 20 ⌝ }
-    ensures { λ r. ⌜ Written l r 20 (decimal n (textOf l)) ⌝ }
+fn with_decimal(line: Line, n: u64) -> Line
+    requires { ⌜ Room line 20 ⌝ }
+    ensures { λ r. ⌜ Written line r 20 (decimal n (textOf line)) ⌝ }
 {
-    let mut out = l;
+    let mut out = line;
     let mut rest = n;
-    let mut left: usize = 20;
+    let mut left: usize = MOST_DIGITS;
     while 0 < left {
         out = with_byte(out, digit(rest));
         if rest < 10 {
@@ -63,32 +69,32 @@ fn with_decimal(l: Line, n: u64) -> Line
 }
 
 // A number and the byte that ends it.
-fn with_figure(l: Line, n: u64, end: u8) -> Line
-    requires { ⌜ Room l 21 ⌝ }
-    ensures { λ r. ⌜ Written l r 21 (decimal n (end ∷ textOf l)) ⌝ }
+fn with_figure(line: Line, n: u64, end: u8) -> Line
+    requires { ⌜ Room line 21 ⌝ }
+    ensures { λ r. ⌜ Written line r 21 (decimal n (end ∷ textOf line)) ⌝ }
 {
-    with_decimal(with_byte(l, end), n)
+    with_decimal(with_byte(line, end), n)
 }
 
 // The line of an event that was taken as the given step; `clock` is the clock after it.
-pub fn event_line(step: u64, clock: u32, e: Event) -> Line
-    ensures { λ r. ⌜ (textOf r ≡ line step clock e) × (Padded r) ⌝ }
+pub fn event_line(step: u64, clock: u32, event: Event) -> Line
+    ensures { λ r. ⌜ (textOf r ≡ line step clock event) × (Padded r) ⌝ }
 {
-    let k = e.kind;
-    let f = records::figure_of(e);
-    let a = with_figure(empty_line(), f as u64, b'\n');
-    let b = with_figure(a, k as u64, b' ');
-    let c = with_figure(b, clock as u64, b' ');
-    with_figure(c, step, b' ')
+    let kind = event.kind;
+    let figure = records::figure_of(event);
+    let text = with_figure(empty_line(), figure as u64, b'\n');
+    let text = with_figure(text, kind as u64, b' ');
+    let text = with_figure(text, clock as u64, b' ');
+    with_figure(text, step, b' ')
 }
 
 // The last line of a run.
-pub fn last_line(taken: u64, c: Cause, clock: u32) -> Line
-    ensures { λ r. ⌜ (textOf r ≡ lastLine taken c clock) × (Padded r) ⌝ }
+pub fn last_line(taken: u64, cause: Cause, clock: u32) -> Line
+    ensures { λ r. ⌜ (textOf r ≡ lastLine taken cause clock) × (Padded r) ⌝ }
 {
-    let n = records::number_of(c);
-    let a = with_figure(empty_line(), clock as u64, b'\n');
-    let b = with_figure(a, n as u64, b' ');
-    let d = with_byte(with_figure(b, taken, b' '), b' ');
-    with_byte(with_byte(with_byte(d, b'd'), b'n'), b'e')
+    let number = records::number_of(cause);
+    let text = with_figure(empty_line(), clock as u64, b'\n');
+    let text = with_figure(text, number as u64, b' ');
+    let text = with_byte(with_figure(text, taken, b' '), b' ');
+    with_byte(with_byte(with_byte(text, b'd'), b'n'), b'e')
 }

@@ -1,2 +1,2 @@
-pub mod Causes
+pub mod Readings
 pub mod Laws

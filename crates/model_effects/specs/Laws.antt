@@ -23,16 +23,17 @@ use Rattle.model_format.specs.declared.Behavior.{Behavior}
 use Rattle.model_format.specs.declared.Model.{Model}
 use Rattle.model_format.specs.Model.{maxThreads, maxInputs, maxOutputs, maxLocals, maxConnections, maxTransitions, maxEach, maxTimes, noThread, noConnection, noTransition, noAtom, noAssignment, immediate, delayed, inputOwner, outputOwner, threadAt, connectionAt, switchAt, transitionAt, atomAt, assignmentAt, inMode}
 use Rattle.model_format.specs.Laws.{drawn-within, drawn-past}
-use Rattle.model.specs.declared.Clock.{Clock}
-use Rattle.model.specs.declared.Threads.{Threads}
-use Rattle.model.specs.declared.Job.{Job}
-use Rattle.model.specs.declared.Ports.{Ports}
-use Rattle.model.specs.declared.State.{State}
+use Rattle.model_semantics.specs.declared.Clock.{Clock}
+use Rattle.model_semantics.specs.declared.Threads.{Threads}
+use Rattle.model_tests.specs.declared.Job.{Job}
+use Rattle.model_semantics.specs.declared.Ports.{Ports}
+use Rattle.model_semantics.specs.declared.State.{State}
 use Rattle.model_effects.specs.declared.Wiring.{Wiring}
-use Rattle.model.specs.State.{none, isActive, codeOf, behaviorOf, missedOf, isLive, bufferValue, inputValue, outputValue, localValue, withClock, withThreads, withLive, withPorts, withEntered, withMode, withPhase, withCpu, withActive, withCode, withDispatchTime, withJob, withBehavior, withMissed}
-use Rattle.model.specs.Parts.{jobOf, setDispatch, setJob, setBehavior, setMissed, setInput, setBuffer, putInput, putBuffer, putOutput, putLocal, setCpu, setPhase, setEntered, setMode}
-use Rattle.model.specs.Tests.{waitingExecution, execution, completed}
-use Rattle.model.specs.Effects.{isFedImmediately, isPort, freeze, dispatch, start, operandValue, leftValue, atomHolds, isOpen, firstOpen, takenTransition, assignedValue, assign, carries, send, endJob, restCode, complete, meetDeadline, miss, request, activeIn, inBoth, liveIn, enter, leave}
+use Rattle.model_semantics.specs.State.{none, isActive, codeOf, behaviorOf, missedOf, isLive, bufferValue, inputValue, outputValue, localValue, withClock, withThreads, withLive, withPorts, withEntered, withMode, withPhase, withCpu, withActive, withCode, withDispatchTime, withJob, withBehavior, withMissed}
+use Rattle.model_tests.specs.Parts.{jobOf, setDispatch, setJob, setBehavior, setMissed, setInput, setBuffer, putInput, putBuffer, putOutput, putLocal, setCpu, setPhase, setEntered, setMode}
+use Rattle.model_semantics.specs.Tests.{waitingExecution, execution, completed}
+use Rattle.model_semantics.specs.EffectLaws.{complete-at-once}
+use Rattle.model_semantics.specs.Effects.{isFedImmediately, isPort, freeze, dispatch, start, operandValue, leftValue, atomHolds, isOpen, firstOpen, takenTransition, assignedValue, assign, carries, send, endJob, restCode, complete, meetDeadline, miss, request, activeIn, inBoth, liveIn, enter, leave}
 
 -- ---- bools
 not-false : (b : Bool) → not b ≡ false → b ≡ true
@@ -510,14 +511,14 @@ pub complete-is : (m : Model) (s : State) (t k from n : ℕ) (x : Transition) (n
     k ≡ firstOf (m .behavior .transitions) (m .behavior .transition) (m .behavior .atom) (s .ports) from t → from ≡ item maxThreads (s .threads .behavior) t 0 →
     x ≡ takenFrom (m .behavior .transitions) (m .behavior .transition) k from → n ≡ x .assignments → new ≡ assigned (m .behavior .assignment) (s .ports) k n →
     p ≡ send (m .timing) s immediate t new → q ≡ endJob (m .timing) s t completed → w ≡ setBehavior (q .threads) t (x .to) → withPorts (withThreads q w) p ≡ complete m s t
-unfolding complete withBehavior setBehavior behaviorOf
+unfolding withBehavior setBehavior behaviorOf
 complete-is m s t k from n x new p q w e f g h i j o u =
     let b = m .behavior in
     let c : k ≡ firstOpen b s t = e ∙ first-open b s t from f in
     let y : x ≡ takenFrom (b .transitions) (b .transition) (firstOpen b s t) (behaviorOf s t) = rw (← c, ← f) g in
     let z : x .to ≡ takenTransition b s t .to = ap (λ (r : Transition). r .to) y ∙ taken-to b s t in
     let v : n ≡ takenTransition b s t .assignments = h ∙ ap (λ (r : Transition). r .assignments) y ∙ taken-assignments b s t in
-    rw (u, o, j, i, c, v, z, assigned-is b (s .ports) (firstOpen b s t) (takenTransition b s t .assignments))
+    rw (complete-at-once m s t, u, o, j, i, c, v, z, assigned-is b (s .ports) (firstOpen b s t) (takenTransition b s t .assignments))
 
 -- ---- what a loop over items stores
 module _ (m : Timing) (n t : ℕ) (e : n ≡ min (m .threads) maxThreads) (h : t < n) where

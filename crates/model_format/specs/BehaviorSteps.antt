@@ -19,7 +19,7 @@ use Rattle.model_format.specs.declared.Record.the-variants.{TransitionRe
 use Rattle.model_format.specs.declared.Timing.{Timing}
 use Rattle.model_format.specs.declared.Behavior.{Behavior}
 use Rattle.model_format.specs.declared.Reading.{Reading}
-use Rattle.model_format.specs.Format.{kindOf}
+use Rattle.model_format.specs.Format.{rankOf}
 use Rattle.model_format.specs.Model.{maxTransitions, maxEach, noTransition, noAtom, noAssignment, transitionAt, assignmentAt}
 use Rattle.model_format.specs.Reading.{inOrder, isState, namesItem, operandTag, operandNames, leftTag, targetTag, isAssigned, lastTransition, misplaced, openTransition, transitionFaults, atomFaults, assignmentFaults, causeOf, addTransition, withCounts, addAtom, addAssignment, addRecord, withBehavior, nextReading}
 use Rattle.model_format.specs.WellFormed.{GoodOperand, GoodAtom, GoodAssignment}
@@ -64,7 +64,7 @@ transition-added m b x s h g e f = record {
 
 pub transition-next : (a : Reading) (x : Transition) → x .atoms ≡ 0 → x .assignments ≡ 0 → Sound a →
     isNone (causeOf a (TransitionRecord x)) ≡ true → Sound (nextReading a (TransitionRecord x))
-unfolding causeOf addRecord kindOf addTransition inOrder
+unfolding causeOf addRecord rankOf addTransition inOrder
 transition-next a x e g s h =
     let m = a .model .timing in
     let b = a .model .behavior in
@@ -141,7 +141,7 @@ good-operand : (m : Timing) (o : Operand) → SFits w32 (o .value .0) → operan
 good-operand m o f t n = record { fits = f; tag = t; names = rw t at n }
 
 pub atom-next : (a : Reading) (x : Atom) → SFits w32 (x .right .value .0) → Sound a → isNone (causeOf a (AtomRecord x)) ≡ true → Sound (nextReading a (AtomRecord x))
-unfolding causeOf addRecord kindOf addAtom
+unfolding causeOf addRecord rankOf addAtom
 atom-next a x w s h =
     let m = a .model .timing in
     let b = a .model .behavior in
@@ -193,7 +193,7 @@ assignment-added m b x s h l g d = record {
 
 pub assignment-next : (a : Reading) (x : Assignment) → SFits w32 (x .first .value .0) → SFits w32 (x .second .value .0) → Sound a →
     isNone (causeOf a (AssignmentRecord x)) ≡ true → Sound (nextReading a (AssignmentRecord x))
-unfolding causeOf addRecord kindOf addAssignment
+unfolding causeOf addRecord rankOf addAssignment
 assignment-next a x w v s h =
     let m = a .model .timing in
     let b = a .model .behavior in

@@ -76,17 +76,48 @@ recordOf x =
     let m = recordSize notations.Model (getD x 0 0) in
     cond (eqb m 0) Unknown (cond (ltb (length x) m) Cut (recordOfWhole (getD x 0 0) x))
 
--- the kind byte of a record; 0 for one that has none of its own
-unfoldable pub kindOf : Record → ℕ
-kindOf (HeadRecord x) = 1
-kindOf (ThreadRecord x) = 2
-kindOf (InputRecord o) = 3
-kindOf (OutputRecord o) = 4
-kindOf (LocalRecord x) = 5
-kindOf (ConnectionRecord x) = 6
-kindOf (ModeRecord x) = 7
-kindOf (TransitionRecord x) = 8
-kindOf (AtomRecord x) = 9
-kindOf (AssignmentRecord x) = 10
-kindOf Cut = 0
-kindOf Unknown = 0
+-- ---- ranks: the places of records in the order that "Kinds 01 to 08 never fall" asks for, with those of 09 and 0A after them
+abbrev pub headRank : ℕ
+headRank = 1
+
+abbrev pub threadRank : ℕ
+threadRank = 2
+
+abbrev pub inputRank : ℕ
+inputRank = 3
+
+abbrev pub outputRank : ℕ
+outputRank = 4
+
+abbrev pub localRank : ℕ
+localRank = 5
+
+abbrev pub connectionRank : ℕ
+connectionRank = 6
+
+abbrev pub switchRank : ℕ
+switchRank = 7
+
+abbrev pub transitionRank : ℕ
+transitionRank = 8
+
+abbrev pub atomRank : ℕ
+atomRank = 9
+
+abbrev pub assignmentRank : ℕ
+assignmentRank = 10
+
+-- the rank of a record; 0 for one that has none
+unfoldable pub rankOf : Record → ℕ
+rankOf (HeadRecord x) = headRank
+rankOf (ThreadRecord x) = threadRank
+rankOf (InputRecord o) = inputRank
+rankOf (OutputRecord o) = outputRank
+rankOf (LocalRecord x) = localRank
+rankOf (ConnectionRecord x) = connectionRank
+rankOf (ModeRecord x) = switchRank
+rankOf (TransitionRecord x) = transitionRank
+rankOf (AtomRecord x) = atomRank
+rankOf (AssignmentRecord x) = assignmentRank
+rankOf Cut = 0
+rankOf Unknown = 0

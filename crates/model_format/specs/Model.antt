@@ -1,5 +1,6 @@
 -- The model as read: limits, items by number, and what is asked of them.
 use mathlib.Core.Bool.{Bool, false, cond, _&&_}
+use mathlib.Core.List.{List}
 use Prim.Native.Nat.{ℕ, _+_, _*_, _/_, _%_, _^_}
 use lib.ListN.{replicate}
 use lib.Dec.{eqb, ltb}
@@ -100,6 +101,25 @@ atomAt b k j = item maxTimes (b .atom) (k * maxEach + j) noAtom
 
 unfoldable pub assignmentAt : Behavior → ℕ → ℕ → Assignment
 assignmentAt b k j = item maxTimes (b .assignment) (k * maxEach + j) noAssignment
+
+-- ---- a timing with n items of one kind, those of l
+abbrev pub withThreads : Timing → ℕ → List Thread → Timing
+withThreads m n l = record { modes = m .modes; initial = m .initial; threads = n; thread = l; inputs = m .inputs; input = m .input; outputs = m .outputs; output = m .output; locals = m .locals; local = m .local; connections = m .connections; connection = m .connection; switches = m .switches; switch = m .switch }
+
+abbrev pub withInputs : Timing → ℕ → List ℕ → Timing
+withInputs m n l = record { modes = m .modes; initial = m .initial; threads = m .threads; thread = m .thread; inputs = n; input = l; outputs = m .outputs; output = m .output; locals = m .locals; local = m .local; connections = m .connections; connection = m .connection; switches = m .switches; switch = m .switch }
+
+abbrev pub withOutputs : Timing → ℕ → List ℕ → Timing
+withOutputs m n l = record { modes = m .modes; initial = m .initial; threads = m .threads; thread = m .thread; inputs = m .inputs; input = m .input; outputs = n; output = l; locals = m .locals; local = m .local; connections = m .connections; connection = m .connection; switches = m .switches; switch = m .switch }
+
+abbrev pub withLocals : Timing → ℕ → List Local → Timing
+withLocals m n l = record { modes = m .modes; initial = m .initial; threads = m .threads; thread = m .thread; inputs = m .inputs; input = m .input; outputs = m .outputs; output = m .output; locals = n; local = l; connections = m .connections; connection = m .connection; switches = m .switches; switch = m .switch }
+
+abbrev pub withConnections : Timing → ℕ → List Connection → Timing
+withConnections m n l = record { modes = m .modes; initial = m .initial; threads = m .threads; thread = m .thread; inputs = m .inputs; input = m .input; outputs = m .outputs; output = m .output; locals = m .locals; local = m .local; connections = n; connection = l; switches = m .switches; switch = m .switch }
+
+abbrev pub withSwitches : Timing → ℕ → List ModeTransition → Timing
+withSwitches m n l = record { modes = m .modes; initial = m .initial; threads = m .threads; thread = m .thread; inputs = m .inputs; input = m .input; outputs = m .outputs; output = m .output; locals = m .locals; local = m .local; connections = m .connections; connection = m .connection; switches = n; switch = l }
 
 unfoldable pub emptyModel : Model
 emptyModel = record {

@@ -29,15 +29,16 @@ use Rattle.model_format.specs.declared.Model.{Model}
 use Rattle.model_format.specs.declared.Reading.{Reading}
 use Rattle.model_format.specs.declared.Faults.{Faults}
 use Rattle.model_format.specs.declared.ModelRead.{ModelRead}
-use Rattle.model_format.specs.Format.{recordOf, kindOf}
-use Rattle.model_format.specs.Model.{maxThreads, maxInputs, maxOutputs, maxLocals, maxConnections, maxSwitches, maxTransitions, maxEach, maxTimes, inputOwner, outputOwner, localAt, connectionAt, transitionAt, assignmentAt, emptyModel, h1Of, h2Of}
+use Rattle.model_format.specs.Format.{recordOf, rankOf, headRank, transitionRank, atomRank, assignmentRank}
+use Rattle.model_format.specs.Model.{maxThreads, maxInputs, maxOutputs, maxLocals, maxConnections, maxSwitches, maxTransitions, maxEach, maxTimes, inputOwner, outputOwner, localAt, connectionAt, transitionAt, assignmentAt, emptyModel, withThreads, withInputs, withOutputs, withLocals, withConnections, withSwitches, h1Of, h2Of}
 
--- ---- order: "Kinds 01 to 08 never fall, one 01 first (a second is out of order); 09 follows 08 or 09, 0A follows 08, 09 or 0A"
+-- ---- order: "Kinds 01 to 08 never fall, one 01 first (a second is out of order); 09 follows 08 or 09, 0A follows 08, 09 or 0A". A record
+-- of rank k after one of rank `last`, which is 0 before the first:
 unfoldable pub inOrder : ℕ → ℕ → Bool
 inOrder last k =
-    cond (eqb k 1) (eqb last 0)
-    (cond (eqb k 9) (eqb last 8 || eqb last 9)
-    (cond (eqb k 10) (leb 8 last) (ltb 0 last && leb (cond (ltb 8 last) 8 last) k)))
+    cond (eqb k headRank) (eqb last 0)
+    (cond (eqb k atomRank) (eqb last transitionRank || eqb last atomRank)
+    (cond (eqb k assignmentRank) (leb transitionRank last) (ltb 0 last && leb (cond (ltb transitionRank last) transitionRank last) k)))
 
 -- ---- fields
 -- "1 ≤ Deadline ≤ Period ≤ 1,000,000; 1 ≤ Min ≤ Max ≤ 1,000,000"
@@ -99,7 +100,7 @@ isAssigned b a =
     let k = lastTransition b in
     anyBelow (transitionAt b k .assignments) (λ j. eqb (assignmentAt b k j .tag) (a .tag) && eqb (assignmentAt b k j .number) (a .number))
 
--- ---- the faults of a record, in a place where its kind may or may not stand
+-- ---- the faults of a record, in a place where its rank may or may not stand
 abbrev pub faults : Bool → Bool → Bool → Bool → Bool → Bool → Bool → Bool → Faults
 faults order excess names times ranges owner twice hyperperiod =
     record { order = order; excess = excess; names = names; times = times; ranges = ranges; owner = owner; twice = twice; hyperperiod = hyperperiod }
@@ -156,9 +157,9 @@ judged f =
     (cond (f .twice) SetTwice
     (cond (f .hyperperiod) LongHyperperiod None)))))))
 
--- the record's kind may not stand here
+-- the record may not stand here
 abbrev pub misplaced : Reading → Record → Bool
-misplaced a r = not (inOrder (a .last) (kindOf r))
+misplaced a r = not (inOrder (a .last) (rankOf r))
 
 -- the transition that atoms and assignments belong to
 abbrev pub openTransition : Reading → Transition
@@ -183,26 +184,26 @@ unfoldable pub addHead : Timing → Head → Timing
 addHead m x = record { modes = x .modes; initial = x .initial; threads = m .threads; thread = m .thread; inputs = m .inputs; input = m .input; outputs = m .outputs; output = m .output; locals = m .locals; local = m .local; connections = m .connections; connection = m .connection; switches = m .switches; switch = m .switch }
 
 unfoldable pub addThread : Timing → Thread → Timing
-addThread m x = record { modes = m .modes; initial = m .initial; threads = m .threads + 1; thread = store maxThreads (m .thread) (m .threads) x; inputs = m .inputs; input = m .input; outputs = m .outputs; output = m .output; locals = m .locals; local = m .local; connections = m .connections; connection = m .connection; switches = m .switches; switch = m .switch }
+addThread m x = withThreads m (m .threads + 1) (store maxThreads (m .thread) (m .threads) x)
 
 unfoldable pub addInput : Timing → ℕ → Timing
-addInput m owner = record { modes = m .modes; initial = m .initial; threads = m .threads; thread = m .thread; inputs = m .inputs + 1; input = store maxInputs (m .input) (m .inputs) owner; outputs = m .outputs; output = m .output; locals = m .locals; local = m .local; connections = m .connections; connection = m .connection; switches = m .switches; switch = m .switch }
+addInput m owner = withInputs m (m .inputs + 1) (store maxInputs (m .input) (m .inputs) owner)
 
 unfoldable pub addOutput : Timing → ℕ → Timing
-addOutput m owner = record { modes = m .modes; initial = m .initial; threads = m .threads; thread = m .thread; inputs = m .inputs; input = m .input; outputs = m .outputs + 1; output = store maxOutputs (m .output) (m .outputs) owner; locals = m .locals; local = m .local; connections = m .connections; connection = m .connection; switches = m .switches; switch = m .switch }
+addOutput m owner = withOutputs m (m .outputs + 1) (store maxOutputs (m .output) (m .outputs) owner)
 
 unfoldable pub addLocal : Timing → Local → Timing
-addLocal m x = record { modes = m .modes; initial = m .initial; threads = m .threads; thread = m .thread; inputs = m .inputs; input = m .input; outputs = m .outputs; output = m .output; locals = m .locals + 1; local = store maxLocals (m .local) (m .locals) x; connections = m .connections; connection = m .connection; switches = m .switches; switch = m .switch }
+addLocal m x = withLocals m (m .locals + 1) (store maxLocals (m .local) (m .locals) x)
 
 unfoldable pub addConnection : Timing → Connection → Timing
-addConnection m x = record { modes = m .modes; initial = m .initial; threads = m .threads; thread = m .thread; inputs = m .inputs; input = m .input; outputs = m .outputs; output = m .output; locals = m .locals; local = m .local; connections = m .connections + 1; connection = store maxConnections (m .connection) (m .connections) x; switches = m .switches; switch = m .switch }
+addConnection m x = withConnections m (m .connections + 1) (store maxConnections (m .connection) (m .connections) x)
 
 -- with its H1 and H2
 abbrev pub withHyperperiods : Timing → ModeTransition → ModeTransition
 withHyperperiods m x = record { from = x .from; to = x .to; h1 = duration (h1Of m (x .from)); h2 = duration (h2Of m (x .from) (x .to)) }
 
 unfoldable pub addSwitch : Timing → ModeTransition → Timing
-addSwitch m x = record { modes = m .modes; initial = m .initial; threads = m .threads; thread = m .thread; inputs = m .inputs; input = m .input; outputs = m .outputs; output = m .output; locals = m .locals; local = m .local; connections = m .connections; connection = m .connection; switches = m .switches + 1; switch = store maxSwitches (m .switch) (m .switches) (withHyperperiods m x) }
+addSwitch m x = withSwitches m (m .switches + 1) (store maxSwitches (m .switch) (m .switches) (withHyperperiods m x))
 
 unfoldable pub addTransition : Behavior → Transition → Behavior
 addTransition b x = record { transitions = b .transitions + 1; transition = store maxTransitions (b .transition) (b .transitions) x; atom = b .atom; assignment = b .assignment }
@@ -243,7 +244,7 @@ addRecord m Cut = m
 addRecord m Unknown = m
 
 abbrev pub nextReading : Reading → Record → Reading
-nextReading a r = record { last = kindOf r; model = addRecord (a .model) r }
+nextReading a r = record { last = rankOf r; model = addRecord (a .model) r }
 
 -- "The first bad record decides": the parts from place p on. "no head": where the parts end before a head.
 unfoldable pub readFrom : Reading → ℕ → List (List ℕ) → ModelRead

@@ -21,7 +21,7 @@ use Rattle.model_format.specs.declared.Record.the-variants.{HeadRecord, 
 use Rattle.model_format.specs.declared.Timing.{Timing}
 use Rattle.model_format.specs.declared.Behavior.{Behavior}
 use Rattle.model_format.specs.declared.Reading.{Reading}
-use Rattle.model_format.specs.Format.{kindOf}
+use Rattle.model_format.specs.Format.{rankOf}
 use Rattle.model_format.specs.Model.{maxThreads, maxInputs, maxOutputs, maxLocals, maxConnections, maxSwitches, noThread, noLocal, noConnection, noSwitch, noAtom, noAssignment, threadAt, connectionAt, transitionAt, h1Of, h2Of}
 use Rattle.model_format.specs.Reading.{inOrder, timesFit, longestTime, maskFits, isState, isConnected, misplaced, headFaults, threadFaults, portFaults, connectionFaults, switchFaults, causeOf, addHead, addThread, addInput, addOutput, addLocal, addConnection, addSwitch, addRecord, withHyperperiods, withTiming, nextReading}
 use Rattle.model_format.specs.WellFormed.{GoodThread, GoodAtom, GoodAssignment}
@@ -64,7 +64,7 @@ head-added m x s e = record {
 }
 
 pub head-next : (a : Reading) (x : Head) → Sound a → isNone (causeOf a (HeadRecord x)) ≡ true → Sound (nextReading a (HeadRecord x))
-unfolding causeOf addRecord kindOf addHead
+unfolding causeOf addRecord rankOf addHead
 head-next a x s h =
     let f = faultless (headFaults (misplaced a (HeadRecord x)) x) h in
     let z = order-head (a .last) (not-false (inOrder (a .last) 1) (f .order)) in
@@ -114,7 +114,7 @@ thread-added m x s h g = record {
 }
 
 pub thread-next : (a : Reading) (x : Thread) → Sound a → isNone (causeOf a (ThreadRecord x)) ≡ true → Sound (nextReading a (ThreadRecord x))
-unfolding causeOf addRecord kindOf addThread inOrder
+unfolding causeOf addRecord rankOf addThread inOrder
 thread-next a x s h =
     let m = a .model .timing in
     let f = faultless (threadFaults (misplaced a (ThreadRecord x)) m x) h in
@@ -163,7 +163,7 @@ local-added m x s h g = record {
 }
 
 pub input-next : (a : Reading) (o : ℕ) → Sound a → isNone (causeOf a (InputRecord o)) ≡ true → Sound (nextReading a (InputRecord o))
-unfolding causeOf addRecord kindOf addInput inOrder
+unfolding causeOf addRecord rankOf addInput inOrder
 input-next a o s h =
     let m = a .model .timing in
     let f = faultless (portFaults (misplaced a (InputRecord o)) (m .inputs) maxInputs m o) h in
@@ -171,7 +171,7 @@ input-next a o s h =
     (input-added m o (s .timing) (leb-false maxInputs (m .inputs) (f .excess)) (leb-false (m .threads) o (f .names)))
 
 pub output-next : (a : Reading) (o : ℕ) → Sound a → isNone (causeOf a (OutputRecord o)) ≡ true → Sound (nextReading a (OutputRecord o))
-unfolding causeOf addRecord kindOf addOutput inOrder
+unfolding causeOf addRecord rankOf addOutput inOrder
 output-next a o s h =
     let m = a .model .timing in
     let f = faultless (portFaults (misplaced a (OutputRecord o)) (m .outputs) maxOutputs m o) h in
@@ -179,7 +179,7 @@ output-next a o s h =
     (output-added m o (s .timing) (leb-false maxOutputs (m .outputs) (f .excess)) (leb-false (m .threads) o (f .names)))
 
 pub local-next : (a : Reading) (x : Local) → SFits w32 (x .start .0) → Sound a → isNone (causeOf a (LocalRecord x)) ≡ true → Sound (nextReading a (LocalRecord x))
-unfolding causeOf addRecord kindOf addLocal inOrder
+unfolding causeOf addRecord rankOf addLocal inOrder
 local-next a x w s h =
     let m = a .model .timing in
     let f = faultless (portFaults (misplaced a (LocalRecord x)) (m .locals) maxLocals m (x .owner)) h in
@@ -216,7 +216,7 @@ connection-added m x s h g n = record {
     single c e l k (no o) q = s .single c e l (omega arith) (let u = old c (λ z. omega arith) in let v = old e o in omega arith)
 
 pub connection-next : (a : Reading) (x : Connection) → Sound a → isNone (causeOf a (ConnectionRecord x)) ≡ true → Sound (nextReading a (ConnectionRecord x))
-unfolding causeOf addRecord kindOf addConnection inOrder
+unfolding causeOf addRecord rankOf addConnection inOrder
 connection-next a x s h =
     let m = a .model .timing in
     let f = faultless (connectionFaults (misplaced a (ConnectionRecord x)) m x) h in
@@ -245,7 +245,7 @@ unfolding threadAt
 period-positive m s t h = let g = s .thread .each t h in let d = g .deadline in let p = g .period in omega arith
 
 pub switch-next : (a : Reading) (x : ModeTransition) → Sound a → isNone (causeOf a (ModeRecord x)) ≡ true → Sound (nextReading a (ModeRecord x))
-unfolding causeOf addRecord kindOf addSwitch inOrder
+unfolding causeOf addRecord rankOf addSwitch inOrder
 switch-next a x s h =
     let m = a .model .timing in
     let f = faultless (switchFaults (misplaced a (ModeRecord x)) m x) h in

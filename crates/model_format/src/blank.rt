@@ -10,6 +10,14 @@ use crate::Model;
 use crate::Thread;
 use crate::Timing;
 use crate::Transition;
+use crate::limits::MAX_CONNECTIONS;
+use crate::limits::MAX_INPUTS;
+use crate::limits::MAX_LOCALS;
+use crate::limits::MAX_OUTPUTS;
+use crate::limits::MAX_SWITCHES;
+use crate::limits::MAX_THREADS;
+use crate::limits::MAX_TIMES;
+use crate::limits::MAX_TRANSITIONS;
 use numbers::Duration;
 use numbers::Value;
 use records::Operand;
@@ -31,7 +39,7 @@ pub fn no_thread() -> Thread
     }
 }
 
-fn no_local() -> Local
+pub fn no_local() -> Local
     ensures { λ r. ⌜ r ≡ model.noLocal ⌝ }
 {
     let zero = Value(0);
@@ -64,7 +72,7 @@ pub fn no_switch() -> ModeTransition
     }
 }
 
-fn no_transition() -> Transition
+pub fn no_transition() -> Transition
     ensures { λ r. ⌜ r ≡ model.noTransition ⌝ }
 {
     Transition {
@@ -86,7 +94,7 @@ fn no_operand() -> Operand
     }
 }
 
-fn no_atom() -> Atom
+pub fn no_atom() -> Atom
     ensures { λ r. ⌜ r ≡ model.noAtom ⌝ }
 {
     let right = no_operand();
@@ -98,7 +106,7 @@ fn no_atom() -> Atom
     }
 }
 
-fn no_assignment() -> Assignment
+pub fn no_assignment() -> Assignment
     ensures { λ r. ⌜ r ≡ model.noAssignment ⌝ }
 {
     let first = no_operand();
@@ -119,20 +127,21 @@ fn empty_timing() -> Timing
     let l = no_local();
     let c = no_connection();
     let q = no_switch();
-    let thread = [t; 16];
-    let port: [u8; 32] = [0; 32];
-    let local = [l; 32];
-    let connection = [c; 32];
-    let switch = [q; 16];
+    let thread = [t; MAX_THREADS];
+    let input: [u8; MAX_INPUTS] = [0; MAX_INPUTS];
+    let output: [u8; MAX_OUTPUTS] = [0; MAX_OUTPUTS];
+    let local = [l; MAX_LOCALS];
+    let connection = [c; MAX_CONNECTIONS];
+    let switch = [q; MAX_SWITCHES];
     Timing {
         modes: 0,
         initial: 0,
         threads: 0,
         thread: thread,
         inputs: 0,
-        input: port,
+        input: input,
         outputs: 0,
-        output: port,
+        output: output,
         locals: 0,
         local: local,
         connections: 0,
@@ -148,9 +157,9 @@ fn empty_behavior() -> Behavior
     let t = no_transition();
     let a = no_atom();
     let s = no_assignment();
-    let transition = [t; 64];
-    let atom = [a; 256];
-    let assignment = [s; 256];
+    let transition = [t; MAX_TRANSITIONS];
+    let atom = [a; MAX_TIMES];
+    let assignment = [s; MAX_TIMES];
     Behavior {
         transitions: 0,
         transition: transition,

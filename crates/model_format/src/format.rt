@@ -9,10 +9,29 @@ use crate::ModeTransition;
 use crate::Record;
 use crate::Thread;
 use crate::Transition;
+use crate::ranks::ASSIGNMENT_RANK;
+use crate::ranks::ATOM_RANK;
+use crate::ranks::CONNECTION_RANK;
+use crate::ranks::HEAD_RANK;
+use crate::ranks::INPUT_RANK;
+use crate::ranks::LOCAL_RANK;
+use crate::ranks::OUTPUT_RANK;
+use crate::ranks::SWITCH_RANK;
+use crate::ranks::THREAD_RANK;
+use crate::ranks::TRANSITION_RANK;
 use numbers::Duration;
 use numbers::byte_at;
 use numbers::duration_at;
 use numbers::value_at;
+use records::MODEL_ATOM;
+use records::MODEL_CONNECTION;
+use records::MODEL_HEAD;
+use records::MODEL_INPUT;
+use records::MODEL_LOCAL;
+use records::MODEL_OUTPUT;
+use records::MODEL_SWITCH;
+use records::MODEL_THREAD;
+use records::MODEL_TRANSITION;
 use records::Notation;
 use records::operand_at;
 ghost use mathlib.Core.Path.{_≡_};
@@ -143,15 +162,15 @@ fn whole_record(k: u8, x: &[u8]) -> Record
     ensures { λ r. ⌜ r ≡ format.recordOfWhole k (now (x .entry)) ⌝ }
 {
     match k {
-        1 => Record::HeadRecord(head_of(x)),
-        2 => Record::ThreadRecord(thread_of(x)),
-        3 => Record::InputRecord(byte_at(x, 1)),
-        4 => Record::OutputRecord(byte_at(x, 1)),
-        5 => Record::LocalRecord(local_of(x)),
-        6 => Record::ConnectionRecord(connection_of(x)),
-        7 => Record::ModeRecord(switch_of(x)),
-        8 => Record::TransitionRecord(transition_of(x)),
-        9 => Record::AtomRecord(atom_of(x)),
+        MODEL_HEAD => Record::HeadRecord(head_of(x)),
+        MODEL_THREAD => Record::ThreadRecord(thread_of(x)),
+        MODEL_INPUT => Record::InputRecord(byte_at(x, 1)),
+        MODEL_OUTPUT => Record::OutputRecord(byte_at(x, 1)),
+        MODEL_LOCAL => Record::LocalRecord(local_of(x)),
+        MODEL_CONNECTION => Record::ConnectionRecord(connection_of(x)),
+        MODEL_SWITCH => Record::ModeRecord(switch_of(x)),
+        MODEL_TRANSITION => Record::TransitionRecord(transition_of(x)),
+        MODEL_ATOM => Record::AtomRecord(atom_of(x)),
         _ => Record::AssignmentRecord(assignment_of(x)),
     }
 }
@@ -171,21 +190,21 @@ pub fn record_of(x: &[u8]) -> Record
     whole_record(k, x)
 }
 
-// The kind byte of a record; 0 for one that has none of its own.
-pub fn kind_of(r: Record) -> u8
-    ensures { λ k. ⌜ k ≡ format.kindOf r ⌝ }
+// A record's place in the order of records; 0 for one that has none.
+pub fn rank_of(r: Record) -> u8
+    ensures { λ k. ⌜ k ≡ format.rankOf r ⌝ }
 {
     match r {
-        Record::HeadRecord(_) => 1,
-        Record::ThreadRecord(_) => 2,
-        Record::InputRecord(_) => 3,
-        Record::OutputRecord(_) => 4,
-        Record::LocalRecord(_) => 5,
-        Record::ConnectionRecord(_) => 6,
-        Record::ModeRecord(_) => 7,
-        Record::TransitionRecord(_) => 8,
-        Record::AtomRecord(_) => 9,
-        Record::AssignmentRecord(_) => 10,
+        Record::HeadRecord(_) => HEAD_RANK,
+        Record::ThreadRecord(_) => THREAD_RANK,
+        Record::InputRecord(_) => INPUT_RANK,
+        Record::OutputRecord(_) => OUTPUT_RANK,
+        Record::LocalRecord(_) => LOCAL_RANK,
+        Record::ConnectionRecord(_) => CONNECTION_RANK,
+        Record::ModeRecord(_) => SWITCH_RANK,
+        Record::TransitionRecord(_) => TRANSITION_RANK,
+        Record::AtomRecord(_) => ATOM_RANK,
+        Record::AssignmentRecord(_) => ASSIGNMENT_RANK,
         Record::Cut => 0,
         Record::Unknown => 0,
     }

@@ -7,21 +7,30 @@ use crate::Timing;
 use crate::blank::no_connection;
 use crate::blank::no_switch;
 use crate::blank::no_thread;
+use crate::limits::MAX_CONNECTIONS;
+use crate::limits::MAX_EACH;
+use crate::limits::MAX_SWITCHES;
+use crate::limits::MAX_THREADS;
+use crate::limits::MAX_TIMES;
+use crate::limits::MAX_TRANSITIONS;
 ghost use mathlib.Core.Path.{_≡_};
 ghost use Prim.Native.Nat.{_+_, _*_, min};
 ghost use Rattle.model_format.specs.Model as model;
 
-// Each limit stands in specs/Model.antt.
 pub fn thread_at(m: Timing, t: usize) -> Thread
     ensures { λ r. ⌜ r ≡ model.threadAt m t ⌝ }
 {
-    if t < 16 { m.thread[t] } else { no_thread() }
+    if t < MAX_THREADS {
+        m.thread[t]
+    } else {
+        no_thread()
+    }
 }
 
 pub fn connection_at(m: Timing, c: usize) -> Connection
     ensures { λ r. ⌜ r ≡ model.connectionAt m c ⌝ }
 {
-    if c < 32 {
+    if c < MAX_CONNECTIONS {
         m.connection[c]
     } else {
         no_connection()
@@ -31,21 +40,25 @@ pub fn connection_at(m: Timing, c: usize) -> Connection
 pub fn switch_at(m: Timing, q: usize) -> ModeTransition
     ensures { λ r. ⌜ r ≡ model.switchAt m q ⌝ }
 {
-    if q < 16 { m.switch[q] } else { no_switch() }
+    if q < MAX_SWITCHES {
+        m.switch[q]
+    } else {
+        no_switch()
+    }
 }
 
-// The place of an atom or assignment j of transition k; 256 for every place past the room, so that no sum wraps.
+// The place of an atom or assignment j of transition k; past the room always the first place past it, so that no sum wraps.
 pub fn place(k: usize, j: usize) -> usize
-    ensures { λ r. ⌜ r ≡ min (k * 4 + j) 256 ⌝ }
+    ensures { λ r. ⌜ r ≡ min (k * model.maxEach + j) model.maxTimes ⌝ }
 {
-    if 64 <= k {
-        return 256;
+    if MAX_TRANSITIONS <= k {
+        return MAX_TIMES;
     }
-    if 256 <= j {
-        return 256;
+    if MAX_TIMES <= j {
+        return MAX_TIMES;
     }
-    let i = k * 4 + j;
-    if i < 256 { i } else { 256 }
+    let i = k * MAX_EACH + j;
+    if i < MAX_TIMES { i } else { MAX_TIMES }
 }
 
 // Bit `mode` of a mask.

@@ -1,11 +1,26 @@
 // A timing model: the records of its bytes, and the struct that reading makes of them, with its items by number.
 
 mod blank;
+mod codes;
 mod format;
 mod items;
+mod limits;
+mod ranks;
 
 pub use blank::empty_model;
-pub use format::kind_of;
+pub use blank::no_assignment;
+pub use blank::no_atom;
+pub use blank::no_connection;
+pub use blank::no_local;
+pub use blank::no_switch;
+pub use blank::no_thread;
+pub use blank::no_transition;
+pub use codes::DELAYED;
+pub use codes::IMMEDIATE;
+pub use codes::INPUT_TAG;
+pub use codes::LOCAL_TAG;
+pub use codes::OUTPUT_TAG;
+pub use format::rank_of;
 pub use format::record_of;
 pub use items::connection_at;
 pub use items::critical_in;
@@ -13,8 +28,27 @@ pub use items::in_mode;
 pub use items::place;
 pub use items::switch_at;
 pub use items::thread_at;
+pub use limits::MAX_CONNECTIONS;
+pub use limits::MAX_EACH;
+pub use limits::MAX_INPUTS;
+pub use limits::MAX_LOCALS;
+pub use limits::MAX_OUTPUTS;
+pub use limits::MAX_SWITCHES;
+pub use limits::MAX_THREADS;
+pub use limits::MAX_TIMES;
+pub use limits::MAX_TRANSITIONS;
 use numbers::Duration;
 use numbers::Value;
+pub use ranks::ASSIGNMENT_RANK;
+pub use ranks::ATOM_RANK;
+pub use ranks::CONNECTION_RANK;
+pub use ranks::HEAD_RANK;
+pub use ranks::INPUT_RANK;
+pub use ranks::LOCAL_RANK;
+pub use ranks::OUTPUT_RANK;
+pub use ranks::SWITCH_RANK;
+pub use ranks::THREAD_RANK;
+pub use ranks::TRANSITION_RANK;
 use records::Operand;
 use records::Refusal;
 
@@ -106,25 +140,25 @@ pub struct Timing {
     pub modes: u8,
     pub initial: u8,
     pub threads: usize,
-    pub thread: [Thread; 16],
+    pub thread: [Thread; MAX_THREADS],
     pub inputs: usize,
-    pub input: [u8; 32],
+    pub input: [u8; MAX_INPUTS],
     pub outputs: usize,
-    pub output: [u8; 32],
+    pub output: [u8; MAX_OUTPUTS],
     pub locals: usize,
-    pub local: [Local; 32],
+    pub local: [Local; MAX_LOCALS],
     pub connections: usize,
-    pub connection: [Connection; 32],
+    pub connection: [Connection; MAX_CONNECTIONS],
     pub switches: usize,
-    pub switch: [ModeTransition; 16],
+    pub switch: [ModeTransition; MAX_SWITCHES],
 }
 
 // The behaviours. Transition k has the atoms and assignments from 4 k on.
 pub struct Behavior {
     pub transitions: usize,
-    pub transition: [Transition; 64],
-    pub atom: [Atom; 256],
-    pub assignment: [Assignment; 256],
+    pub transition: [Transition; MAX_TRANSITIONS],
+    pub atom: [Atom; MAX_TIMES],
+    pub assignment: [Assignment; MAX_TIMES],
 }
 
 pub struct Model {
@@ -132,7 +166,7 @@ pub struct Model {
     pub behavior: Behavior,
 }
 
-// Where a reader stands: the kind of the last record, 0 before the first, and the model so far.
+// Where a reader stands: the rank of the last record, 0 before the first, and the model so far.
 pub struct Reading {
     pub last: u8,
     pub model: Model,

@@ -21,15 +21,15 @@ use Rattle.records.specs.Walk.{slice-part, run-end, run-on, run-refused, tally-
 use Rattle.model_format.specs.declared.Timing.{Timing}
 use Rattle.model_format.specs.declared.Model.{Model}
 use Rattle.model_format.specs.Model.{maxThreads}
-use Rattle.model.specs.declared.State.{State}
-use Rattle.model.specs.declared.Stepped.{Stepped}
-use Rattle.model.specs.State.{nowOf, withNow, withCode}
-use Rattle.model.specs.Tests.{waitingMode, waitingDispatch, execution, canActivate, canDeactivate, canDispatch, startFault, canComplete, canMeetDeadline, canMiss, canEnter, canLeave, isBusy}
-use Rattle.model.specs.Effects.{dispatch, start, complete, meetDeadline, miss, request, enter, leave, tick}
+use Rattle.model_semantics.specs.declared.State.{State}
+use Rattle.model_semantics.specs.declared.Stepped.{Stepped}
+use Rattle.model_semantics.specs.State.{nowOf, withNow, withCode}
+use Rattle.model_semantics.specs.Tests.{waitingMode, waitingDispatch, execution, canActivate, canDeactivate, canDispatch, startFault, canComplete, canMeetDeadline, canMiss, canEnter, canLeave, isBusy}
+use Rattle.model_semantics.specs.Effects.{dispatch, start, complete, meetDeadline, miss, request, enter, leave, tick}
 use Rattle.model_machine.specs.Quiet.{moreBy, spending, spentBy, withSpents, later, Quiet}
 use Rattle.model_machine.specs.QuietLaws.{later-none, later-next}
 use Rattle.model_effects.specs.Laws.{fold-room}
-use Rattle.model.specs.Machine.{startState, refuse, accept, ticks, onActivate, onDeactivate, onDispatch, onStart, onComplete, onDeadline, onMiss, onRequest, onEnter, onLeave, step, machineOf, runModel}
+use Rattle.model_semantics.specs.Machine.{startState, refuse, accept, ticks, onActivate, onDeactivate, onDispatch, onStart, onComplete, onDeadline, onMiss, onRequest, onEnter, onLeave, step, machineOf, runModel}
 use Rattle.model_machine.specs.Runs.{tallyModel}
 
 -- ---- Spent q ticks later

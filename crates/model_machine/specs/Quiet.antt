@@ -10,14 +10,14 @@ use Rattle.numbers.specs.Values.{duration, oneMore}
 use Rattle.model_format.specs.declared.Thread.{Thread}
 use Rattle.model_format.specs.declared.Timing.{Timing}
 use Rattle.model_format.specs.Model.{maxThreads, threadAt}
-use Rattle.model.specs.declared.Clock.{Clock}
-use Rattle.model.specs.declared.Threads.{Threads}
-use Rattle.model.specs.declared.State.{State}
-use Rattle.model.specs.declared.Job.{Job}
-use Rattle.model.specs.State.{nowOf, withNow, withThreads}
-use Rattle.model.specs.Parts.{jobOf}
-use Rattle.model.specs.Tests.{execution, switchBusy, isBusy}
-use Rattle.model.specs.Jobs.{mayAct}
+use Rattle.model_semantics.specs.declared.Clock.{Clock}
+use Rattle.model_semantics.specs.declared.Threads.{Threads}
+use Rattle.model_semantics.specs.declared.State.{State}
+use Rattle.model_tests.specs.declared.Job.{Job}
+use Rattle.model_semantics.specs.State.{nowOf, withNow, withThreads}
+use Rattle.model_tests.specs.Parts.{jobOf}
+use Rattle.model_semantics.specs.Tests.{execution, switchBusy, isBusy}
+use Rattle.model_tests.specs.Jobs.{mayAct}
 
 -- one more, i times
 unfoldable pub moreBy : ℕ → ℕ → ℕ

@@ -20,16 +20,16 @@ use Rattle.model_format.specs.declared.Thread.{Thread}
 use Rattle.model_format.specs.declared.ModeTransition.{ModeTransition}
 use Rattle.model_format.specs.declared.Timing.{Timing}
 use Rattle.model_format.specs.Model.{maxThreads, noThread, threadAt, switchAt}
-use Rattle.model.specs.declared.Clock.{Clock}
-use Rattle.model.specs.declared.Threads.{Threads}
-use Rattle.model.specs.declared.State.{State}
-use Rattle.model.specs.declared.Job.{Job}
-use Rattle.model.specs.State.{nowOf, codeOf, spentOf, withNow, withSpent}
-use Rattle.model.specs.Parts.{jobOf}
-use Rattle.model.specs.Tests.{execution, canEnter, canLeave, threadBusy, switchBusy, isBusy}
-use Rattle.model.specs.Effects.{tick}
-use Rattle.model.specs.Jobs.{mayAct}
-use Rattle.model.specs.TestLaws.{and-false, jobHere, calm, other-switch}
+use Rattle.model_semantics.specs.declared.Clock.{Clock}
+use Rattle.model_semantics.specs.declared.Threads.{Threads}
+use Rattle.model_semantics.specs.declared.State.{State}
+use Rattle.model_tests.specs.declared.Job.{Job}
+use Rattle.model_semantics.specs.State.{nowOf, codeOf, spentOf, withNow, withSpent}
+use Rattle.model_tests.specs.Parts.{jobOf}
+use Rattle.model_semantics.specs.Tests.{execution, canEnter, canLeave, threadBusy, switchBusy, isBusy}
+use Rattle.model_semantics.specs.Effects.{tick}
+use Rattle.model_tests.specs.Jobs.{mayAct}
+use Rattle.model_tests.specs.TestLaws.{and-false, jobHere, calm, other-switch}
 use Rattle.model_machine.specs.Quiet.{moreBy, spentBy, withSpents, later, clockAfter, Calm, CalmBelow, SwitchesCalm, Quiet}
 
 -- ---- one more, i times

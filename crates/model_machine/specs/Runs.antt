@@ -3,8 +3,8 @@ use mathlib.Core.List.{List}
 use Prim.Native.Nat.{ℕ}
 use Rattle.records.specs.Run.{Ended, Tally, tally}
 use Rattle.model_format.specs.declared.Model.{Model}
-use Rattle.model.specs.declared.State.{State}
-use Rattle.model.specs.Machine.{startState, machineOf}
+use Rattle.model_semantics.specs.declared.State.{State}
+use Rattle.model_semantics.specs.Machine.{startState, machineOf}
 use Rattle.model_machine.specs.declared.Ran.{Ran}
 use Rattle.model_machine.specs.declared.Tallied.{Tallied}
 

@@ -11,13 +11,13 @@ use Rattle.numbers.specs.Lists.{foldBelow}
 use Rattle.numbers.specs.Values.{duration, natural}
 use Rattle.model_format.specs.declared.Timing.{Timing}
 use Rattle.model_format.specs.Model.{maxThreads, maxInputs, maxOutputs, maxLocals, maxConnections, noThread, noLocal, threadAt, localAt}
-use Rattle.model.specs.declared.Threads.{Threads}
-use Rattle.model.specs.declared.Ports.{Ports}
-use Rattle.model.specs.declared.State.{State}
-use Rattle.model.specs.State.{none}
-use Rattle.model.specs.Effects.{activeIn, liveIn}
+use Rattle.model_semantics.specs.declared.Threads.{Threads}
+use Rattle.model_semantics.specs.declared.Ports.{Ports}
+use Rattle.model_semantics.specs.declared.State.{State}
+use Rattle.model_semantics.specs.State.{none}
+use Rattle.model_semantics.specs.Effects.{activeIn, liveIn}
 use Rattle.model_effects.specs.Laws.{storing}
-use Rattle.model.specs.Machine.{startState}
+use Rattle.model_semantics.specs.Machine.{startState}
 
 unfoldable pub firstBehaviors : Timing → List ℕ
 firstBehaviors m = foldBelow (m .threads) (storing maxThreads (λ t. threadAt m t .first)) (replicate maxThreads 0)

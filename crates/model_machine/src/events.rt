@@ -1,17 +1,5 @@
 // Each event: its test and its effect. What it does not ask for is not handed to it, since states and models go by value.
 
-use model::State;
-use model::Stepped;
-use model::can_activate;
-use model::can_complete;
-use model::can_deactivate;
-use model::can_dispatch;
-use model::can_enter;
-use model::can_leave;
-use model::can_meet_deadline;
-use model::can_miss;
-use model::start_fault;
-use model::with_thread_code;
 use model_effects::complete;
 use model_effects::dispatch;
 use model_effects::enter;
@@ -22,11 +10,23 @@ use model_effects::request;
 use model_effects::start;
 use model_format::Model;
 use model_format::Timing;
+use model_semantics::State;
+use model_semantics::Stepped;
+use model_tests::can_activate;
+use model_tests::can_complete;
+use model_tests::can_deactivate;
+use model_tests::can_dispatch;
+use model_tests::can_enter;
+use model_tests::can_leave;
+use model_tests::can_meet_deadline;
+use model_tests::can_miss;
+use model_tests::start_fault;
+use model_tests::with_thread_code;
 use numbers::usize_of_u8;
 use records::Cause;
 ghost use mathlib.Core.Path.{_≡_};
 ghost use Rattle.records.specs.declared.Cause.the-variants.{NotEnabled};
-ghost use Rattle.model.specs.Machine as machine;
+ghost use Rattle.model_semantics.specs.Machine as machine;
 
 pub fn answered(c: Cause, s: State) -> Stepped
     ensures { λ r. ⌜ r ≡ machine.refuse c s ⌝ }

@@ -9,10 +9,14 @@ mod time;
 pub use machine::clock_of;
 pub use machine::run_model;
 pub use machine::step;
-use model::State;
+use model_semantics::State;
 use records::Refusal;
 pub use start::start_state;
 pub use tally::run_on;
+pub use time::calm_ticks;
+pub use time::least;
+pub use time::more_by;
+pub use time::to_multiple;
 
 // Where a run has come to: the events taken, the refusal that stopped it, the state.
 pub struct Ran {

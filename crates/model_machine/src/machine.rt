@@ -14,9 +14,9 @@ use crate::events::on_request;
 use crate::events::on_start;
 use crate::start::start_state;
 use crate::time::ticks;
-use model::State;
-use model::Stepped;
 use model_format::Model;
+use model_semantics::State;
+use model_semantics::Stepped;
 use numbers::usize_of_u8;
 use records::Cause;
 use records::Event;
@@ -28,8 +28,8 @@ use records::is_broken;
 use records::is_none;
 use records::part_length_at;
 ghost use mathlib.Core.Path.{_≡_};
-ghost use Rattle.model.specs.State.{nowOf};
-ghost use Rattle.model.specs.Machine as machine;
+ghost use Rattle.model_semantics.specs.State.{nowOf};
+ghost use Rattle.model_semantics.specs.Machine as machine;
 ghost use Rattle.model_machine.specs.Runs as runs;
 
 // One event on a state: one match over its kind. Each arm returns by itself, so that its answer is not copied once more.

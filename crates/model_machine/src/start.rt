@@ -1,17 +1,17 @@
 // The state that a model starts in.
 
-use model::Clock;
-use model::Ports;
-use model::State;
-use model::Threads;
-use model::within;
 use model_effects::active_in;
 use model_effects::live_in;
 use model_format::Timing;
+use model_semantics::Clock;
+use model_semantics::Ports;
+use model_semantics::State;
+use model_semantics::Threads;
+use model_tests::within;
 use numbers::Duration;
 use numbers::Value;
 ghost use mathlib.Core.Path.{_≡_};
-ghost use Rattle.model.specs.Machine as machine;
+ghost use Rattle.model_semantics.specs.Machine as machine;
 ghost use Rattle.model_machine.specs.Start as laws;
 
 fn first_behaviors(m: Timing) -> [u8; 16]

@@ -10,7 +10,7 @@ use records::is_none;
 use records::part_length_at;
 ghost use mathlib.Core.Path.{_≡_};
 ghost use Rattle.records.specs.Run.{tally};
-ghost use Rattle.model.specs.Machine as machine;
+ghost use Rattle.model_semantics.specs.Machine as machine;
 ghost use Rattle.model_machine.specs.Runs as runs;
 
 // The run of a model over a whole script: the event after a refused one meets the state that was there before.

@@ -1,15 +1,15 @@
 // Time: how many ticks pass before something can have an event, and TICK, which passes them at once.
 
 use crate::events::answered;
-use model::Clock;
-use model::Job;
-use model::State;
-use model::Stepped;
-use model::is_busy;
-use model::within;
 use model_format::Thread;
 use model_format::Timing;
 use model_format::switch_at;
+use model_semantics::Clock;
+use model_semantics::State;
+use model_semantics::Stepped;
+use model_tests::Job;
+use model_tests::is_busy;
+use model_tests::within;
 use numbers::Duration;
 use numbers::usize_of_u8;
 use records::Cause;
@@ -18,17 +18,17 @@ ghost use mathlib.Core.Bool.{false};
 ghost use Prim.Native.Nat.{ℕ, _+_, _<_, _≤_, min};
 ghost use lib.Dec.{eqb};
 ghost use Rattle.numbers.specs.Multiples.{isMultiple};
-ghost use Rattle.model.specs.Machine as machine;
+ghost use Rattle.model_semantics.specs.Machine as machine;
 ghost use Rattle.model_machine.specs.Quiet as quiet;
 
-fn least(a: u32, b: u32) -> u32
+pub fn least(a: u32, b: u32) -> u32
     ensures { λ r. ⌜ r ≡ min a b ⌝ }
 {
     if a < b { a } else { b }
 }
 
 // The ticks before Now is a multiple of p, at most n.
-fn to_multiple(now: u32, p: u32, n: u32) -> u32
+pub fn to_multiple(now: u32, p: u32, n: u32) -> u32
     ensures { λ r. ⌜ (r ≤ n) × ((i : ℕ) → i < r → isMultiple (now + i) p ≡ false) ⌝ }
 {
     if p == 0 {
@@ -65,7 +65,7 @@ fn to_done(spent: u32, length: u32, n: u32) -> u32
 }
 
 // For how many of n ticks a thread has no event.
-fn calm_ticks(k: Clock, x: Thread, j: Job, n: u32) -> u32
+pub fn calm_ticks(k: Clock, x: Thread, j: Job, n: u32) -> u32
     ensures { λ r. ⌜ (r ≤ n) × quiet.Calm k x j r ⌝ }
 {
     let code = j.code;
@@ -153,7 +153,7 @@ fn quiet_ticks(m: Timing, s: State, n: u32) -> u32
 }
 
 // n, and q more as far as 32 bits go.
-fn more_by(n: u32, q: u32) -> u32
+pub fn more_by(n: u32, q: u32) -> u32
     ensures { λ r. ⌜ r ≡ quiet.moreBy q n ⌝ }
 {
     if n <= 4294967295 - q {

@@ -30,15 +30,15 @@ use Rattle.model_format.specs.declared.Behavior.{Behavior}
 use Rattle.model_format.specs.declared.Model.{Model}
 use Rattle.model_format.specs.declared.Record.{Record}
 use Rattle.model_format.specs.declared.Record.the-variants.{HeadRecord, ThreadRecord, InputRecord, OutputRecord, LocalRecord, ConnectionRecord, ModeRecord, TransitionRecord, AtomRecord, AssignmentRecord, Cut, Unknown}
-use Rattle.model_format.specs.Format.{recordOf, kindOf}
+use Rattle.model_format.specs.Format.{recordOf, rankOf}
 use Rattle.model_format.specs.Model.{maxThreads, maxInputs, maxOutputs, maxLocals, maxConnections, maxSwitches, maxTransitions, maxEach, maxTimes, noTransition, noAssignment, emptyModel, transitionAt, assignmentAt}
 use Rattle.model_format.specs.Faultless.{faultless, both-false}
 use Rattle.model_format.specs.Reading.{lastTransition, causeOf, withCounts, nextReading, readFrom, readModel, addHead, addThread, addInput, addOutput, addLocal, addConnection, addSwitch, addTransition, addAtom, addAssignment, addRecord}
-use Rattle.model_causes.specs.declared.Stand.{Stand}
-use Rattle.model_causes.specs.declared.Found.{Found}
-use Rattle.model_causes.specs.declared.Four.{Four}
-use Rattle.model_causes.specs.Causes.{timingOf, nothing, foundIn, timingCause, behaviorCause, Owners}
-use Rattle.model_causes.specs.Laws.{openIn, timing-judged, behavior-judged}
+use Rattle.model_faults.specs.declared.Stand.{Stand}
+use Rattle.model_faults.specs.declared.Found.{Found}
+use Rattle.model_faults.specs.declared.Four.{Four}
+use Rattle.model_faults.specs.Causes.{timingOf, nothing, foundIn, timingCause, behaviorCause, Owners}
+use Rattle.model_faults.specs.Laws.{openIn, timing-judged, behavior-judged}
 use Rattle.model_reader.specs.declared.Start.{Start}
 use Rattle.model_reader.specs.declared.Half.{Half}
 
@@ -99,7 +99,7 @@ readOn s p n t = readAt s p (standing n t (emptyModel .behavior))
 
 -- the record there is not of kinds 01 to 07, unless one of a later kind has been
 abbrev pub Late : List ℕ → ℕ → Stand → Type 0
-Late s p n = p < length s → n .last < 8 → 8 ≤ kindOf (recordAt s p)
+Late s p n = p < length s → n .last < 8 → 8 ≤ rankOf (recordAt s p)
 
 pub record Begun (s : List ℕ) (h : Start) : Type 0 where
   pub whole : isNone (h .cause) ≡ true → readOn s (h .at) (h .stand) (h .timing) ≡ readModel s
@@ -116,7 +116,7 @@ none-is h = let y : _≡_ {A = ℕ} 0 1 = cc in absurd (omega arith)
 
 module _ (s : List ℕ) (p : ℕ) (n : Stand) (t : Timing) (h : Start) where
   module _ (e : h ≡ begun p n t) (i : readOn s p n t ≡ readModel s) where
-    pub begun-late : (r : Record) (k : ℕ) → r ≡ recordAt s p → k ≡ kindOf r → 8 ≤ k → Begun s h
+    pub begun-late : (r : Record) (k : ℕ) → r ≡ recordAt s p → k ≡ rankOf r → 8 ≤ k → Begun s h
     begun-late r k f g l = rw e (record { whole = λ z. i; refused = λ z. absurd (none-is z); late = λ z y x. rw (← f, ← g) l })
 
     pub begun-end : length s ≤ p → Begun s h
@@ -193,8 +193,8 @@ module _ (n : Stand) (k : ℕ) (h : placeOf n k < roomOf k) where
   unfolding placeOf roomOf
   switch-room e = rw e at h
 
-pub nothing-found : (m : Timing) (r : Record) (k : ℕ) → k ≡ kindOf r → (eqb k 6 || eqb k 7) ≡ false → nothing ≡ foundIn m r
-unfolding foundIn kindOf
+pub nothing-found : (m : Timing) (r : Record) (k : ℕ) → k ≡ rankOf r → (eqb k 6 || eqb k 7) ≡ false → nothing ≡ foundIn m r
+unfolding foundIn rankOf
 nothing-found m (HeadRecord x) k e h = refl
 nothing-found m (ThreadRecord x) k e h = refl
 nothing-found m (InputRecord o) k e h = refl
@@ -209,8 +209,8 @@ nothing-found m Cut k e h = refl
 nothing-found m Unknown k e h = refl
 
 -- a record without a cause has room
-pub timing-room : (n : Stand) (f : Found) (r : Record) → isNone (timingCause n f r) ≡ true → placeOf n (kindOf r) < roomOf (kindOf r)
-unfolding timingCause placeOf roomOf kindOf
+pub timing-room : (n : Stand) (f : Found) (r : Record) → isNone (timingCause n f r) ≡ true → placeOf n (rankOf r) < roomOf (rankOf r)
+unfolding timingCause placeOf roomOf rankOf
 timing-room n f (HeadRecord x) h = omega arith
 timing-room n f (ThreadRecord x) h = leb-false _ _ (faultless _ h .excess)
 timing-room n f (InputRecord o) h = leb-false _ _ (faultless _ h .excess)
@@ -250,41 +250,41 @@ withConnection t i x = record { modes = t .modes; initial = t .initial; threads 
 abbrev pub withSwitch : Timing → ℕ → ModeTransition → Timing
 withSwitch t i x = record { modes = t .modes; initial = t .initial; threads = t .threads; thread = t .thread; inputs = t .inputs; input = t .input; outputs = t .outputs; output = t .output; locals = t .locals; local = t .local; connections = t .connections; connection = t .connection; switches = t .switches; switch = set (t .switch) i x }
 
-pub timing-cause-is : (n : Stand) (t : Timing) (f : Found) (r : Record) (k : ℕ) (c : Cause) → k ≡ kindOf r → k < 8 → f ≡ foundIn (timingOf n t) r →
+pub timing-cause-is : (n : Stand) (t : Timing) (f : Found) (r : Record) (k : ℕ) (c : Cause) → k ≡ rankOf r → k < 8 → f ≡ foundIn (timingOf n t) r →
     c ≡ timingCause n f r → c ≡ causeOf (standing n t (emptyModel .behavior)) r
 timing-cause-is n t f r k c e h g i = i ∙ rw g (timing-judged (standing n t (emptyModel .behavior)) r (rw (← e) h))
 
-pub place-within : (n : Stand) (f : Found) (r v : Record) (k i : ℕ) → i ≡ placeOf n k → k ≡ kindOf r → isNone (timingCause n f r) ≡ true → r ≡ v → i < roomOf (kindOf v)
+pub place-within : (n : Stand) (f : Found) (r v : Record) (k i : ℕ) → i ≡ placeOf n k → k ≡ rankOf r → isNone (timingCause n f r) ≡ true → r ≡ v → i < roomOf (rankOf v)
 place-within n f r v k i a b h e = rw (a, b, ← e) (timing-room n f r h)
 
 -- r of kind k is accepted: n becomes m, and t becomes u
-module _ (n m : Stand) (t u : Timing) (b : Behavior) (f : Found) (r : Record) (k i : ℕ) (e : k ≡ kindOf r) (g : i ≡ placeOf n k) (h : isNone (timingCause n f r) ≡ true) where
+module _ (n m : Stand) (t u : Timing) (b : Behavior) (f : Found) (r : Record) (k i : ℕ) (e : k ≡ rankOf r) (g : i ≡ placeOf n k) (h : isNone (timingCause n f r) ≡ true) where
   pub head-added : (w : Stand) (x : Head) → w ≡ counted n k → r ≡ HeadRecord x → m ≡ headed w x → u ≡ t → standing m u b ≡ nextReading (standing n t b) r
-  unfolding counted addRecord addHead kindOf
+  unfolding counted addRecord addHead rankOf
   head-added w x a d c v = rw (c, v, a, e, d)
 
   pub thread-added : (x : Thread) → r ≡ ThreadRecord x → m ≡ counted n k → u ≡ withThread t i x → standing m u b ≡ nextReading (standing n t b) r
-  unfolding counted placeOf roomOf addRecord addThread kindOf
+  unfolding counted placeOf roomOf addRecord addThread rankOf
   thread-added x d c v = rw (c, v, g, e, d, lt-ltb (n .threads) maxThreads (rw (g, e, d) at (place-within n f r (ThreadRecord x) k i g e h d)))
 
   pub input-added : (o : ℕ) → r ≡ InputRecord o → m ≡ counted n k → u ≡ withInput t i o → standing m u b ≡ nextReading (standing n t b) r
-  unfolding counted placeOf roomOf addRecord addInput kindOf
+  unfolding counted placeOf roomOf addRecord addInput rankOf
   input-added o d c v = rw (c, v, g, e, d, lt-ltb (n .inputs) maxInputs (rw (g, e, d) at (place-within n f r (InputRecord o) k i g e h d)))
 
   pub output-added : (o : ℕ) → r ≡ OutputRecord o → m ≡ counted n k → u ≡ withOutput t i o → standing m u b ≡ nextReading (standing n t b) r
-  unfolding counted placeOf roomOf addRecord addOutput kindOf
+  unfolding counted placeOf roomOf addRecord addOutput rankOf
   output-added o d c v = rw (c, v, g, e, d, lt-ltb (n .outputs) maxOutputs (rw (g, e, d) at (place-within n f r (OutputRecord o) k i g e h d)))
 
   pub local-added : (x : Local) → r ≡ LocalRecord x → m ≡ counted n k → u ≡ withLocal t i x → standing m u b ≡ nextReading (standing n t b) r
-  unfolding counted placeOf roomOf addRecord addLocal kindOf
+  unfolding counted placeOf roomOf addRecord addLocal rankOf
   local-added x d c v = rw (c, v, g, e, d, lt-ltb (n .locals) maxLocals (rw (g, e, d) at (place-within n f r (LocalRecord x) k i g e h d)))
 
   pub connection-added : (x : Connection) → r ≡ ConnectionRecord x → m ≡ counted n k → u ≡ withConnection t i x → standing m u b ≡ nextReading (standing n t b) r
-  unfolding counted placeOf roomOf addRecord addConnection kindOf
+  unfolding counted placeOf roomOf addRecord addConnection rankOf
   connection-added x d c v = rw (c, v, g, e, d, lt-ltb (n .connections) maxConnections (rw (g, e, d) at (place-within n f r (ConnectionRecord x) k i g e h d)))
 
   pub switch-added : (x y : ModeTransition) → r ≡ ModeRecord x → f ≡ foundIn (timingOf n t) r → y ≡ withPeriods x f → m ≡ counted n k → u ≡ withSwitch t i y → standing m u b ≡ nextReading (standing n t b) r
-  unfolding counted placeOf roomOf addRecord addSwitch foundIn kindOf
+  unfolding counted placeOf roomOf addRecord addSwitch foundIn rankOf
   switch-added x y d p q c v = rw (c, v, g, e, q, p, d, lt-ltb (n .switches) maxSwitches (rw (g, e, d) at (place-within n f r (ModeRecord x) k i g e h d)))
 
 -- ---- the behaviours
@@ -308,13 +308,13 @@ module _ (b : Behavior) (l : ℕ) (e : l ≡ lastOf (b .transitions)) (h : b .tr
 
   pub behavior-cause-is : (n : Stand) (t : Timing) (o : List ℕ) (r : Record) (x : Transition) (q : Four) (c : Cause) → Owners t o → x ≡ getD (b .transition) l noTransition →
       q ≡ four (getD (b .assignment) (l * 4) noAssignment) (getD (b .assignment) (l * 4 + 1) noAssignment) (getD (b .assignment) (l * 4 + 2) noAssignment) (getD (b .assignment) (l * 4 + 3) noAssignment) →
-      (n .last < 8 → 8 ≤ kindOf r) → c ≡ behaviorCause n (b .transitions) x q o r → c ≡ causeOf (standing n t b) r
+      (n .last < 8 → 8 ≤ rankOf r) → c ≡ behaviorCause n (b .transitions) x q o r → c ≡ causeOf (standing n t b) r
   behavior-cause-is n t o r x q c w f g d i =
       i ∙ rw (open-is x f, g, first-is, item-is 1 (omega arith), item-is 2 (omega arith), item-is 3 (omega arith))
       (behavior-judged (standing n t b) o (record { inputs = w .inputs; locals = w .locals; outputs = w .outputs }) r d)
 
-late-kind : (n : Stand) (m : ℕ) (x : Transition) (q : Four) (o : List ℕ) (r : Record) → isNone (behaviorCause n m x q o r) ≡ true → 8 ≤ kindOf r
-unfolding behaviorCause kindOf numberOf
+late-kind : (n : Stand) (m : ℕ) (x : Transition) (q : Four) (o : List ℕ) (r : Record) → isNone (behaviorCause n m x q o r) ≡ true → 8 ≤ rankOf r
+unfolding behaviorCause rankOf numberOf
 late-kind n m x q o (HeadRecord z) h = let y : _≡_ {A = ℕ} 0 1 = cc in absurd (omega arith)
 late-kind n m x q o (ThreadRecord z) h = let y : _≡_ {A = ℕ} 0 1 = cc in absurd (omega arith)
 late-kind n m x q o (InputRecord z) h = let y : _≡_ {A = ℕ} 0 1 = cc in absurd (omega arith)
@@ -338,10 +338,10 @@ module _ (n : Stand) (m : ℕ) (x : Transition) (q : Four) (o : List ℕ) (r : R
   passed : isNone (behaviorCause n m x q o r) ≡ true
   passed = rw (← i) h
 
-  pub behavior-late : 8 ≤ kindOf r
+  pub behavior-late : 8 ≤ rankOf r
   behavior-late = late-kind n m x q o r passed
 
-  pub behavior-room : (k : ℕ) → k ≡ kindOf r → placeOf n k < roomOf k
+  pub behavior-room : (k : ℕ) → k ≡ rankOf r → placeOf n k < roomOf k
   behavior-room k e = let l = behavior-late in late-room n k (rw e l)
 
   pub transition-room : (y : Transition) → r ≡ TransitionRecord y → m < maxTransitions
@@ -357,26 +357,26 @@ module _ (n : Stand) (m : ℕ) (x : Transition) (q : Four) (o : List ℕ) (r : R
   assignment-room a e = leb-false _ _ (faultless _ (rw e at passed) .excess)
 
 -- r is accepted: n becomes m, and b becomes d, with u transitions
-module _ (n m : Stand) (t : Timing) (b d : Behavior) (r : Record) (k l u : ℕ) (x : Transition) (e : k ≡ kindOf r) (c : m ≡ counted n k) (o : u ≡ transitionsAfter (b .transitions) (m .last))
+module _ (n m : Stand) (t : Timing) (b d : Behavior) (r : Record) (k l u : ℕ) (x : Transition) (e : k ≡ rankOf r) (c : m ≡ counted n k) (o : u ≡ transitionsAfter (b .transitions) (m .last))
     (h : b .transitions ≤ maxTransitions) (g : l ≡ lastOf (b .transitions)) (f : x ≡ getD (b .transition) l noTransition) where
   abbrev Added : Type 0
   Added = (d .transitions ≤ maxTransitions) × (standing m t d ≡ nextReading (standing n t b) r)
 
   pub transition-added : (y : Transition) → r ≡ TransitionRecord y → b .transitions < maxTransitions →
       d ≡ record { transitions = u; transition = set (b .transition) (b .transitions) y; atom = b .atom; assignment = b .assignment } → Added
-  unfolding counted addRecord addTransition kindOf
+  unfolding counted addRecord addTransition rankOf
   transition-added y p q v = (rw (v, o, c, e, p) (omega arith), rw (v, o, c, e, p, lt-ltb (b .transitions) maxTransitions q))
 
   pub atom-added : (a : Atom) (y : Transition) (j : ℕ) → r ≡ AtomRecord a → x .atoms < maxEach → y ≡ withCounts x (x .atoms + 1) (x .assignments) → j ≡ x .atoms →
       d ≡ record { transitions = u; transition = set (b .transition) l y; atom = set (b .atom) (l * 4 + j) a; assignment = b .assignment } → Added
-  unfolding counted addRecord addAtom kindOf
+  unfolding counted addRecord addAtom rankOf
   atom-added a y j p z q i v = (rw (v, o, c, e, p) h, rw (v, o, c, e, p, q, i, ← open-is b l g h x f, g, lt-ltb (b .transitions - 1) maxTransitions (omega arith), lt-ltb ((b .transitions - 1) * maxEach + x .atoms) maxTimes (omega arith)))
 
   pub assignment-added : (a : Assignment) (y : Transition) (j : ℕ) → r ≡ AssignmentRecord a → x .assignments < maxEach → y ≡ withCounts x (x .atoms) (x .assignments + 1) → j ≡ x .assignments →
       d ≡ record { transitions = u; transition = set (b .transition) l y; atom = b .atom; assignment = set (b .assignment) (l * 4 + j) a } → Added
-  unfolding counted addRecord addAssignment kindOf
+  unfolding counted addRecord addAssignment rankOf
   assignment-added a y j p z q i v = (rw (v, o, c, e, p) h, rw (v, o, c, e, p, q, i, ← open-is b l g h x f, g, lt-ltb (b .transitions - 1) maxTransitions (omega arith), lt-ltb ((b .transitions - 1) * maxEach + x .assignments) maxTimes (omega arith)))
 
-pub late-next : (s : List ℕ) (p : ℕ) (n m : Stand) (k : ℕ) (r : Record) → m ≡ counted n k → k ≡ kindOf r → 8 ≤ kindOf r → Late s p m
+pub late-next : (s : List ℕ) (p : ℕ) (n m : Stand) (k : ℕ) (r : Record) → m ≡ counted n k → k ≡ rankOf r → 8 ≤ rankOf r → Late s p m
 unfolding counted
 late-next s p n m k r c e h = rw (c, e) (λ z l. absurd (omega arith))

@@ -1,15 +1,15 @@
 // Reading a model: its records one by one, up to the first that is refused. Two loops, before the behaviours and over them, each of which
 // stores into the struct that it holds: a model handed on by value for each record would be copied.
 
-use model_causes::Found;
-use model_causes::Four;
-use model_causes::Stand;
-use model_causes::behavior_cause;
-use model_causes::found_in;
-use model_causes::nothing;
-use model_causes::owners_of;
-use model_causes::timing_cause;
-use model_causes::timing_of;
+use model_faults::Found;
+use model_faults::Four;
+use model_faults::Stand;
+use model_faults::behavior_cause;
+use model_faults::found_in;
+use model_faults::nothing;
+use model_faults::owners_of;
+use model_faults::timing_cause;
+use model_faults::timing_of;
 use model_format::Assignment;
 use model_format::Behavior;
 use model_format::Head;
@@ -20,7 +20,7 @@ use model_format::Record;
 use model_format::Timing;
 use model_format::Transition;
 use model_format::empty_model;
-use model_format::kind_of;
+use model_format::rank_of;
 use model_format::record_of;
 use numbers::Duration;
 use numbers::usize_of_u8;
@@ -186,7 +186,7 @@ fn read_timing(s: &[u8], empty: Timing) -> Start
     let mut at: usize = 0;
     while at < s.len() {
         let r = record_at(s, at);
-        let k = kind_of(r);
+        let k = rank_of(r);
         if 8 <= k {
             return begun(at, n, t);
         }
@@ -340,7 +340,7 @@ fn read_behaviors(s: &[u8], from: usize, start: Stand, t: Timing, empty: Behavio
         if !records::is_none(c) {
             return refused(c, at, end_at(s, at));
         }
-        n = counted(n, kind_of(r));
+        n = counted(n, rank_of(r));
         b.transitions = transitions_after(m, n.last);
         match r {
             Record::TransitionRecord(y) => b.transition[m] = y,

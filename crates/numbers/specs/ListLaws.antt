@@ -1,16 +1,17 @@
 -- Laws of arrays with a room, and of loops over the numbers below n.
 use mathlib.Core.Path.{_≡_, refl, sym, _∙_, ap}
 use mathlib.Core.Bool.{Bool, true, false, cond, _&&_, _||_}
-use mathlib.Core.List.{List, [], _++_}
+use mathlib.Core.List.{List, [], _∷_, _++_}
 use Prim.Native.Nat.{ℕ, zero, suc, _+_, _<_, _≤_}
 use native.Mathlib.Omega.{arith}
-use native.Mathlib.Decide.{decLt}
+use native.Mathlib.Decide.{decLt, ℕ-discrete}
+use native.Mathlib.Nat.{add-zero}
 use native.Mathlib.Numerals.{add-one}
 use lib.Dec.{ltb}
-use lib.ListN.{getD, set, length, length-set}
-use lib.Seq.{getD-set-same, getD-set-other}
+use lib.ListN.{getD, set, length, length-set, length-append, replicate, length-replicate, getD-replicate, List·getD-append}
+use lib.Seq.{getD-set-same, getD-set-other, getD-at, ext-getD, sets}
 use borrow.Author.Tests.{lt-ltb, le-ltb, ltb-true}
-use Rattle.numbers.specs.Lists.{item, store, anyBelow, allBelow, foldBelow, firstBelow, joinBelow}
+use Rattle.numbers.specs.Lists.{item, store, anyBelow, allBelow, foldBelow, firstBelow, joinBelow, listBelow}
 
 -- ---- arrays
 module _ {ℓ} {A : Type ℓ} (room : ℕ) (l : List A) where
@@ -160,3 +161,77 @@ first-within (suc n) p = go (ltb (firstBelow n p) n) (p n) refl
     go true c e = let l = ltb-true (firstBelow n p) n e in omega arith
     go false true e = omega arith
     go false false e = omega arith
+
+-- ---- lists of n elements
+module _ {ℓ} {A : Type ℓ} where
+  pub length-list-below : (n : ℕ) (f : ℕ → A) → length (listBelow n f) ≡ n
+  unfolding listBelow
+  length-list-below zero f = refl
+  length-list-below (suc n) f = length-append (listBelow n f) (f n ∷ []) ∙ rw (length-list-below n f) (omega arith)
+
+  pub list-below-at : (n : ℕ) (f : ℕ → A) (i : ℕ) (d : A) → i < n → getD (listBelow n f) i d ≡ f i
+  unfolding listBelow
+  list-below-at zero f i d h = absurd (omega arith)
+  list-below-at (suc n) f i d h = go (list-below-at n f i d) (decLt i n)
+    where
+      go : (i < n → getD (listBelow n f) i d ≡ f i) → Dec (i < n) → getD (listBelow n f ++ (f n ∷ [])) i d ≡ f i
+      go ih (yes l) = List·getD-append (listBelow n f) (f n ∷ []) d i (omega (arith, length-list-below n f)) ∙ ih l
+      go ih (no l) =
+          let e : i ≡ n = omega arith in
+          getD-at (listBelow n f) (f n) [] d i (length-list-below n f ∙ sym e) ∙ ap f (sym e)
+
+  -- as an array whose room they fill
+  pub item-below : (n : ℕ) (f : ℕ → A) (i : ℕ) (d : A) → item n (listBelow n f) i d ≡ cond (ltb i n) (f i) d
+  item-below n f i d = go (decLt i n)
+    where
+      go : Dec (i < n) → item n (listBelow n f) i d ≡ cond (ltb i n) (f i) d
+      go (yes l) = rw (lt-ltb i n l) (list-below-at n f i d l)
+      go (no l) = rw (le-ltb i n (omega arith))
+
+  pub list-below-is : (n : ℕ) (f : ℕ → A) (l : List A) (d : A) → length l ≡ n → ((i : ℕ) → i < n → f i ≡ getD l i d) → listBelow n f ≡ l
+  list-below-is n f l d e h =
+      ext-getD d (listBelow n f) l (length-list-below n f ∙ sym e)
+      (λ i b. let k : i < n = omega (arith, length-list-below n f) in list-below-at n f i d k ∙ h i k)
+
+  pub list-below-same : (n : ℕ) (f g : ℕ → A) → ((i : ℕ) → i < n → f i ≡ g i) → listBelow n f ≡ listBelow n g
+  unfolding listBelow
+  list-below-same zero f g h = refl
+  list-below-same (suc n) f g h = rw (list-below-same n f g (λ i l. h i (omega arith)), h n (omega arith))
+
+  -- all elements the same
+  pub list-below-replicate : (n : ℕ) (f : ℕ → A) (a : A) → ((i : ℕ) → i < n → f i ≡ a) → listBelow n f ≡ replicate n a
+  list-below-replicate n f a h = list-below-is n f (replicate n a) a (length-replicate n a) (λ i l. h i l ∙ sym (getD-replicate n i a a l))
+
+  -- g is f but for a at i
+  pub list-below-store : (n : ℕ) (f g : ℕ → A) (i : ℕ) (a : A) → (i < n → g i ≡ a) → ((j : ℕ) → j < n → (j ≡ i → ⊥) → g j ≡ f j) →
+      listBelow n g ≡ store n (listBelow n f) i a
+  list-below-store n f g i a same other =
+      list-below-is n g (store n (listBelow n f) i a) a (length-store n (listBelow n f) i a ∙ length-list-below n f)
+      (λ j l. at j l (ℕ-discrete j i) ∙ item-within n (store n (listBelow n f) i a) j a l)
+    where
+      at : (j : ℕ) → j < n → Dec (j ≡ i) → g j ≡ item n (store n (listBelow n f) i a) j a
+      at j l (yes e) =
+          let k : i < n = omega arith in
+          rw e (same k ∙ sym (item-store-same n (listBelow n f) i a a k (omega (arith, length-list-below n f))))
+      at j l (no e) =
+          other j l e ∙ sym (item-store-other n (listBelow n f) i j a a e ∙ item-within n (listBelow n f) j a l ∙ list-below-at n f j a l)
+
+-- ---- elements vs stored one after the other from p on
+module _ {ℓ} {A : Type ℓ} where
+  pub sets-before : (vs l : List A) (p i : ℕ) (d : A) → i < p → getD (sets l p vs) i d ≡ getD l i d
+  sets-before [] l p i d h = refl
+  sets-before (v ∷ vs) l p i d h = sets-before vs (set l p v) (suc p) i d (omega arith) ∙ getD-set-other l p i v d (λ e. absurd (omega arith))
+
+  pub sets-after : (vs l : List A) (p i : ℕ) (d : A) → p + length vs ≤ i → getD (sets l p vs) i d ≡ getD l i d
+  sets-after [] l p i d h = refl
+  sets-after (v ∷ vs) l p i d h = sets-after vs (set l p v) (suc p) i d (omega arith) ∙ getD-set-other l p i v d (λ e. absurd (omega arith))
+
+  pub sets-first : (v : A) (vs l : List A) (p : ℕ) (d : A) → p < length l → getD (sets l p (v ∷ vs)) p d ≡ v
+  sets-first v vs l p d h = sets-before vs (set l p v) (suc p) p d (omega arith) ∙ getD-set-same l p v d h
+
+  pub sets-at : (vs l : List A) (p k : ℕ) (d : A) → k < length vs → p + k < length l → getD (sets l p vs) (p + k) d ≡ getD vs k d
+  sets-at [] l p k d h b = absurd (omega arith)
+  sets-at (v ∷ vs) l p zero d h b = rw (add-zero p) (sets-first v vs l p d (omega arith))
+  sets-at (v ∷ vs) l p (suc k) d h b =
+      let e : p + suc k ≡ suc p + k = omega arith in
+      rw e (sets-at vs (set l p v) (suc p) k d (omega arith) (rw (length-set l p v) (omega arith)))

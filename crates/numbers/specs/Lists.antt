@@ -38,6 +38,11 @@ unfoldable pub joinBelow {ℓ} : {A : Type ℓ} → ℕ → (ℕ → List A) →
 joinBelow zero f = []
 joinBelow (suc n) f = joinBelow n f ++ f n
 
+-- the list f 0, f 1, .. of n elements
+unfoldable pub listBelow {ℓ} : {A : Type ℓ} → ℕ → (ℕ → A) → List A
+listBelow zero f = []
+listBelow (suc n) f = listBelow n f ++ (f n ∷ [])
+
 -- the list of one element where the test passes
 abbrev pub only {ℓ} : {A : Type ℓ} → Bool → A → List A
 only b a = cond b (a ∷ []) []

@@ -238,6 +238,23 @@ pub fn put32(d: &mut [u8], at: usize, n: u32)
     put_after(d, at, 3, (n / 256 / 256 / 256 % 256) as u8);
 }
 
+// ---- numbers of a list
+// The number at a place; past the end, 0.
+pub fn word_at(l: &[u32], i: usize) -> u32
+    ensures { λ r. ⌜ r ≡ getD (now (l .entry)) i 0 ⌝ }
+{
+    if i < l.len() { l[i] } else { 0 }
+}
+
+// A number put at a place; past the end, nothing is put.
+pub fn put_word(l: &mut [u32], i: usize, n: u32)
+    ensures { λ r. ⌜ now (l .exit) ≡ set (now (l .entry)) i n ⌝ }
+{
+    if i < l.len() {
+        l[i] = n;
+    }
+}
+
 // One more, and no more than 32 bits hold: for Missed of a model's thread. Spent, the definition's other use, gains many ticks at once.
 pub fn one_more(n: u32) -> u32
     ensures { λ r. ⌜ r ≡ values.oneMore n ⌝ }

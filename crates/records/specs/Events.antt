@@ -1,13 +1,14 @@
 -- Events: "numbered across model and table alike".
 use mathlib.Core.Bool.{Bool, cond, _&&_, _||_}
 use mathlib.Core.List.{List}
-use Prim.Native.Nat.{ℕ}
-use lib.ListN.{getD}
+use Prim.Native.Nat.{ℕ, _+_}
+use lib.ListN.{getD, take, drop}
 use lib.Dec.{eqb}
 use Rattle.numbers.specs.Values.{u16At, u32At}
 use Rattle.records.specs.declared.Notation.the-variants.{Script}
 use Rattle.records.specs.declared.Event.{Event}
-use Rattle.records.specs.Format.{recordSize, isWhole}
+use Rattle.records.specs.declared.Listed.{Listed}
+use Rattle.records.specs.Format.{recordSize, partLengthAt, isWhole}
 
 -- The kinds. DISPATCH, START, REQUEST and TICK are asked for by name outside the match over kinds.
 abbrev pub dispatchKind : ℕ
@@ -35,6 +36,10 @@ eventOfWhole k x =
 -- the event that a part of the list holds
 unfoldable pub eventOf : List ℕ → Event
 eventOf x = cond (isWhole Script x) (eventOfWhole (getD x 0 0) x) noEvent
+
+-- the event that begins at a place of the list, and the place after it
+unfoldable pub listedAt : List ℕ → ℕ → Listed
+listedAt s p = let n = partLengthAt Script s p in record { event = eventOf (take n (drop p s)); end = p + n }
 
 -- "id or n": the last figure of an event's line
 unfoldable pub figureOf : Event → ℕ

@@ -15,9 +15,9 @@ use Rattle.records.specs.declared.Cause.{Cause}
 use Rattle.records.specs.declared.Event.{Event}
 use Rattle.records.specs.Format.{recordSize, partLength, partLengthAt, partsFrom, parts}
 use Rattle.records.specs.Refusals.{isNone, inScript, noRefusal}
-use Rattle.records.specs.Events.{eventOf}
+use Rattle.records.specs.Events.{noEvent, eventOf, listedAt}
 use Rattle.records.specs.Run.{Machine, runFrom, stagesFrom, tallyFrom}
-use Rattle.records.specs.Laws.{length-at}
+use Rattle.records.specs.Laws.{length-at, length-past}
 
 -- bytes to be passed over, passed over at once
 passed : (w : Notation) (n : ℕ) (l : List ℕ) → partsFrom w n l ≡ parts w (drop n l)
@@ -139,3 +139,17 @@ module _ {S : Type 0} (mac : Machine S) (s : List ℕ) (p : ℕ) (a : S) where
         tallyFrom b k (r + 1) (stagesFrom mac b (p + m) (parts Script (drop (p + m) s))) ≡ tallyFrom a k r (stagesFrom mac a p (parts Script (drop p s)))
     unfolding tallyFrom
     tally-refused k r c b g w n = rw (← stages-on c b g w, n)
+
+-- ---- the event at a place: past the end there is none
+pub listed-past : (s : List ℕ) (p : ℕ) → length s ≤ p → record { event = noEvent; end = p } ≡ listedAt s p
+unfolding listedAt eventOf recordSize
+listed-past s p h =
+    let n : partLengthAt Script s p ≡ 0 = sym (length-past Script s p h) in
+    rw n (ap (λ (q : ℕ). record { event = noEvent; end = q }) (omega arith))
+
+pub listed-within : (s : List ℕ) (p n : ℕ) (e : Event) → n ≡ partLengthAt Script s p → e ≡ eventOf (take (p + n - p) (drop p s)) → record { event = e; end = p + n } ≡ listedAt s p
+unfolding listedAt
+listed-within s p n e f g =
+    let h : p + n - p ≡ n = omega arith in
+    let k : e ≡ eventOf (take n (drop p s)) = rw h at g in
+    rw (k, f) refl

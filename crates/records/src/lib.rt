@@ -1,5 +1,38 @@
 // What models, tables and event lists share: the record grammar, the refusals, and events.
 
+mod kinds;
+
+pub use kinds::ACTIVATE;
+pub use kinds::CLAUSE_SIZE;
+pub use kinds::COMPLETE;
+pub use kinds::DEACTIVATE;
+pub use kinds::DEADLINE;
+pub use kinds::DISPATCH;
+pub use kinds::ENTER;
+pub use kinds::LAST_CLOCK;
+pub use kinds::LEAVE;
+pub use kinds::MISS;
+pub use kinds::MODEL_ASSIGNMENT;
+pub use kinds::MODEL_ATOM;
+pub use kinds::MODEL_CONNECTION;
+pub use kinds::MODEL_HEAD;
+pub use kinds::MODEL_INPUT;
+pub use kinds::MODEL_LOCAL;
+pub use kinds::MODEL_OUTPUT;
+pub use kinds::MODEL_SWITCH;
+pub use kinds::MODEL_THREAD;
+pub use kinds::MODEL_TRANSITION;
+pub use kinds::REQUEST;
+pub use kinds::RULE_SIZE;
+pub use kinds::START;
+pub use kinds::TABLE_ATOM;
+pub use kinds::TABLE_ATOM_SIZE;
+pub use kinds::TABLE_CLAUSE;
+pub use kinds::TABLE_RULE;
+pub use kinds::TABLE_START;
+pub use kinds::TABLE_UPDATE;
+pub use kinds::TICK;
+pub use kinds::UPDATE_SIZE;
 use numbers::Value;
 ghost use mathlib.Core.Path.{_≡_};
 ghost use Prim.Native.Nat.{_-_, _≤_, _<_, min};
@@ -7,7 +40,7 @@ ghost use lib.ListN.{take, drop};
 ghost use Rattle.records.specs.declared.Notation.the-variants as notations;
 ghost use Rattle.records.specs.Format.{recordSize, partLength, partLengthAt, isWhole, operandAt};
 ghost use Rattle.records.specs.Refusals.{numberOf, isNone, partOf};
-ghost use Rattle.records.specs.Events.{eventOf, figureOf, isBroken};
+ghost use Rattle.records.specs.Events.{eventOf, listedAt, figureOf, isBroken};
 
 // The three languages of records: each has kinds of its own.
 pub enum Notation {
@@ -66,16 +99,16 @@ fn model_size(k: u8) -> usize
     ensures { λ r. ⌜ r ≡ recordSize notations.Model k ⌝ }
 {
     match k {
-        1 => 3,
-        2 => 20,
-        3 => 2,
-        4 => 2,
-        5 => 6,
-        6 => 5,
-        7 => 3,
-        8 => 4,
-        9 => 9,
-        10 => 14,
+        MODEL_HEAD => 3,
+        MODEL_THREAD => 20,
+        MODEL_INPUT => 2,
+        MODEL_OUTPUT => 2,
+        MODEL_LOCAL => 6,
+        MODEL_CONNECTION => 5,
+        MODEL_SWITCH => 3,
+        MODEL_TRANSITION => 4,
+        MODEL_ATOM => 9,
+        MODEL_ASSIGNMENT => 14,
         _ => 0,
     }
 }
@@ -84,11 +117,11 @@ fn table_size(k: u8) -> usize
     ensures { λ r. ⌜ r ≡ recordSize notations.Table k ⌝ }
 {
     match k {
-        32 => 7,
-        33 => 11,
-        34 => 1,
-        35 => 9,
-        36 => 17,
+        TABLE_START => 7,
+        TABLE_RULE => RULE_SIZE,
+        TABLE_CLAUSE => CLAUSE_SIZE,
+        TABLE_ATOM => TABLE_ATOM_SIZE,
+        TABLE_UPDATE => UPDATE_SIZE,
         _ => 0,
     }
 }
@@ -97,17 +130,17 @@ fn script_size(k: u8) -> usize
     ensures { λ r. ⌜ r ≡ recordSize notations.Script k ⌝ }
 {
     match k {
-        1 => 2,
-        2 => 2,
-        3 => 2,
-        4 => 6,
-        5 => 2,
-        6 => 2,
-        7 => 2,
-        8 => 2,
-        9 => 2,
-        10 => 2,
-        11 => 3,
+        ACTIVATE => 2,
+        DEACTIVATE => 2,
+        DISPATCH => 2,
+        START => 6,
+        COMPLETE => 2,
+        DEADLINE => 2,
+        MISS => 2,
+        REQUEST => 2,
+        ENTER => 2,
+        LEAVE => 2,
+        TICK => 3,
         _ => 0,
     }
 }
@@ -233,7 +266,7 @@ pub fn event_of(x: &[u8]) -> Event
         };
     }
     let k = numbers::byte_at(x, 0);
-    if k == 11 {
+    if k == TICK {
         let n = numbers::u32_of_u16(numbers::u16_at(x, 1));
         return Event {
             kind: k,
@@ -242,7 +275,7 @@ pub fn event_of(x: &[u8]) -> Event
         };
     }
     let i = numbers::byte_at(x, 1);
-    if k == 4 {
+    if k == START {
         let n = numbers::u32_at(x, 2);
         return Event {
             kind: k,
@@ -257,12 +290,38 @@ pub fn event_of(x: &[u8]) -> Event
     }
 }
 
+// The event that begins at a place of a list, and the place after it.
+pub struct Listed {
+    pub event: Event,
+    pub end: usize,
+}
+
+pub fn event_at(script: &[u8], at: usize) -> Listed
+    ensures { λ r. ⌜ r ≡ listedAt (now (script .entry)) at ⌝ }
+{
+    if script.len() <= at {
+        let none = Event {
+            kind: 0,
+            id: 0,
+            amount: 0,
+        };
+        return Listed {
+            event: none,
+            end: at,
+        };
+    }
+    let w = Notation::Script;
+    let end = at + part_length_at(w, script, at);
+    let e = event_of(&script[at..end]);
+    Listed { event: e, end: end }
+}
+
 // The last figure of an event's line: the id, or TICK's n.
 pub fn figure_of(e: Event) -> u32
     ensures { λ r. ⌜ r ≡ figureOf e ⌝ }
 {
     let k = e.kind;
-    if k == 11 {
+    if k == TICK {
         e.amount
     } else {
         let i = e.id;
@@ -278,5 +337,5 @@ pub fn is_broken(e: Event) -> bool
     let n = e.amount;
     let w = Notation::Script;
     let m = record_size(w, k);
-    (m == 0) | ((k == 11) & (n == 0))
+    (m == 0) | ((k == TICK) & (n == 0))
 }

@@ -12,14 +12,14 @@ use Rattle.records.specs.Events.{isBroken}
 use Rattle.model_format.specs.declared.Model.{Model}
 use Rattle.model_format.specs.Model.{threadAt}
 use Rattle.model_format.specs.WellFormed.{WellFormed}
-use Rattle.model.specs.declared.State.{State}
-use Rattle.model.specs.State.{isActive}
-use Rattle.model.specs.Tests.{canActivate, canDeactivate, canDispatch, canStart, canComplete, canMeetDeadline, canMiss, canEnter, canLeave}
-use Rattle.model.specs.Machine as model-machine
-use Rattle.table.specs.declared.Variables.{Variables}
-use Rattle.table.specs.Machine as table-machine
-use Rattle.translate.specs.Shown.{bit}
-use Rattle.translate.specs.Rules.{rulesOf, activateRules, deactivateRules, dispatchRules, startRules, enterRules, leaveRules}
+use Rattle.model_semantics.specs.declared.State.{State}
+use Rattle.model_semantics.specs.State.{isActive}
+use Rattle.model_semantics.specs.Tests.{canActivate, canDeactivate, canDispatch, canStart, canComplete, canMeetDeadline, canMiss, canEnter, canLeave}
+use Rattle.model_semantics.specs.Machine as model-machine
+use Rattle.table_semantics.specs.declared.Variables.{Variables}
+use Rattle.table_semantics.specs.Machine as table-machine
+use Rattle.translation.specs.Shown.{bit}
+use Rattle.translation.specs.Rules.{rulesOf, activateRules, deactivateRules, dispatchRules, startRules, enterRules, leaveRules}
 use Rattle.simulation.specs.Compared.{Dispatched}
 use Rattle.simulation.specs.Match.{Match}
 use Rattle.simulation.specs.Effects.{firstUpdates, after-dispatch}
@@ -32,7 +32,8 @@ use Rattle.simulation.specs.EffectModes.{enter-does, leave-does}
 use Rattle.simulation.specs.GuardStart.{mayStart, start-test}
 use Rattle.simulation.specs.GuardComplete.{completeRule}
 use Rattle.simulation.specs.GuardRules.{activate-rules, deactivate-rules, dispatch-rules, start-rules, complete-rules, request-rules, deadline-rules, miss-rules, enter-rules, leave-rules}
-use Rattle.simulation.specs.Kinds.{model-broken, model-activate, model-deactivate, model-dispatch, model-start, model-complete, model-deadline, model-miss, model-request, model-enter, model-leave, table-broken, table-fires}
+use Rattle.reached.specs.Kinds.{model-broken, model-activate, model-deactivate, model-dispatch, model-start, model-complete, model-deadline, model-miss, model-request, model-enter, model-leave}
+use Rattle.simulation.specs.Kinds.{table-broken, table-fires}
 use Rattle.simulation.specs.Step.{After, refused-states, by-rule, by-start, other-does}
 
 -- the first of two tests that both pass

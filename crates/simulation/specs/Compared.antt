@@ -14,17 +14,17 @@ use Rattle.records.specs.Run.{Stage}
 use Rattle.model_format.specs.declared.Timing.{Timing}
 use Rattle.model_format.specs.declared.Model.{Model}
 use Rattle.model_format.specs.Reading.{readModel}
-use Rattle.model.specs.declared.State.{State}
-use Rattle.model.specs.State.{codeOf, lengthOf, spentOf, nowOf}
-use Rattle.model.specs.Tests.{execution, dueOf}
-use Rattle.model.specs.Machine.{startState, runModel, modelStages}
-use Rattle.table.specs.declared.Variables.{Variables}
-use Rattle.table.specs.Rules.{valueOf}
-use Rattle.table.specs.Machine.{startVariables, clockOf, runTable, tableStages}
+use Rattle.model_semantics.specs.declared.State.{State}
+use Rattle.model_semantics.specs.State.{codeOf, lengthOf, spentOf, nowOf}
+use Rattle.model_semantics.specs.Tests.{execution, dueOf}
+use Rattle.model_semantics.specs.Machine.{startState, runModel, modelStages}
+use Rattle.table_semantics.specs.declared.Variables.{Variables}
+use Rattle.table_semantics.specs.Rules.{valueOf}
+use Rattle.table_semantics.specs.Machine.{startVariables, clockOf, runTable, tableStages}
 use Rattle.table_format.specs.Variables.{variables, dueVar, endVar}
 use Rattle.table_format.specs.Reading.{readTable}
 use Rattle.table_format.specs.Table.{tableOf}
-use Rattle.translate.specs.Shown.{inBlock, standsFor}
+use Rattle.translation.specs.Shown.{inBlock, standsFor}
 
 -- "once dispatched": the threads of which a DISPATCH was taken so far
 abbrev pub Dispatched : Type 0

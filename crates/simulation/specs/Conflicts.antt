@@ -16,18 +16,18 @@ use Rattle.records.specs.Format.{parts}
 use Rattle.records.specs.Run.{Stage, stagesFrom}
 use Rattle.model_format.specs.declared.Timing.{Timing}
 use Rattle.model_format.specs.declared.Model.{Model}
-use Rattle.model.specs.declared.State.{State}
-use Rattle.model.specs.declared.Stepped.{Stepped}
-use Rattle.model.specs.State.{nowOf}
-use Rattle.model.specs.Tests.{isBusy}
-use Rattle.model.specs.Effects.{tick}
-use Rattle.model.specs.Machine.{attempt, ticks, step, startState, machineOf, modelStages}
-use Rattle.model.specs.MachineLaws.{step-is}
-use Rattle.table.specs.declared.Variables.{Variables}
-use Rattle.table.specs.Machine.{tableStages}
+use Rattle.model_semantics.specs.declared.State.{State}
+use Rattle.model_semantics.specs.declared.Stepped.{Stepped}
+use Rattle.model_semantics.specs.State.{nowOf}
+use Rattle.model_semantics.specs.Tests.{isBusy}
+use Rattle.model_semantics.specs.Effects.{tick}
+use Rattle.model_semantics.specs.Machine.{attempt, ticks, step, startState, machineOf, modelStages}
+use Rattle.model_semantics.specs.MachineLaws.{step-is}
+use Rattle.table_semantics.specs.declared.Variables.{Variables}
+use Rattle.table_semantics.specs.Machine.{tableStages}
 use Rattle.table_format.specs.All.{All}
 use Rattle.model_format.specs.WellFormed.{WellFormed}
-use Rattle.translate.specs.Translate.{tableBytes}
+use Rattle.translation.specs.Translate.{tableBytes}
 use Rattle.simulation.specs.Simulation.{demand-3}
 use Rattle.simulation.specs.Compared.{Dispatched, noneYet, andAfter, Lockstep, Demand3}
 

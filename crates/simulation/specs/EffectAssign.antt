@@ -2,7 +2,7 @@
 use mathlib.Core.Path.{_≡_, refl, sym, _∙_}
 use mathlib.Core.Bool.{Bool, true, false, cond, _&&_, not}
 use mathlib.Core.List.{List, [], _∷_}
-use Prim.Native.Nat.{ℕ, _+_, _<_, _≤_}
+use Prim.Native.Nat.{ℕ, _<_, _≤_}
 use native.Mathlib.Omega.{arith}
 use native.Mathlib.Decide.{ℕ-discrete}
 use lib.Dec.{eqb}
@@ -15,17 +15,17 @@ use Rattle.numbers.specs.Values.{natural, combine}
 use Rattle.model_format.specs.declared.Assignment.{Assignment}
 use Rattle.model_format.specs.declared.Timing.{Timing}
 use Rattle.model_format.specs.declared.Behavior.{Behavior}
-use Rattle.model_format.specs.Model.{maxOutputs, assignmentAt}
+use Rattle.model_format.specs.Model.{maxOutputs, assignmentAt, maxLocals}
 use Rattle.model_format.specs.Reading.{namesItem}
 use Rattle.model_format.specs.WellFormed.{GoodTiming, GoodAssignment}
-use Rattle.model.specs.declared.State.{State}
-use Rattle.model.specs.State.{outputValue}
-use Rattle.model.specs.Effects.{assignedValue, assign}
+use Rattle.model_semantics.specs.declared.State.{State}
+use Rattle.model_semantics.specs.State.{outputValue}
+use Rattle.model_semantics.specs.Effects.{assignedValue, assign}
 use Rattle.table_format.specs.declared.Update.{Update}
-use Rattle.table_format.specs.Variables.{outputVar, localVar}
-use Rattle.table.specs.Rules.{valueOf, applies}
-use Rattle.translate.specs.Parts.{variable, Expression, copied, update}
-use Rattle.translate.specs.Rules.{variableOf, assignedExpression, assignmentUpdates, sentExpression}
+use Rattle.table_format.specs.Variables.{outputVar, localVar, localRoom}
+use Rattle.table_semantics.specs.Rules.{valueOf, applies}
+use Rattle.translation.specs.Parts.{variable, Expression, copied, update}
+use Rattle.translation.specs.Rules.{variableOf, assignedExpression, assignmentUpdates, sentExpression}
 use Rattle.simulation.specs.Compared.{Dispatched}
 use Rattle.simulation.specs.Match.{Match}
 use Rattle.simulation.specs.Guards.{eqb-swap}
@@ -54,57 +54,57 @@ good-target m a g = record {
         absurd (mathlib.Core.Bool.false≢true z)
 
 module _ (m : Timing) (g : GoodTiming m) (tag number : ℕ) (t : Target m tag number) where
-  target-range : (224 ≤ variableOf tag number) × (variableOf tag number < 288)
+  target-range : (outputVar 0 ≤ variableOf tag number) × (variableOf tag number < localVar localRoom)
   unfolding variableOf
   target-range = go (ℕ-discrete tag 3)
     where
-      go : Dec (tag ≡ 3) → (224 ≤ variableOf tag number) × (variableOf tag number < 288)
-      go (yes e) = let a : number < m .outputs = t .output e in let b : m .outputs ≤ 32 = g .outputs in rw e (omega arith, omega arith)
+      go : Dec (tag ≡ 3) → (outputVar 0 ≤ variableOf tag number) × (variableOf tag number < localVar localRoom)
+      go (yes e) = let a : number < m .outputs = t .output e in let b : m .outputs ≤ maxOutputs = g .outputs in rw e (omega arith, omega arith)
       go (no n) =
           let e : tag ≡ 2 = t .else n in
           let a : number < m .locals = t .local e in
-          let b : m .locals ≤ 32 = g .locals in
+          let b : m .locals ≤ maxLocals = g .locals in
           rw e (omega arith, omega arith)
 
   -- the target among the outputs, and among the locals
-  pub output-target : (i : ℕ) → i < 32 → eqb (224 + i) (variableOf tag number) ≡ (eqb tag 3 && eqb i number)
+  pub output-target : (i : ℕ) → i < maxOutputs → eqb (outputVar i) (variableOf tag number) ≡ (eqb tag 3 && eqb i number)
   unfolding variableOf
   output-target i l = go (ℕ-discrete tag 3)
     where
-      go : Dec (tag ≡ 3) → eqb (224 + i) (variableOf tag number) ≡ (eqb tag 3 && eqb i number)
-      go (yes e) = rw e (shifted 224 i number)
-      go (no n) = let e : tag ≡ 2 = t .else n in rw e (ne-eqb (224 + i) (256 + number) (λ q. omega arith))
+      go : Dec (tag ≡ 3) → eqb (outputVar i) (variableOf tag number) ≡ (eqb tag 3 && eqb i number)
+      go (yes e) = rw e (shifted (outputVar 0) i number)
+      go (no n) = let e : tag ≡ 2 = t .else n in rw e (ne-eqb (outputVar i) (localVar number) (λ q. omega arith))
 
-  pub local-target : (i : ℕ) → i < 32 → eqb (256 + i) (variableOf tag number) ≡ (not (eqb tag 3) && eqb i number)
+  pub local-target : (i : ℕ) → i < maxLocals → eqb (localVar i) (variableOf tag number) ≡ (not (eqb tag 3) && eqb i number)
   unfolding variableOf
   local-target i l = go (ℕ-discrete tag 3)
     where
-      go : Dec (tag ≡ 3) → eqb (256 + i) (variableOf tag number) ≡ (not (eqb tag 3) && eqb i number)
-      go (yes e) = let a : number < m .outputs = t .output e in let b : m .outputs ≤ 32 = g .outputs in rw e (ne-eqb (256 + i) (224 + number) (λ q. omega arith))
-      go (no n) = let e : tag ≡ 2 = t .else n in rw e (shifted 256 i number)
+      go : Dec (tag ≡ 3) → eqb (localVar i) (variableOf tag number) ≡ (not (eqb tag 3) && eqb i number)
+      go (yes e) = let a : number < m .outputs = t .output e in let b : m .outputs ≤ maxOutputs = g .outputs in rw e (ne-eqb (localVar i) (outputVar number) (λ q. omega arith))
+      go (no n) = let e : tag ≡ 2 = t .else n in rw e (shifted (localVar 0) i number)
 
 -- equal variables, equal tags and numbers
 same-target : (m : Timing) → GoodTiming m → (a x c z : ℕ) → Target m a x → Target m c z → variableOf a x ≡ variableOf c z → (a ≡ c) × (x ≡ z)
 unfolding variableOf
 same-target m g a x c z p q e = go (ℕ-discrete a 3) (ℕ-discrete c 3)
   where
-    few : m .outputs ≤ 32
+    few : m .outputs ≤ maxOutputs
     few = g .outputs
 
     go : Dec (a ≡ 3) → Dec (c ≡ 3) → (a ≡ c) × (x ≡ z)
-    go (yes i) (yes j) = let r : 224 + x ≡ 224 + z = rw (i, j) at e in (omega arith, omega arith)
+    go (yes i) (yes j) = let r : outputVar x ≡ outputVar z = rw (i, j) at e in (omega arith, omega arith)
     go (yes i) (no j) =
         let o : x < m .outputs = p .output i in
-        let r : 224 + x ≡ 256 + z = rw (i, q .else j) at e in
+        let r : outputVar x ≡ localVar z = rw (i, q .else j) at e in
         absurd (omega arith)
     go (no i) (yes j) =
         let o : z < m .outputs = q .output j in
-        let r : 256 + x ≡ 224 + z = rw (p .else i, j) at e in
+        let r : localVar x ≡ outputVar z = rw (p .else i, j) at e in
         absurd (omega arith)
     go (no i) (no j) =
         let u : a ≡ 2 = p .else i in
         let w : c ≡ 2 = q .else j in
-        let r : 256 + x ≡ 256 + z = rw (u, w) at e in
+        let r : localVar x ≡ localVar z = rw (u, w) at e in
         (omega arith, omega arith)
 
 -- ---- the first assignments of transition k
@@ -120,9 +120,9 @@ module _ (m : Timing) (g : GoodTiming m) (b : Behavior) (k count : ℕ)
   target-at : (j : ℕ) → j < count → Target m (assignmentAt b k j .tag) (assignmentAt b k j .number)
   target-at j l = good-target m (assignmentAt b k j) (good j l)
 
-  pub assign-within : Within 224 288 (assignmentUpdates b k count)
+  pub assign-within : Within (outputVar 0) (localVar localRoom) (assignmentUpdates b k count)
   unfolding assignmentUpdates
-  assign-within = within-join targetOf assignOne 224 288 count (λ j l. one _ refl) (λ j l. target-range m g (assignmentAt b k j .tag) (assignmentAt b k j .number) (target-at j l))
+  assign-within = within-join targetOf assignOne (outputVar 0) (localVar localRoom) count (λ j l. one _ refl) (λ j l. target-range m g (assignmentAt b k j .tag) (assignmentAt b k j .number) (target-at j l))
 
   pub assign-apart : Apart (assignmentUpdates b k count)
   unfolding assignmentUpdates
@@ -147,24 +147,24 @@ module _ (m : Timing) (g : GoodTiming m) (b : Behavior) (k count : ℕ)
     unfolding updated applies
     one-assigned j l i x z e = rw (e, assigned-same j l)
 
-    pub outputs-shown : (w : List Value) → ValuesShown 224 (m .outputs) (s .ports .output) v →
-        ((i : ℕ) → i < 32 → valueOf w (outputVar i) ≡ updated n v (assignmentUpdates b k count) (outputVar i) (valueOf v (outputVar i))) →
-        ValuesShown 224 (m .outputs) (assign b (s .ports) k count .output) w
+    pub outputs-shown : (w : List Value) → ValuesShown (outputVar 0) maxOutputs (m .outputs) (s .ports .output) v →
+        ((i : ℕ) → i < maxOutputs → valueOf w (outputVar i) ≡ updated n v (assignmentUpdates b k count) (outputVar i) (valueOf v (outputVar i))) →
+        ValuesShown (outputVar 0) maxOutputs (m .outputs) (assign b (s .ports) k count .output) w
     unfolding assign assignmentUpdates
     outputs-shown w c e =
         column-filled n v w count assignOne _ (λ j. eqb (assignmentAt b k j .tag) 3) (λ j. assignmentAt b k j .number) (λ j. assignedValue (s .ports) (assignmentAt b k j))
         (λ j l x. refl) (λ j l q. target-at j l .output (eqb-true (assignmentAt b k j .tag) 3 q))
-        (λ j l i p x. one-assigned j l (224 + i) x _ (output-target m g (assignmentAt b k j .tag) (assignmentAt b k j .number) (target-at j l) i p)) c e
+        (λ j l i p x. one-assigned j l (outputVar i) x _ (output-target m g (assignmentAt b k j .tag) (assignmentAt b k j .number) (target-at j l) i p)) c e
 
-    pub locals-shown : (w : List Value) → ValuesShown 256 (m .locals) (s .ports .local) v →
-        ((i : ℕ) → i < 32 → valueOf w (localVar i) ≡ updated n v (assignmentUpdates b k count) (localVar i) (valueOf v (localVar i))) →
-        ValuesShown 256 (m .locals) (assign b (s .ports) k count .local) w
+    pub locals-shown : (w : List Value) → ValuesShown (localVar 0) maxLocals (m .locals) (s .ports .local) v →
+        ((i : ℕ) → i < maxLocals → valueOf w (localVar i) ≡ updated n v (assignmentUpdates b k count) (localVar i) (valueOf v (localVar i))) →
+        ValuesShown (localVar 0) maxLocals (m .locals) (assign b (s .ports) k count .local) w
     unfolding assign assignmentUpdates
     locals-shown w c e =
         column-filled n v w count assignOne _ (λ j. not (eqb (assignmentAt b k j .tag) 3)) (λ j. assignmentAt b k j .number) (λ j. assignedValue (s .ports) (assignmentAt b k j))
         (λ j l x. turned (eqb (assignmentAt b k j .tag) 3) x _)
         (λ j l q. target-at j l .local (target-at j l .else (eqb-false (assignmentAt b k j .tag) 3 (not-true _ q))))
-        (λ j l i p x. one-assigned j l (256 + i) x _ (local-target m g (assignmentAt b k j .tag) (assignmentAt b k j .number) (target-at j l) i p)) c e
+        (λ j l i p x. one-assigned j l (localVar i) x _ (local-target m g (assignmentAt b k j .tag) (assignmentAt b k j .number) (target-at j l) i p)) c e
       where
         turned : (z : Bool) (x y : List Value) → cond z x y ≡ cond (not z) y x
         turned true x y = refl
@@ -198,7 +198,7 @@ module _ (m : Timing) (g : GoodTiming m) (b : Behavior) (k count : ℕ)
           go true = sent-stored (assignedExpression (assignmentAt b k j)) x (assignedValue (s .ports) (assignmentAt b k j)) l (assignmentAt b k j .number) (assigned-same j p) r
           go false = r
 
-      pub sent-same : ValuesShown 224 (m .outputs) (s .ports .output) v → worth n v (sentExpression b k count o) ≡ outputValue (assign b (s .ports) k count) o
+      pub sent-same : ValuesShown (outputVar 0) maxOutputs (m .outputs) (s .ports .output) v → worth n v (sentExpression b k count o) ≡ outputValue (assign b (s .ports) k count) o
       unfolding sentExpression assign outputValue
       sent-same c =
           fold-related Sent count sendNext storeNext (copied (variable (outputVar o))) (s .ports .output) (c .sized, variable-worth n v (outputVar o) ∙ c .shows o few) sent-next .1

@@ -2,34 +2,36 @@
 use mathlib.Core.Path.{_≡_, refl, _∙_, ap}
 use mathlib.Core.Bool.{true}
 use mathlib.Core.List.{List, [], _∷_, _++_}
-use Prim.Native.Nat.{ℕ, _+_, _*_, _<_, _≤_}
+use Prim.Native.Nat.{ℕ, _+_, _<_, _≤_}
 use native.Mathlib.Omega.{arith}
 use native.Mathlib.Decide.{decLt}
 use borrow.Author.Tests.{eq-eqb, eqb-true, lt-ltb, le-ltb}
 use Rattle.numbers.specs.declared.Value.{Value}
-use Rattle.numbers.specs.Lists.{foldBelow, joinBelow}
+use Rattle.numbers.specs.Lists.{foldBelow, joinBelow, store}
 use Rattle.numbers.specs.ListLaws.{item-store-same}
-use Rattle.numbers.specs.Values.{duration, natural}
+use Rattle.numbers.specs.Values.{natural}
 use Rattle.model_format.specs.declared.Timing.{Timing}
 use Rattle.model_format.specs.declared.Behavior.{Behavior}
 use Rattle.model_format.specs.declared.Model.{Model}
-use Rattle.model_format.specs.Model.{maxThreads, transitionAt, assignmentAt, immediate}
+use Rattle.model_format.specs.Model.{maxThreads, transitionAt, assignmentAt, immediate, maxOutputs}
 use Rattle.model_format.specs.WellFormed.{GoodTiming, GoodAssignment, WellFormed}
-use Rattle.model.specs.declared.Ports.{Ports}
-use Rattle.model.specs.declared.State.{State}
-use Rattle.model.specs.State.{none, isActive, codeOf, dispatchTime, lengthOf, spentOf, behaviorOf, missedOf, nowOf, withPorts, withCpu, withCode, withJob, withBehavior}
-use Rattle.model.specs.Tests.{execution, completed, canComplete}
-use Rattle.model.specs.Effects.{firstOpen, takenTransition, assign, send, endJob, complete}
+use Rattle.model_semantics.specs.declared.Ports.{Ports}
+use Rattle.model_semantics.specs.declared.State.{State}
+use Rattle.model_semantics.specs.State.{none, codeOf, behaviorOf, missedOf, nowOf, withPorts, withCpu, withCode, withJob, withBehavior}
+use Rattle.model_semantics.specs.Tests.{execution, completed, canComplete}
+use Rattle.model_semantics.specs.EffectLaws.{complete-at-once}
+use Rattle.model_semantics.specs.Effects.{firstOpen, takenTransition, assign, send, endJob, complete}
 use Rattle.table_format.specs.declared.Update.{Update}
-use Rattle.table_format.specs.Variables.{variables, cpuVar, activeVar, stateVar, dispatchVar, dueVar, endVar, behaviorVar, missedVar, flagVar, inputVar, bufferVar, outputVar, localVar}
-use Rattle.table.specs.Rules.{valueOf}
-use Rattle.translate.specs.Parts.{constant, copied, setTo}
-use Rattle.translate.specs.Rules.{assignmentUpdates, sentExpression, sendUpdates, transitionRule, defaultRule}
+use Rattle.table_format.specs.Variables.{variables, cpuVar, stateVar, endVar, behaviorVar, missedVar, inputVar, bufferVar, outputVar, localVar, inputRoom, localRoom}
+use Rattle.table_semantics.specs.Rules.{valueOf}
+use Rattle.translation.specs.Parts.{constant, copied, setTo}
+use Rattle.translation.specs.Rules.{assignmentUpdates, sentExpression, sendUpdates, transitionRule, defaultRule}
 use Rattle.simulation.specs.Compared.{Dispatched}
 use Rattle.simulation.specs.Match.{Match}
 use Rattle.simulation.specs.GuardComplete.{completeRule}
-use Rattle.simulation.specs.Writes.{updated, updated-append, updated-miss, value-written, updated-here, updated-there, constant-worth, Misses, Apart, Within, misses-append, misses-within, clear-within, apart-append, column-kept}
-use Rattle.simulation.specs.Effects.{Does, InParts, ThreadsSized, JobShown, jobOf, same, put, in-parts, afterwards, kept, cpu-set, thread-does, and-left}
+use Rattle.simulation.specs.Writes.{updated, updated-append, updated-miss, value-written, updated-here, updated-there, constant-worth, Misses, Apart, Within, misses-append, misses-within, clear-within, apart-append, column-kept, NotBuffer}
+use Rattle.simulation.specs.Effects.{Does, InParts, ThreadsSized, JobShown, jobOf, same, put, in-parts, afterwards, kept, and-left}
+use Rattle.simulation.specs.EffectEnd.{ends-does}
 use Rattle.simulation.specs.EffectPorts.{send-within, send-apart, send-shown}
 use Rattle.simulation.specs.EffectAssign.{assign-within, assign-apart, outputs-shown, locals-shown, sent-same}
 
@@ -65,20 +67,20 @@ module _ (m : Timing) (g : GoodTiming m) (b : Behavior) (d : Dispatched) (s : St
   moves-miss : (j : ℕ) → (j ≡ behaviorVar t → ⊥) → Misses j moves
   moves-miss j q = misses-within (behaviorVar t) (behaviorVar t + 1) j moves moves-within (λ a e. q (omega arith))
 
-  assigns-miss : (j : ℕ) → j < 224 → Misses j assigns
-  assigns-miss j p = misses-within 224 288 j assigns (assign-within m g b k count good single) (omega arith)
+  assigns-miss : (j : ℕ) → j < outputVar 0 → Misses j assigns
+  assigns-miss j p = misses-within (outputVar 0) (localVar localRoom) j assigns (assign-within m g b k count good single) (omega arith)
 
-  sends-miss : (j : ℕ) → (192 ≤ j → j < 224 → ⊥) → Misses j sends
-  sends-miss j p = misses-within 192 224 j sends (send-within m g immediate t (sentExpression b k count)) p
+  sends-miss : (j : ℕ) → NotBuffer j → Misses j sends
+  sends-miss j p = misses-within (bufferVar 0) (bufferVar inputRoom) j sends (send-within m g immediate t (sentExpression b k count)) p
 
-  tail-miss : (j : ℕ) → j < 192 → (j ≡ behaviorVar t → ⊥) → Misses j (moves ++ (assigns ++ sends))
+  tail-miss : (j : ℕ) → j < bufferVar 0 → (j ≡ behaviorVar t → ⊥) → Misses j (moves ++ (assigns ++ sends))
   tail-miss j p q = misses-append j moves (assigns ++ sends) (moves-miss j q) (misses-append j assigns sends (assigns-miss j (omega arith)) (sends-miss j (omega arith)))
 
-  complete-miss : (j : ℕ) → j < 192 → (j ≡ stateVar t → ⊥) × (j ≡ cpuVar → ⊥) × (j ≡ endVar t → ⊥) × (j ≡ behaviorVar t → ⊥) → Misses j changes
+  complete-miss : (j : ℕ) → j < bufferVar 0 → (j ≡ stateVar t → ⊥) × (j ≡ cpuVar → ⊥) × (j ≡ endVar t → ⊥) × (j ≡ behaviorVar t → ⊥) → Misses j changes
   unfolding Misses
   complete-miss j p a = (a .0, (a .1, (a .2, tail-miss j p (a .3))))
 
-  complete-kept : (j : ℕ) → j < 192 → (j ≡ stateVar t → ⊥) × (j ≡ cpuVar → ⊥) × (j ≡ endVar t → ⊥) × (j ≡ behaviorVar t → ⊥) → valueOf after j ≡ valueOf v j
+  complete-kept : (j : ℕ) → j < bufferVar 0 → (j ≡ stateVar t → ⊥) × (j ≡ cpuVar → ⊥) × (j ≡ endVar t → ⊥) × (j ≡ behaviorVar t → ⊥) → valueOf after j ≡ valueOf v j
   complete-kept j p a = kept n v changes (h .size) j (omega arith) (complete-miss j p a)
 
   -- past the first three updates
@@ -91,13 +93,13 @@ module _ (m : Timing) (g : GoodTiming m) (b : Behavior) (d : Dispatched) (s : St
       (updated-there n v j (setTo (endVar t) 0) _ _ (a .2) ∙ (updated-append n v moves (assigns ++ sends) j _ ∙ updated-append n v assigns sends j _))))
 
   -- outputs and locals are touched by assignments alone, buffers by connections alone
-  assigns-left : (j : ℕ) → 224 ≤ j → j < variables → valueOf after j ≡ updated n v assigns j (valueOf v j)
+  assigns-left : (j : ℕ) → outputVar 0 ≤ j → j < variables → valueOf after j ≡ updated n v assigns j (valueOf v j)
   assigns-left j p q =
       let few : m .threads ≤ maxThreads = g .threads in
       left j q (omega arith) ∙
       (updated-miss n v j sends _ (sends-miss j (omega arith)) ∙ ap (updated n v assigns j) (updated-miss n v j moves _ (moves-miss j (omega arith))))
 
-  sends-left : (j : ℕ) → 192 ≤ j → j < 224 → valueOf after j ≡ updated n v sends j (valueOf v j)
+  sends-left : (j : ℕ) → bufferVar 0 ≤ j → j < bufferVar inputRoom → valueOf after j ≡ updated n v sends j (valueOf v j)
   sends-left j p q =
       let few : m .threads ≤ maxThreads = g .threads in
       left j (omega arith) (omega arith) ∙
@@ -111,85 +113,43 @@ module _ (m : Timing) (g : GoodTiming m) (b : Behavior) (d : Dispatched) (s : St
       (λ j p q. misses-append j assigns sends (assigns-miss j (omega arith)) (sends-miss j (omega arith))))
       moves-apart
       (apart-append assigns sends
-      (clear-within 224 288 assigns sends (assign-within m g b k count good single) (λ j p q. sends-miss j (omega arith)))
+      (clear-within (outputVar 0) (localVar localRoom) assigns sends (assign-within m g b k count good single) (λ j p q. sends-miss j (omega arith)))
       (assign-apart m g b k count good single) (send-apart m g immediate t (sentExpression b k count)))
 
-  completed-job : jobOf later t ≡ record {
-    active = isActive s t;
-    code = completed;
-    dispatched = dispatchTime s t;
-    long = 0;
-    spent = 0;
-    behavior = to;
-    missed = missedOf s t;
-  }
-  unfolding withPorts withBehavior withJob withCode withCpu isActive codeOf dispatchTime lengthOf spentOf behaviorOf missedOf
-  completed-job =
-      let few : m .threads ≤ maxThreads = g .threads in
-      let a : ThreadsSized (s .threads) = h .sized in
-      rw (
-        lengthOf,
-        spentOf,
-        item-store-same maxThreads (s .threads .code) t completed 0 (omega arith) (omega arith),
-        item-store-same maxThreads (s .threads .length) t (duration 0) (duration 0) (omega arith) (omega arith),
-        item-store-same maxThreads (s .threads .spent) t (duration 0) (duration 0) (omega arith) (omega arith),
-        item-store-same maxThreads (s .threads .behavior) t to 0 (omega arith) (omega arith),
-      )
-
-  completed-shown : JobShown m (d t) (nowOf s) (jobOf later t) after t
-  unfolding Misses
-  completed-shown =
-      let few : m .threads ≤ maxThreads = g .threads in
-      let x : JobShown m (d t) (nowOf s) (jobOf s t) v t = h .jobs t (omega arith) in
-      rw completed-job (record {
-        active = complete-kept (activeVar t) (omega arith) (omega arith) ∙ x .active;
-        code = value-written n v changes v (stateVar t) (h .size) (omega arith) ∙
-            (updated-here n v (stateVar t) (copied (constant completed)) _ _ (λ e. omega arith, (λ e. omega arith, tail-miss (stateVar t) (omega arith) (omega arith))) ∙ constant-worth n v completed);
-        dispatched = complete-kept (dispatchVar t) (omega arith) (omega arith) ∙ x .dispatched;
-        due = λ p e. complete-kept (dueVar t) (omega arith) (omega arith) ∙ x .due p e;
-        noDue = λ p. absurd (omega arith);
-        end = λ p e. absurd (omega arith);
-        noEnd = λ p. absurd (omega arith);
-        behavior = left (behaviorVar t) (omega arith) (omega arith) ∙
-            (updated-miss n v (behaviorVar t) sends _ (sends-miss (behaviorVar t) (omega arith)) ∙
-            (updated-miss n v (behaviorVar t) assigns _ (assigns-miss (behaviorVar t) (omega arith)) ∙ moved));
-        missed = complete-kept (missedVar t) (omega arith) (omega arith) ∙ x .missed;
-        blank = λ p. absurd (omega arith);
-        reached = record {
-          codes = omega arith;
-          ran = λ e. absurd (omega arith);
-          long = λ e. absurd (omega arith);
-          begun = λ e. x .reached .begun (omega arith);
-          past = x .reached .past;
-          missed = x .reached .missed;
-          missedBefore = λ e. x .reached .missedBefore (omega arith);
-        };
-      })
-
   completes : Does m d later n v changes
-  unfolding withPorts withBehavior withJob withCode withCpu send assign Misses Apart
+  unfolding withPorts withBehavior withJob withCode withCpu send assign missedOf Misses Apart
   completes =
       let few : m .threads ≤ maxThreads = g .threads in
-      thread-does m d d s later v n t changes few h (record {
+      let a : ThreadsSized (s .threads) = h .sized in
+      let x : JobShown m (d t) (nowOf s) (jobOf s t) v t = h .jobs t (omega arith) in
+      ends-does m g d s v h n t l completed none to (missedOf s t) (store maxThreads (s .threads .behavior) t to) (s .threads .missed) (send m s immediate t ports) changes (record {
+        stopped = λ e. omega arith;
+        known = omega arith;
+        begun = λ e. x .reached .begun (omega arith);
+        before = λ e. x .reached .missedBefore (omega arith);
+        counted = x .reached .missed;
+        states = put to;
+        state = item-store-same maxThreads (s .threads .behavior) t to 0 (omega arith) (omega arith);
+        counts = same;
+        counter = refl;
         apart = (
           (λ e. omega arith, (λ e. omega arith, tail-miss (stateVar t) (omega arith) (omega arith))),
           ((λ e. omega arith, tail-miss cpuVar (omega arith) (omega arith)), (tail-miss (endVar t) (omega arith) (omega arith), tail-apart)),
         );
-        touched = record { active = same; code = put completed; dispatched = same; long = put _; spent = put _; behavior = put to; missed = same };
-        live = refl;
-        now = refl;
-        others = λ u p a i y z. complete-miss (i * 16 + u) (omega arith) (omega arith);
-        flags = λ c p. complete-miss (flagVar c) (omega arith) (omega arith);
-        known = λ u a. refl;
-        clock = cpu-set none (h .clock) (λ j p a. complete-kept j (omega arith) (λ e. omega arith, a, λ e. omega arith, λ e. omega arith))
-            (value-written n v changes v cpuVar (h .size) (omega arith) ∙
+        misses = λ j b q. complete-miss j (omega arith) (q .0, q .1, q .2, q .3);
+        codeShown = value-written n v changes v (stateVar t) (h .size) (omega arith) ∙
+            (updated-here n v (stateVar t) (copied (constant completed)) _ _ (λ e. omega arith, (λ e. omega arith, tail-miss (stateVar t) (omega arith) (omega arith))) ∙ constant-worth n v completed);
+        cpuShown = value-written n v changes v cpuVar (h .size) (omega arith) ∙
             (updated-there n v cpuVar (setTo (stateVar t) completed) _ _ (λ e. omega arith) ∙
-            (updated-here n v cpuVar (copied (constant none)) _ _ (λ e. omega arith, tail-miss cpuVar (omega arith) (omega arith)) ∙ constant-worth n v none)));
-        job = completed-shown;
+            (updated-here n v cpuVar (copied (constant none)) _ _ (λ e. omega arith, tail-miss cpuVar (omega arith) (omega arith)) ∙ constant-worth n v none));
+        behaviorShown = left (behaviorVar t) (omega arith) (omega arith) ∙
+            (updated-miss n v (behaviorVar t) sends _ (sends-miss (behaviorVar t) (omega arith)) ∙
+            (updated-miss n v (behaviorVar t) assigns _ (assigns-miss (behaviorVar t) (omega arith)) ∙ moved));
+        missedShown = complete-kept (missedVar t) (omega arith) (omega arith) ∙ x .missed;
         ports = record {
           input = column-kept (h .ports .input) (λ i p. complete-kept (inputVar i) (omega arith) (omega arith));
           buffer = send-shown m g immediate t (sentExpression b k count) n s ports v after (h .live)
-              (λ o p. let a : m .outputs ≤ 32 = g .outputs in sent-same m g b k count good single d s v match n o (omega arith) (h .ports .output)) (h .ports .buffer)
+              (λ o p. let a : m .outputs ≤ maxOutputs = g .outputs in sent-same m g b k count good single d s v match n o (omega arith) (h .ports .output)) (h .ports .buffer)
               (λ i p. sends-left (bufferVar i) (omega arith) (omega arith));
           output = outputs-shown m g b k count good single d s v match n after (h .ports .output) (λ i p. assigns-left (outputVar i) (omega arith) (omega arith));
           local = locals-shown m g b k count good single d s v match n after (h .ports .local) (λ i p. assigns-left (localVar i) (omega arith) (omega arith));
@@ -205,19 +165,19 @@ module _ (m : Model) (f : WellFormed m) (d : Dispatched) (s : State) (v : List V
   job-runs e = eqb-true (codeOf s t) execution (and-left _ _ e)
 
   pub transition-does : canComplete s t ≡ true → first < m .behavior .transitions → Does (m .timing) d (complete m s t) n v (transitionRule m t first .updates)
-  unfolding complete takenTransition endJob transitionRule Within Apart Misses
+  unfolding takenTransition endJob transitionRule Within Apart Misses
   transition-does e q =
-      rw (lt-ltb first (m .behavior .transitions) q, eq-eqb (codeOf s t) execution (job-runs e))
+      rw (complete-at-once m s t, lt-ltb first (m .behavior .transitions) q, eq-eqb (codeOf s t) execution (job-runs e))
       (completes (m .timing) (f .timing) (m .behavior) d s v h n t l (job-runs e) (transitionAt (m .behavior) first .to) (setTo (behaviorVar t) (transitionAt (m .behavior) first .to) ∷ [])
       first (transitionAt (m .behavior) first .assignments) (omega arith) (tt, tt)
       (updated-here n v (behaviorVar t) (copied (constant (transitionAt (m .behavior) first .to))) [] _ tt ∙ constant-worth n v (transitionAt (m .behavior) first .to))
       (λ j p. f .behavior .assignment first j q p) (λ i j p r. f .behavior .single first i j q p r))
 
   pub default-does : canComplete s t ≡ true → m .behavior .transitions ≤ first → Does (m .timing) d (complete m s t) n v (defaultRule m t .updates)
-  unfolding complete takenTransition endJob defaultRule Within Apart updated assignmentUpdates sentExpression joinBelow foldBelow
+  unfolding takenTransition endJob defaultRule Within Apart updated assignmentUpdates sentExpression joinBelow foldBelow
   default-does e q =
       let few : m .timing .threads ≤ maxThreads = f .timing .threads in
-      rw (le-ltb first (m .behavior .transitions) q, eq-eqb (codeOf s t) execution (job-runs e))
+      rw (complete-at-once m s t, le-ltb first (m .behavior .transitions) q, eq-eqb (codeOf s t) execution (job-runs e))
       (completes (m .timing) (f .timing) (m .behavior) d s v h n t l (job-runs e) (behaviorOf s t) [] first 0 tt tt (h .behavior t (omega arith))
       (λ j p. absurd (omega arith)) (λ i j p r. absurd (omega arith)))
 

@@ -2,35 +2,37 @@
 use mathlib.Core.Path.{_≡_, refl, _∙_}
 use mathlib.Core.Bool.{Bool, true, false, cond, _&&_, _||_, not, true≢false, false≢true}
 use mathlib.Core.List.{List, [], _∷_, _++_}
-use Prim.Native.Nat.{ℕ, _+_, _*_, _<_, _≤_}
+use Prim.Native.Nat.{ℕ, _+_, _<_, _≤_}
 use native.Mathlib.Omega.{arith}
 use native.Mathlib.Decide.{ℕ-discrete}
 use lib.Dec.{eqb}
 use borrow.Author.Tests.{lt-ltb, eq-eqb, ne-eqb, eqb-true}
 use Rattle.numbers.specs.declared.Value.{Value}
 use Rattle.numbers.specs.ListLaws.{item-store-same}
-use Rattle.numbers.specs.Values.{duration, natural, oneMore}
+use Rattle.numbers.specs.Values.{natural, oneMore}
 use Rattle.records.specs.Events.{lastClock}
 use Rattle.model_format.specs.declared.Timing.{Timing}
 use Rattle.model_format.specs.Model.{maxThreads, threadAt, delayed}
 use Rattle.model_format.specs.WellFormed.{GoodTiming}
-use Rattle.model.specs.declared.State.{State}
-use Rattle.model.specs.State.{none, isActive, codeOf, dispatchTime, lengthOf, spentOf, behaviorOf, missedOf, nowOf, withPorts, withCpu, withCode, withJob, withMissed}
-use Rattle.model.specs.Tests.{waitingMode, waitingDispatch, waitingExecution, execution, dueOf, isDue, canMiss}
-use Rattle.model.specs.Effects.{send, endJob, restCode, meetDeadline, miss}
+use Rattle.model_semantics.specs.declared.State.{State}
+use Rattle.model_semantics.specs.State.{none, isActive, codeOf, dispatchTime, lengthOf, spentOf, behaviorOf, missedOf, nowOf, withPorts, withCpu, withCode, withJob, withMissed}
+use Rattle.model_semantics.specs.Tests.{waitingMode, waitingDispatch, waitingExecution, execution, dueOf, isDue, canMiss}
+use Rattle.model_semantics.specs.Effects.{send, endJob, restCode, meetDeadline, miss}
 use Rattle.table_format.specs.declared.Update.{Update}
-use Rattle.table_format.specs.Variables.{variables, cpuVar, activeVar, stateVar, dispatchVar, dueVar, endVar, behaviorVar, missedVar, flagVar, inputVar, bufferVar, outputVar, localVar}
-use Rattle.table.specs.Rules.{valueOf}
-use Rattle.translate.specs.Shown.{bit}
-use Rattle.translate.specs.Parts.{constant, variable, copied, sumOf, update, setTo}
-use Rattle.translate.specs.Rules.{sendUpdates, jobEnds, deadlineRule, missUpdates, missWaiting, missRunning}
+use Rattle.table_format.specs.Variables.{variables, cpuVar, stateVar, endVar, behaviorVar, missedVar, inputVar, bufferVar, outputVar, localVar, inputRoom}
+use Rattle.table_semantics.specs.Rules.{valueOf}
+use Rattle.translation.specs.Shown.{bit}
+use Rattle.translation.specs.Parts.{constant, variable, copied, sumOf, update, setTo}
+use Rattle.translation.specs.Rules.{sendUpdates, jobEnds, deadlineRule, missUpdates, missWaiting, missRunning, oldOutput}
 use Rattle.simulation.specs.Compared.{Dispatched}
 use Rattle.simulation.specs.Match.{Match}
 use Rattle.simulation.specs.GuardDeadline.{missRule}
-use Rattle.simulation.specs.Writes.{value-written, updated-here, updated-there, constant-worth, sum-worth, Misses, Apart, Within, column-kept}
-use Rattle.simulation.specs.Effects.{Does, InParts, ThreadsSized, JobShown, jobOf, same, put, in-parts, afterwards, kept, ports-kept, cpu-set, thread-does, rest-shown, and-left}
+use Rattle.simulation.specs.Writes.{value-written, updated-here, updated-there, constant-worth, sum-worth, Misses, Apart, Within, column-kept, NotBuffer}
+use Rattle.simulation.specs.Effects.{Does, InParts, ThreadsSized, JobShown, jobOf, same, put, in-parts, afterwards, kept, ports-kept, and-left}
 use Rattle.simulation.specs.EffectPorts.{send-within, send-apart, send-shown, old-output}
+use Rattle.simulation.specs.EffectEnd.{ends-does}
 use Rattle.simulation.specs.EffectSimple.{code-kept, code-does}
+use Rattle.numbers.specs.Lists.{store}
 
 rest-small : (b : Bool) → cond b waitingDispatch waitingMode < waitingExecution
 rest-small true = omega arith
@@ -62,64 +64,34 @@ module _ (m : Timing) (g : GoodTiming m) (d : Dispatched) (s : State) (v : List 
         let b : 1 ≤ threadAt m t .deadline .0 = g .thread t l .deadline in
         omega arith
 
-    missed-job : jobOf later t ≡ record {
-      active = isActive s t;
-      code = c;
-      dispatched = dispatchTime s t;
-      long = 0;
-      spent = 0;
-      behavior = behaviorOf s t;
-      missed = missedOf s t + 1;
-    }
-    unfolding withMissed withJob withCode withCpu oneMore isActive codeOf dispatchTime lengthOf spentOf behaviorOf missedOf
-    missed-job =
-        let few : m .threads ≤ maxThreads = g .threads in
-        let z : ThreadsSized (s .threads) = h .sized in
-        let a = counted in
-        let b : nowOf s ≤ lastClock = h .ticks in
-        rw (
-          lengthOf,
-          spentOf,
-          item-store-same maxThreads (s .threads .code) t c 0 (omega arith) (omega arith),
-          item-store-same maxThreads (s .threads .length) t (duration 0) (duration 0) (omega arith) (omega arith),
-          item-store-same maxThreads (s .threads .spent) t (duration 0) (duration 0) (omega arith) (omega arith),
-          item-store-same maxThreads (s .threads .missed) t (oneMore (missedOf s t)) 0 (omega arith) (omega arith),
-          lt-ltb (missedOf s t) 4294967295 (omega arith),
-        )
-
-    missed-shown : JobShown m (d t) (nowOf s) (jobOf later t) after t
-    unfolding Misses
-    missed-shown =
-        let few : m .threads ≤ maxThreads = g .threads in
-        let x : JobShown m (d t) (nowOf s) (jobOf s t) v t = h .jobs t (omega arith) in
-        let y : nowOf s ≤ lastClock = h .ticks in
-        let z : missedOf s t < nowOf s = counted in
-        rw missed-job (rest-shown m (d t) (nowOf s) _ after t l small (x .reached .past) (omega arith)
-        (missed-kept (activeVar t) (omega arith) (omega arith) ∙ x .active)
-        (value-written n v changes v (stateVar t) (h .size) (omega arith) ∙
-        (updated-here n v (stateVar t) (copied (constant c)) _ _ (λ e. omega arith, frees (stateVar t) (omega arith)) ∙ constant-worth n v c))
-        (missed-kept (dispatchVar t) (omega arith) (omega arith) ∙ x .dispatched)
-        (λ e. missed-kept (dueVar t) (omega arith) (omega arith) ∙ x .due l e)
-        (missed-kept (behaviorVar t) (omega arith) (omega arith) ∙ x .behavior)
-        (value-written n v changes v (missedVar t) (h .size) (omega arith) ∙
-        (updated-there n v (missedVar t) (setTo (stateVar t) c) _ _ (λ e. omega arith) ∙
-        (updated-here n v (missedVar t) (sumOf (variable (missedVar t)) (constant 1)) rest _ (frees (missedVar t) (omega arith)) ∙
-        sum-worth n v (missedVar t) (missedOf s t) 1 (x .missed) (omega arith)))))
-
     missed-does : Does m d later n v changes
-    unfolding withMissed withJob withCode withCpu Misses Apart
+    unfolding withMissed withJob withCode withCpu oneMore behaviorOf missedOf Misses Apart
     missed-does =
         let few : m .threads ≤ maxThreads = g .threads in
-        thread-does m d d s later v n t changes few h (record {
+        let z : ThreadsSized (s .threads) = h .sized in
+        let x : JobShown m (d t) (nowOf s) (jobOf s t) v t = h .jobs t (omega arith) in
+        let y : nowOf s ≤ lastClock = h .ticks in
+        let a : missedOf s t < nowOf s = counted in
+        ends-does m g d s v h n t l c cpu (behaviorOf s t) (missedOf s t + 1) (s .threads .behavior) (store maxThreads (s .threads .missed) t (oneMore (missedOf s t))) (s .ports) changes (record {
+          stopped = λ e. omega arith;
+          known = omega arith;
+          begun = λ e. absurd (omega arith);
+          before = λ e. absurd (omega arith);
+          counted = omega arith;
+          states = same;
+          state = refl;
+          counts = put _;
+          counter = item-store-same maxThreads (s .threads .missed) t (oneMore (missedOf s t)) 0 (omega arith) (omega arith) ∙ rw (lt-ltb (missedOf s t) 4294967295 (omega arith));
           apart = ((λ e. omega arith, frees (stateVar t) (omega arith)), (frees (missedVar t) (omega arith), apart));
-          touched = record { active = same; code = put c; dispatched = same; long = put (duration 0); spent = put (duration 0); behavior = same; missed = put _ };
-          live = refl;
-          now = refl;
-          others = λ u b a i p q. (λ e. omega arith, (λ e. omega arith, frees (i * 16 + u) (omega arith)));
-          flags = λ i b. (λ e. omega arith, (λ e. omega arith, frees (flagVar i) (omega arith)));
-          known = λ u a. refl;
-          clock = cpu-set cpu (h .clock) (λ j b a. missed-kept j (omega arith) (λ e. omega arith, λ e. omega arith, a, λ e. omega arith)) shows;
-          job = missed-shown;
+          misses = λ j b q. (q .0, (q .4, frees j (q .1, q .2)));
+          codeShown = value-written n v changes v (stateVar t) (h .size) (omega arith) ∙
+              (updated-here n v (stateVar t) (copied (constant c)) _ _ (λ e. omega arith, frees (stateVar t) (omega arith)) ∙ constant-worth n v c);
+          cpuShown = shows;
+          behaviorShown = missed-kept (behaviorVar t) (omega arith) (omega arith) ∙ x .behavior;
+          missedShown = value-written n v changes v (missedVar t) (h .size) (omega arith) ∙
+              (updated-there n v (missedVar t) (setTo (stateVar t) c) _ _ (λ e. omega arith) ∙
+              (updated-here n v (missedVar t) (sumOf (variable (missedVar t)) (constant 1)) rest _ (frees (missedVar t) (omega arith)) ∙
+              sum-worth n v (missedVar t) (missedOf s t) 1 (x .missed) (omega arith)));
           ports = ports-kept (h .ports) (λ j a b. missed-kept j b (omega arith));
         })
 
@@ -135,34 +107,34 @@ module _ (m : Timing) (g : GoodTiming m) (d : Dispatched) (s : State) (v : List 
         rw c (missed-does (omega arith) is-due (restCode s t) (rest-small (isActive s t)) (s .clock .cpu) [] (λ j z. tt) tt
         (kept n v us (h .size) cpuVar (omega arith) (omega arith) ∙ h .clock .cpu))
 
-    running-does : codeOf s t ≡ execution → (a : ℕ) → Does m d (miss m s t) n v (missRunning t a (restCode s t) .updates)
+    running-does : codeOf s t ≡ execution → (a : ℕ) → Does m d (miss m s t) n v (missRunning m t a (restCode s t) .updates)
     unfolding miss endJob withMissed withJob withCode withCpu Misses Apart
     running-does c a =
-        let us = missUpdates t (restCode s t) ++ jobEnds t in
-        rw c (missed-does (omega arith) is-due (restCode s t) (rest-small (isActive s t)) none (jobEnds t) (λ j z. (z .0, (z .1, tt))) (omega arith)
+        let us = missUpdates t (restCode s t) ++ jobEnds m t in
+        rw c (missed-does (omega arith) is-due (restCode s t) (rest-small (isActive s t)) none (jobEnds m t) (λ j z. (z .0, (z .1, tt))) (omega arith)
         (value-written n v us v cpuVar (h .size) (omega arith) ∙
         (updated-there n v cpuVar (setTo (stateVar t) (restCode s t)) _ _ (λ e. omega arith) ∙
-        (updated-there n v cpuVar (update (missedVar t) (sumOf (variable (missedVar t)) (constant 1))) (jobEnds t) _ (λ e. omega arith) ∙
+        (updated-there n v cpuVar (update (missedVar t) (sumOf (variable (missedVar t)) (constant 1))) (jobEnds m t) _ (λ e. omega arith) ∙
         (updated-here n v cpuVar (copied (constant none)) (setTo (endVar t) 0 ∷ []) _ (omega arith) ∙ constant-worth n v none)))))
 
   -- DEADLINE
   module _ (c : ℕ) (small : c < waitingExecution) where
     abbrev sends : List Update
-    sends = sendUpdates m delayed t (λ o. copied (variable (outputVar o)))
+    sends = sendUpdates m delayed t oldOutput
 
-    sends-within : Within 192 224 sends
-    sends-within = send-within m g delayed t (λ o. copied (variable (outputVar o)))
+    sends-within : Within (bufferVar 0) (bufferVar inputRoom) sends
+    sends-within = send-within m g delayed t oldOutput
 
-    sent-kept : (j : ℕ) → j < variables → (j ≡ stateVar t → ⊥) → (192 ≤ j → j < 224 → ⊥) → valueOf (afterwards n v (setTo (stateVar t) c ∷ sends)) j ≡ valueOf v j
+    sent-kept : (j : ℕ) → j < variables → (j ≡ stateVar t → ⊥) → NotBuffer j → valueOf (afterwards n v (setTo (stateVar t) c ∷ sends)) j ≡ valueOf v j
     sent-kept = code-kept m g d s v h n t l c small sends sends-within (s .ports)
 
     met-does : Does m d (withPorts (withCode s t c) (send m s delayed t (s .ports))) n v (setTo (stateVar t) c ∷ sends)
     unfolding send
     met-does =
         let few : m .threads ≤ maxThreads = g .threads in
-        code-does m g d s v h n t l c small sends sends-within (send m s delayed t (s .ports)) (send-apart m g delayed t (λ o. copied (variable (outputVar o)))) (record {
+        code-does m g d s v h n t l c small sends sends-within (send m s delayed t (s .ports)) (send-apart m g delayed t oldOutput) (record {
           input = column-kept (h .ports .input) (λ i b. sent-kept (inputVar i) (omega arith) (omega arith) (omega arith));
-          buffer = send-shown m g delayed t (λ o. copied (variable (outputVar o))) n s (s .ports) v _ (h .live)
+          buffer = send-shown m g delayed t oldOutput n s (s .ports) v _ (h .live)
               (old-output m g n (s .ports) v (h .ports .output)) (h .ports .buffer)
               (λ i b. value-written n v (setTo (stateVar t) c ∷ sends) v (bufferVar i) (h .size) (omega arith) ∙ updated-there n v (bufferVar i) (setTo (stateVar t) c) sends _ (omega arith));
           output = column-kept (h .ports .output) (λ i b. sent-kept (outputVar i) (omega arith) (omega arith) (omega arith));
@@ -187,9 +159,9 @@ module _ (m : Timing) (g : GoodTiming m) (d : Dispatched) (s : State) (v : List 
   unfolding meetDeadline
   deadline-does a = met-does m g d s v (in-parts m d s v h) n t l (restCode s t) (rest-small (isActive s t))
 
-  pub miss-does : canMiss m s t ≡ true → Does m d (miss m s t) n v (missRule s t .updates)
+  pub miss-does : canMiss m s t ≡ true → Does m d (miss m s t) n v (missRule m s t .updates)
   miss-does e = go (ℕ-discrete (codeOf s t) waitingExecution)
     where
-      go : Dec (codeOf s t ≡ waitingExecution) → Does m d (miss m s t) n v (missRule s t .updates)
+      go : Dec (codeOf s t ≡ waitingExecution) → Does m d (miss m s t) n v (missRule m s t .updates)
       go (yes c) = rw (eq-eqb (codeOf s t) waitingExecution c) (waiting-does m g d s v (in-parts m d s v h) n t l e c (bit (isActive s t)))
       go (no c) = rw (ne-eqb (codeOf s t) waitingExecution c) (running-does m g d s v (in-parts m d s v h) n t l e (late-runs m s t e c) (bit (isActive s t)))

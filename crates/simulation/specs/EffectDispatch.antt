@@ -2,7 +2,7 @@
 use mathlib.Core.Path.{_≡_, refl, _∙_}
 use mathlib.Core.Bool.{false, or-true, or-false}
 use mathlib.Core.List.{List, _∷_}
-use Prim.Native.Nat.{ℕ, _+_, _*_, _<_, _≤_}
+use Prim.Native.Nat.{ℕ, _+_, _<_, _≤_}
 use native.Mathlib.Omega.{arith}
 use borrow.Author.Tests.{eq-eqb, ne-eqb}
 use Rattle.numbers.specs.declared.Value.{Value}
@@ -12,18 +12,18 @@ use Rattle.records.specs.Events.{lastClock}
 use Rattle.model_format.specs.declared.Timing.{Timing}
 use Rattle.model_format.specs.Model.{maxThreads, threadAt}
 use Rattle.model_format.specs.WellFormed.{GoodTiming, GoodThread}
-use Rattle.model.specs.declared.State.{State}
-use Rattle.model.specs.State.{isActive, codeOf, dispatchTime, lengthOf, spentOf, behaviorOf, missedOf, nowOf, withPorts, withCode, withDispatchTime}
-use Rattle.model.specs.Tests.{waitingExecution}
-use Rattle.model.specs.Effects.{freeze, dispatch}
+use Rattle.model_semantics.specs.declared.State.{State}
+use Rattle.model_semantics.specs.State.{isActive, codeOf, dispatchTime, lengthOf, spentOf, behaviorOf, missedOf, nowOf, withPorts, withCode, withDispatchTime}
+use Rattle.model_semantics.specs.Tests.{waitingExecution}
+use Rattle.model_semantics.specs.Effects.{freeze, dispatch}
 use Rattle.table_format.specs.declared.Update.{Update}
-use Rattle.table_format.specs.Variables.{variables, nowVar, activeVar, stateVar, dispatchVar, dueVar, behaviorVar, missedVar, flagVar, inputVar, bufferVar, outputVar, localVar}
-use Rattle.table.specs.Rules.{valueOf}
-use Rattle.translate.specs.Parts.{constant, variable, copied, sumOf, update, setTo}
-use Rattle.translate.specs.Rules.{perInput, dispatchPort, dispatchRules}
+use Rattle.table_format.specs.Variables.{variables, nowVar, activeVar, stateVar, dispatchVar, dueVar, behaviorVar, missedVar, flagVar, inputVar, bufferVar, outputVar, localVar, inputRoom, threadVar}
+use Rattle.table_semantics.specs.Rules.{valueOf}
+use Rattle.translation.specs.Parts.{constant, variable, copied, sumOf, update, setTo}
+use Rattle.translation.specs.Rules.{perInput, dispatchPort, dispatchRules}
 use Rattle.simulation.specs.Compared.{Dispatched}
 use Rattle.simulation.specs.Match.{Match}
-use Rattle.simulation.specs.Writes.{value-written, updated-here, updated-there, constant-worth, variable-worth, sum-worth, Misses, Apart, misses-within, column-kept}
+use Rattle.simulation.specs.Writes.{value-written, updated-here, updated-there, constant-worth, variable-worth, sum-worth, Misses, Apart, misses-within, column-kept, NotInput}
 use Rattle.simulation.specs.Effects.{Does, firstUpdates, InParts, ThreadsSized, JobShown, jobOf, same, put, in-parts, afterwards, kept, clock-kept, thread-does, alsoDispatched}
 use Rattle.simulation.specs.EffectPorts.{dispatch-takes, dispatch-single, inputs-within, inputs-apart, freeze-shown}
 
@@ -40,10 +40,10 @@ module _ (m : Timing) (g : GoodTiming m) (d : Dispatched) (s : State) (v : List 
   abbrev after : List Value
   after = afterwards n v changes
 
-  inputs-miss : (j : ℕ) → (160 ≤ j → j < 192 → ⊥) → Misses j inputs
-  inputs-miss j b = misses-within 160 192 j inputs (inputs-within m g t (dispatchPort m) (dispatch-single m)) b
+  inputs-miss : (j : ℕ) → NotInput j → Misses j inputs
+  inputs-miss j b = misses-within (inputVar 0) (inputVar inputRoom) j inputs (inputs-within m g t (dispatchPort m) (dispatch-single m)) b
 
-  dispatch-kept : (j : ℕ) → j < variables → (j ≡ stateVar t → ⊥) × (j ≡ dispatchVar t → ⊥) × (j ≡ dueVar t → ⊥) → (160 ≤ j → j < 192 → ⊥) → valueOf after j ≡ valueOf v j
+  dispatch-kept : (j : ℕ) → j < variables → (j ≡ stateVar t → ⊥) × (j ≡ dispatchVar t → ⊥) × (j ≡ dueVar t → ⊥) → NotInput j → valueOf after j ≡ valueOf v j
   unfolding Misses
   dispatch-kept j b a e = kept n v changes (h .size) j b (a .0, (a .1, (a .2, inputs-miss j e)))
 
@@ -120,7 +120,7 @@ module _ (m : Timing) (g : GoodTiming m) (d : Dispatched) (s : State) (v : List 
         touched = record { active = same; code = put waitingExecution; dispatched = put _; long = same; spent = same; behavior = same; missed = same };
         live = refl;
         now = refl;
-        others = λ u b a k y z. (λ e. omega arith, (λ e. omega arith, (λ e. omega arith, inputs-miss (k * 16 + u) (omega arith))));
+        others = λ u b a k y z. (λ e. omega arith, (λ e. omega arith, (λ e. omega arith, inputs-miss (threadVar k u) (omega arith))));
         flags = λ c b. (λ e. omega arith, (λ e. omega arith, (λ e. omega arith, inputs-miss (flagVar c) (omega arith))));
         known = λ u a. rw (ne-eqb t u (λ e. a (omega arith))) (or-false (d u));
         clock = clock-kept (h .clock) (λ j b. dispatch-kept j (omega arith) (omega arith) (omega arith));

@@ -2,26 +2,26 @@
 use mathlib.Core.Path.{_≡_, refl, sym, _∙_}
 use mathlib.Core.Bool.{Bool, true, false, cond, _&&_, not, and-assoc}
 use mathlib.Core.List.{List, [], _∷_}
-use Prim.Native.Nat.{ℕ, _+_, _<_, _≤_}
+use Prim.Native.Nat.{ℕ, _<_, _≤_}
 use native.Mathlib.Omega.{arith}
 use native.Mathlib.Decide.{ℕ-discrete, decLt}
 use lib.Dec.{eqb, ltb}
 use borrow.Author.Tests.{ne-eqb, eqb-true, lt-ltb, le-ltb, ltb-true}
 use Rattle.numbers.specs.declared.Value.{Value}
-use Rattle.numbers.specs.Lists.{anyBelow, firstBelow, only}
+use Rattle.numbers.specs.Lists.{anyBelow, firstBelow}
 use Rattle.numbers.specs.ListLaws.{any-some, any-none}
 use Rattle.model_format.specs.declared.Timing.{Timing}
-use Rattle.model_format.specs.Model.{maxConnections, inputOwner, connectionAt, immediate, isKind, sourceThread}
+use Rattle.model_format.specs.Model.{maxConnections, inputOwner, connectionAt, immediate, isKind, sourceThread, maxInputs, maxOutputs}
 use Rattle.model_format.specs.WellFormed.{GoodTiming}
-use Rattle.model.specs.declared.Ports.{Ports}
-use Rattle.model.specs.declared.State.{State}
-use Rattle.model.specs.State.{isLive, bufferValue, outputValue}
-use Rattle.model.specs.Effects.{isFedImmediately, isPort, freeze, carries, send}
+use Rattle.model_semantics.specs.declared.Ports.{Ports}
+use Rattle.model_semantics.specs.declared.State.{State}
+use Rattle.model_semantics.specs.State.{isLive, bufferValue, outputValue}
+use Rattle.model_semantics.specs.Effects.{isFedImmediately, isPort, freeze, carries, send}
 use Rattle.table_format.specs.declared.Update.{Update}
-use Rattle.table_format.specs.Variables.{noVariable, flagVar, inputVar, bufferVar, outputVar}
-use Rattle.table.specs.Rules.{valueOf, applies, newValue}
-use Rattle.translate.specs.Parts.{variable, Expression, copied, updateWhen, update}
-use Rattle.translate.specs.Rules.{immediateInto, isImmediatePort, takeBuffer, perInput, dispatchPort, startPort, sendUpdates}
+use Rattle.table_format.specs.Variables.{noVariable, flagVar, inputVar, bufferVar, outputVar, inputRoom}
+use Rattle.table_semantics.specs.Rules.{valueOf, applies, newValue}
+use Rattle.translation.specs.Parts.{Expression, updateWhen, update}
+use Rattle.translation.specs.Rules.{immediateInto, isImmediatePort, takeBuffer, perInput, dispatchPort, startPort, sendUpdates, oldOutput, whereSent}
 use Rattle.simulation.specs.Guards.{bit-zero, bit-one}
 use Rattle.simulation.specs.Writes.{updated, updated-only, worth, variable-worth, Single, one, single-cond, Apart, Within, apart-join, within-join, shifted, column-filled, first-passes, first-before}
 use Rattle.simulation.specs.Effects.{LiveShown, ValuesShown, and-right}
@@ -39,27 +39,27 @@ module _ (m : Timing) (s : State) (v : List Value) (live : LiveShown m (s .live)
 -- ---- buffers
 module _ (m : Timing) (g : GoodTiming m) (kind t : ℕ) (from : ℕ → Expression) where
   abbrev sendOne : ℕ → List Update
-  sendOne c = only (isKind m kind c && eqb (sourceThread m c) t) (updateWhen (flagVar c) 1 (bufferVar (connectionAt m c .target)) (from (connectionAt m c .source)))
+  sendOne = whereSent m kind t from
 
   send-single : (c : ℕ) → c < m .connections → Single (bufferVar (connectionAt m c .target)) (sendOne c)
   send-single c l = single-cond (isKind m kind c && eqb (sourceThread m c) t) (one _ refl)
 
-  pub send-within : Within 192 224 (sendUpdates m kind t from)
-  send-within = within-join (λ c. bufferVar (connectionAt m c .target)) sendOne 192 224 (m .connections) send-single
-      (λ c l. let a : connectionAt m c .target < m .inputs = g .target c l in let b : m .inputs ≤ 32 = g .inputs in (omega arith, omega arith))
+  pub send-within : Within (bufferVar 0) (bufferVar inputRoom) (sendUpdates m kind t from)
+  send-within = within-join (λ c. bufferVar (connectionAt m c .target)) sendOne (bufferVar 0) (bufferVar inputRoom) (m .connections) send-single
+      (λ c l. let a : connectionAt m c .target < m .inputs = g .target c l in let b : m .inputs ≤ maxInputs = g .inputs in (omega arith, omega arith))
 
   pub send-apart : Apart (sendUpdates m kind t from)
   send-apart = apart-join (λ c. bufferVar (connectionAt m c .target)) sendOne (m .connections) send-single (λ c e l b q. g .single c e l b (omega arith))
 
   module _ (n : ℕ) (s : State) (p : Ports) (v w : List Value) (live : LiveShown m (s .live) v)
       (new : (o : ℕ) → o < m .outputs → worth n v (from o) ≡ outputValue p o) where
-    send-same : (c : ℕ) → c < m .connections → (i : ℕ) → i < 32 → (x : Value) →
-        updated n v (sendOne c) (192 + i) x ≡ cond (carries m s kind t c && eqb i (connectionAt m c .target)) (outputValue p (connectionAt m c .source)) x
+    send-same : (c : ℕ) → c < m .connections → (i : ℕ) → i < maxInputs → (x : Value) →
+        updated n v (sendOne c) (bufferVar i) x ≡ cond (carries m s kind t c && eqb i (connectionAt m c .target)) (outputValue p (connectionAt m c .source)) x
     unfolding carries
     send-same c l i b x =
         let few : m .connections ≤ maxConnections = g .connections in
-        updated-only n v (isKind m kind c && eqb (sourceThread m c) t) _ (192 + i) x ∙
-        rw (applies-live m s v live c (omega arith), shifted 192 i (connectionAt m c .target), new (connectionAt m c .source) (g .source c l))
+        updated-only n v (isKind m kind c && eqb (sourceThread m c) t) _ (bufferVar i) x ∙
+        rw (applies-live m s v live c (omega arith), shifted (bufferVar 0) i (connectionAt m c .target), new (connectionAt m c .source) (g .source c l))
         (go (isKind m kind c) (eqb (sourceThread m c) t) (isLive s c) (eqb i (connectionAt m c .target)) (outputValue p (connectionAt m c .source)))
       where
         go : (a b e z : Bool) (y : Value) → cond ((a && b) && (e && z)) y x ≡ cond ((a && (b && e)) && z) y x
@@ -67,19 +67,19 @@ module _ (m : Timing) (g : GoodTiming m) (kind t : ℕ) (from : ℕ → Expressi
         go true false e z y = refl
         go false b e z y = refl
 
-    pub send-shown : ValuesShown 192 (m .inputs) (p .buffer) v →
-        ((i : ℕ) → i < 32 → valueOf w (192 + i) ≡ updated n v (sendUpdates m kind t from) (192 + i) (valueOf v (192 + i))) →
-        ValuesShown 192 (m .inputs) (send m s kind t p .buffer) w
+    pub send-shown : ValuesShown (bufferVar 0) maxInputs (m .inputs) (p .buffer) v →
+        ((i : ℕ) → i < maxInputs → valueOf w (bufferVar i) ≡ updated n v (sendUpdates m kind t from) (bufferVar i) (valueOf v (bufferVar i))) →
+        ValuesShown (bufferVar 0) maxInputs (m .inputs) (send m s kind t p .buffer) w
     unfolding send
     send-shown h e =
         column-filled n v w (m .connections) sendOne _ (carries m s kind t) (λ c. connectionAt m c .target) (λ c. outputValue p (connectionAt m c .source))
         (λ c l x. refl) (λ c l q. g .target c l) send-same h e
 
 -- an output port as it was
-pub old-output : (m : Timing) → GoodTiming m → (n : ℕ) (p : Ports) (v : List Value) → ValuesShown 224 (m .outputs) (p .output) v →
-    (o : ℕ) → o < m .outputs → worth n v (copied (variable (outputVar o))) ≡ outputValue p o
+pub old-output : (m : Timing) → GoodTiming m → (n : ℕ) (p : Ports) (v : List Value) → ValuesShown (outputVar 0) maxOutputs (m .outputs) (p .output) v →
+    (o : ℕ) → o < m .outputs → worth n v (oldOutput o) ≡ outputValue p o
 unfolding outputValue
-old-output m g n p v h o l = let few : m .outputs ≤ 32 = g .outputs in variable-worth n v (outputVar o) ∙ h .shows o (omega arith)
+old-output m g n p v h o l = let few : m .outputs ≤ maxOutputs = g .outputs in variable-worth n v (outputVar o) ∙ h .shows o (omega arith)
 
 -- ---- the one immediate connection into an input port
 module _ (m : Timing) (g : GoodTiming m) (s : State) (i : ℕ) where
@@ -132,18 +132,18 @@ module _ (m : Timing) (g : GoodTiming m) (s : State) (i : ℕ) where
 -- ---- inputs: the updates that a rule has for each port, and the ports that take their buffers
 -- what the updates of port c make of input i: its buffer, where it is c and the test holds
 abbrev pub Takes : ℕ → List Value → Ports → Bool → List Update → ℕ → Type 0
-Takes n v p b us c = (i : ℕ) → i < 32 → (x : Value) → updated n v us (inputVar i) x ≡ cond (b && eqb i c) (bufferValue p c) x
+Takes n v p b us c = (i : ℕ) → i < maxInputs → (x : Value) → updated n v us (inputVar i) x ≡ cond (b && eqb i c) (bufferValue p c) x
 
-module _ (m : Timing) (g : GoodTiming m) (n : ℕ) (s : State) (v : List Value) (live : LiveShown m (s .live) v) (buffers : ValuesShown 192 (m .inputs) (s .ports .buffer) v)
+module _ (m : Timing) (g : GoodTiming m) (n : ℕ) (s : State) (v : List Value) (live : LiveShown m (s .live) v) (buffers : ValuesShown (bufferVar 0) maxInputs (m .inputs) (s .ports .buffer) v)
     (c : ℕ) (l : c < m .inputs) where
   buffer-taken : worth n v (takeBuffer c) ≡ bufferValue (s .ports) c
   unfolding bufferValue
-  buffer-taken = let few : m .inputs ≤ 32 = g .inputs in variable-worth n v (bufferVar c) ∙ buffers .shows c (omega arith)
+  buffer-taken = let few : m .inputs ≤ maxInputs = g .inputs in variable-worth n v (bufferVar c) ∙ buffers .shows c (omega arith)
 
   -- an update of input c that applies where b
   one-takes : (u : Update) (b : Bool) → u .target ≡ inputVar c → applies v u ≡ b → newValue n v u ≡ bufferValue (s .ports) c → Takes n v (s .ports) b (u ∷ []) c
   unfolding updated
-  one-takes u b t a e i h x = rw (a, e, t, shifted 160 i c)
+  one-takes u b t a e i h x = rw (a, e, t, shifted (inputVar 0) i c)
 
   pub dispatch-takes : Takes n v (s .ports) (not (isFedImmediately m s c)) (dispatchPort m c) c
   dispatch-takes = rw (fed-live m g s c) (go (isImmediatePort m c) refl)
@@ -175,24 +175,24 @@ module _ (m : Timing) (g : GoodTiming m) (t : ℕ) (port : ℕ → List Update) 
   port-single : (i : ℕ) → i < m .inputs → Single (inputVar i) (portOne i)
   port-single i l = single-cond (eqb (inputOwner m i) t) (single i)
 
-  pub inputs-within : Within 160 192 (perInput m t port)
-  inputs-within = within-join inputVar portOne 160 192 (m .inputs) port-single (λ i l. let few : m .inputs ≤ 32 = g .inputs in (omega arith, omega arith))
+  pub inputs-within : Within (inputVar 0) (inputVar inputRoom) (perInput m t port)
+  inputs-within = within-join inputVar portOne (inputVar 0) (inputVar inputRoom) (m .inputs) port-single (λ i l. let few : m .inputs ≤ maxInputs = g .inputs in (omega arith, omega arith))
 
   pub inputs-apart : Apart (perInput m t port)
   inputs-apart = apart-join inputVar portOne (m .inputs) port-single (λ i e l b q. omega arith)
 
   pub freeze-shown : (n : ℕ) (s : State) (fed : Bool) (v w : List Value) →
       ((c : ℕ) → c < m .inputs → Takes n v (s .ports) (cond fed (isFedImmediately m s c) (not (isFedImmediately m s c))) (port c) c) →
-      ValuesShown 160 (m .inputs) (s .ports .input) v →
-      ((i : ℕ) → i < 32 → valueOf w (inputVar i) ≡ updated n v (perInput m t port) (inputVar i) (valueOf v (inputVar i))) →
-      ValuesShown 160 (m .inputs) (freeze m s fed t .input) w
+      ValuesShown (inputVar 0) maxInputs (m .inputs) (s .ports .input) v →
+      ((i : ℕ) → i < maxInputs → valueOf w (inputVar i) ≡ updated n v (perInput m t port) (inputVar i) (valueOf v (inputVar i))) →
+      ValuesShown (inputVar 0) maxInputs (m .inputs) (freeze m s fed t .input) w
   unfolding freeze isPort updated
   freeze-shown n s fed v w takes h e =
       column-filled n v w (m .inputs) portOne _ (isPort m s fed t) (λ c. c) (bufferValue (s .ports)) (λ c l x. refl) (λ c l q. l)
       (λ c l i b x. go c i x (eqb (inputOwner m c) t) (cond fed (isFedImmediately m s c) (not (isFedImmediately m s c))) (takes c l i b x)) h e
     where
-      go : (c i : ℕ) (x : Value) (a b : Bool) → updated n v (port c) (160 + i) x ≡ cond (b && eqb i c) (bufferValue (s .ports) c) x →
-          updated n v (cond a (port c) []) (160 + i) x ≡ cond ((a && b) && eqb i c) (bufferValue (s .ports) c) x
+      go : (c i : ℕ) (x : Value) (a b : Bool) → updated n v (port c) (inputVar i) x ≡ cond (b && eqb i c) (bufferValue (s .ports) c) x →
+          updated n v (cond a (port c) []) (inputVar i) x ≡ cond ((a && b) && eqb i c) (bufferValue (s .ports) c) x
       go c i x true b r = r
       go c i x false b r = refl
 

@@ -2,32 +2,32 @@
 use mathlib.Core.Path.{_≡_, refl, _∙_}
 use mathlib.Core.Bool.{Bool, true, false, cond}
 use mathlib.Core.List.{List, [], _∷_}
-use Prim.Native.Nat.{ℕ, _+_, _*_, _<_, _≤_}
+use Prim.Native.Nat.{ℕ, _+_, _<_, _≤_}
 use native.Mathlib.Omega.{arith}
 use Rattle.numbers.specs.declared.Value.{Value}
 use Rattle.numbers.specs.ListLaws.{item-store-same}
 use Rattle.model_format.specs.declared.Timing.{Timing}
-use Rattle.model_format.specs.Model.{maxThreads}
+use Rattle.model_format.specs.Model.{maxThreads, switchAt}
 use Rattle.model_format.specs.WellFormed.{GoodTiming}
-use Rattle.model.specs.declared.Ports.{Ports}
-use Rattle.model.specs.declared.State.{State}
-use Rattle.model.specs.State.{isActive, codeOf, dispatchTime, lengthOf, spentOf, behaviorOf, missedOf, nowOf, withPorts, withPhase, withCode}
-use Rattle.model.specs.Tests.{waitingMode, waitingDispatch, waitingExecution}
-use Rattle.model.specs.Effects.{request}
+use Rattle.model_semantics.specs.declared.Ports.{Ports}
+use Rattle.model_semantics.specs.declared.State.{State}
+use Rattle.model_semantics.specs.State.{isActive, codeOf, dispatchTime, lengthOf, spentOf, behaviorOf, missedOf, nowOf, withPorts, withPhase, withCode}
+use Rattle.model_semantics.specs.Tests.{waitingMode, waitingDispatch, waitingExecution}
+use Rattle.model_semantics.specs.Effects.{request}
 use Rattle.table_format.specs.declared.Update.{Update}
-use Rattle.table_format.specs.Variables.{variables, nowVar, modeVar, phaseVar, pendingVar, enteredVar, cpuVar, activeVar, stateVar, dispatchVar, dueVar, behaviorVar, missedVar, flagVar}
-use Rattle.table.specs.Rules.{valueOf, writes, inconsistent, written}
-use Rattle.translate.specs.Parts.{constant, copied, setTo}
-use Rattle.translate.specs.Rules.{activateRules, deactivateRules}
+use Rattle.table_format.specs.Variables.{variables, nowVar, modeVar, phaseVar, pendingVar, enteredVar, cpuVar, activeVar, stateVar, dispatchVar, dueVar, behaviorVar, missedVar, flagVar, clockVars, inputRoom, threadVar, bufferVar}
+use Rattle.table_semantics.specs.Rules.{valueOf, writes, inconsistent, written}
+use Rattle.translation.specs.Parts.{constant, copied, setTo}
+use Rattle.translation.specs.Rules.{activateRules, deactivateRules, requestGranted, requestIgnored}
 use Rattle.simulation.specs.Compared.{Dispatched}
 use Rattle.simulation.specs.Match.{Match}
-use Rattle.simulation.specs.GuardSimple.{requestTaken, requestIgnored, takesRequest, requestRule}
-use Rattle.simulation.specs.Writes.{value-written, updated-here, updated-there, length-written, constant-worth, Misses, Apart, Within, apart-consistent, misses-within, column-kept}
-use Rattle.simulation.specs.Effects.{Does, firstUpdates, InParts, ThreadsSized, JobShown, PortsShown, jobOf, same, put, in-parts, whole, afterwards, kept, clock-kept, ports-kept, job-kept, thread-does, rest-shown}
+use Rattle.simulation.specs.GuardSimple.{takesRequest, requestRule}
+use Rattle.simulation.specs.Writes.{value-written, updated-here, updated-there, length-written, constant-worth, Misses, Apart, Within, apart-consistent, misses-within, column-kept, NotBuffer}
+use Rattle.simulation.specs.Effects.{Does, firstUpdates, InParts, ThreadsSized, JobShown, PortsShown, jobOf, same, put, in-parts, whole, afterwards, kept, clock-kept, ports-kept, job-kept, thread-does, still-shown}
 
 module _ (m : Timing) (g : GoodTiming m) (d : Dispatched) (s : State) (v : List Value) (h : InParts m d s v) (n : ℕ) where
   -- a code below 2, which no job has; the rest of the updates fills buffers, and p are the ports afterwards
-  module _ (t : ℕ) (l : t < m .threads) (c : ℕ) (small : c < waitingExecution) (rest : List Update) (inside : Within 192 224 rest) (p : Ports) where
+  module _ (t : ℕ) (l : t < m .threads) (c : ℕ) (small : c < waitingExecution) (rest : List Update) (inside : Within (bufferVar 0) (bufferVar inputRoom) rest) (p : Ports) where
     abbrev changes : List Update
     changes = setTo (stateVar t) c ∷ rest
 
@@ -37,10 +37,10 @@ module _ (m : Timing) (g : GoodTiming m) (d : Dispatched) (s : State) (v : List 
     abbrev later : State
     later = withPorts (withCode s t c) p
 
-    rest-missed : (j : ℕ) → (192 ≤ j → j < 224 → ⊥) → Misses j rest
-    rest-missed j b = misses-within 192 224 j rest inside b
+    rest-missed : (j : ℕ) → NotBuffer j → Misses j rest
+    rest-missed j b = misses-within (bufferVar 0) (bufferVar inputRoom) j rest inside b
 
-    pub code-kept : (j : ℕ) → j < variables → (j ≡ stateVar t → ⊥) → (192 ≤ j → j < 224 → ⊥) → valueOf after j ≡ valueOf v j
+    pub code-kept : (j : ℕ) → j < variables → (j ≡ stateVar t → ⊥) → NotBuffer j → valueOf after j ≡ valueOf v j
     unfolding Misses
     code-kept j b a e = kept n v changes (h .size) j b (a, rest-missed j e)
 
@@ -63,7 +63,7 @@ module _ (m : Timing) (g : GoodTiming m) (d : Dispatched) (s : State) (v : List 
     code-shown =
         let few : m .threads ≤ maxThreads = g .threads in
         let x : JobShown m (d t) (nowOf s) (jobOf s t) v t = h .jobs t (omega arith) in
-        rw code-job (rest-shown m (d t) (nowOf s) _ after t l small (x .reached .past) (x .reached .missed)
+        rw code-job (still-shown m (d t) (nowOf s) _ after t l (λ e. omega arith) (omega arith) (λ e. absurd (omega arith)) (λ e. absurd (omega arith)) (x .reached .past) (x .reached .missed)
         (code-kept (activeVar t) (omega arith) (omega arith) (omega arith) ∙ x .active)
         (value-written n v changes v (stateVar t) (h .size) (omega arith) ∙
         (updated-here n v (stateVar t) (copied (constant c)) rest _ (rest-missed (stateVar t) (omega arith)) ∙ constant-worth n v c))
@@ -81,7 +81,7 @@ module _ (m : Timing) (g : GoodTiming m) (d : Dispatched) (s : State) (v : List 
           touched = record { active = same; code = put c; dispatched = same; long = same; spent = same; behavior = same; missed = same };
           live = refl;
           now = refl;
-          others = λ u b a k y z. (λ e. omega arith, rest-missed (k * 16 + u) (omega arith));
+          others = λ u b a k y z. (λ e. omega arith, rest-missed (threadVar k u) (omega arith));
           flags = λ i b. (λ e. omega arith, rest-missed (flagVar i) (omega arith));
           known = λ u a. refl;
           clock = clock-kept (h .clock) (λ j b. code-kept j (omega arith) (omega arith) (omega arith));
@@ -120,10 +120,10 @@ module _ (m : Timing) (g : GoodTiming m) (d : Dispatched) (s : State) (v : List 
             (updated-there n v pendingVar (setTo phaseVar 1) (setTo pendingVar q ∷ []) _ (λ e. omega arith) ∙ (updated-here n v pendingVar (copied (constant q)) [] _ tt ∙ constant-worth n v q));
         entered = phase-kept enteredVar (omega arith) (omega arith) ∙ h .clock .entered;
         cpu = phase-kept cpuVar (omega arith) (omega arith) ∙ h .clock .cpu;
-        spare = λ j b. phase-kept (6 + j) (omega arith) (omega arith) ∙ h .clock .spare j b;
+        spare = λ j b. phase-kept (clockVars + j) (omega arith) (omega arith) ∙ h .clock .spare j b;
       };
       sized = h .sized;
-      jobs = λ t b. job-kept (h .jobs t b) (λ i a z. phase-kept (i * 16 + t) (omega arith) (omega arith));
+      jobs = λ t b. job-kept (h .jobs t b) (λ i a z. phase-kept (threadVar i t) (omega arith) (omega arith));
       live = column-kept (h .live) (λ j b. phase-kept (flagVar j) (omega arith) (omega arith));
       ports = ports-kept (h .ports) (λ j b e. phase-kept j e (omega arith));
     }
@@ -133,11 +133,11 @@ module _ (m : Timing) (g : GoodTiming m) (d : Dispatched) (s : State) (v : List 
     phase-does = record { consistent = apart-consistent n v requested (omega arith); matches = whole m d (withPhase s 1 q) phased (g .threads) phase-match }
 
 module _ (m : Timing) (g : GoodTiming m) (d : Dispatched) (s : State) (v : List Value) (h : Match m d s v) (n : ℕ) where
-  pub activate-does : (t : ℕ) → t < m .threads → Does m d (withCode s t waitingDispatch) n v (firstUpdates (activateRules t))
+  pub activate-does : (t : ℕ) → t < m .threads → Does m d (withCode s t waitingDispatch) n v (firstUpdates (activateRules m t))
   unfolding firstUpdates activateRules
   activate-does t l = plain-code-does m g d s v (in-parts m d s v h) n t l waitingDispatch (omega arith)
 
-  pub deactivate-does : (t : ℕ) → t < m .threads → Does m d (withCode s t waitingMode) n v (firstUpdates (deactivateRules t))
+  pub deactivate-does : (t : ℕ) → t < m .threads → Does m d (withCode s t waitingMode) n v (firstUpdates (deactivateRules m t))
   unfolding firstUpdates deactivateRules
   deactivate-does t l = plain-code-does m g d s v (in-parts m d s v h) n t l waitingMode (omega arith)
 
@@ -146,6 +146,6 @@ module _ (m : Timing) (g : GoodTiming m) (d : Dispatched) (s : State) (v : List 
   unfolding request writes inconsistent written
   request-does q = go (takesRequest m s q)
     where
-      go : (b : Bool) → Does m d (cond b (withPhase s 1 q) s) n v (cond b (requestTaken m q) (requestIgnored m q) .updates)
+      go : (b : Bool) → Does m d (cond b (withPhase s 1 q) s) n v (cond b (requestGranted q (switchAt m q .from)) (requestIgnored (switchAt m q .from)) .updates)
       go true = phase-does m g d s v (in-parts m d s v h) n q
       go false = record { consistent = refl; matches = h }

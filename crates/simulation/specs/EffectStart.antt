@@ -2,7 +2,7 @@
 use mathlib.Core.Path.{_≡_, refl, _∙_, ap}
 use mathlib.Core.Bool.{Bool, true, false, cond, _&&_, not, false≢true}
 use mathlib.Core.List.{List, _∷_}
-use Prim.Native.Nat.{ℕ, _+_, _*_, _<_, _≤_}
+use Prim.Native.Nat.{ℕ, _<_, _≤_}
 use native.Mathlib.Omega.{arith}
 use lib.Dec.{eqb, ltb, leb}
 use borrow.Author.Tests.{eqb-true, leb-true}
@@ -14,18 +14,18 @@ use Rattle.model_format.specs.declared.Timing.{Timing}
 use Rattle.model_format.specs.Model.{maxThreads, threadAt}
 use Rattle.model_format.specs.Reading.{longestTime}
 use Rattle.model_format.specs.WellFormed.{GoodTiming, GoodThread}
-use Rattle.model.specs.declared.State.{State}
-use Rattle.model.specs.State.{isActive, codeOf, dispatchTime, lengthOf, spentOf, behaviorOf, missedOf, nowOf, cpuFor, none, withPorts, withCpu, withCode, withJob}
-use Rattle.model.specs.Tests.{waitingExecution, execution, isDue, awaitsImmediate, startFault, canStart}
-use Rattle.model.specs.Effects.{freeze, start}
+use Rattle.model_semantics.specs.declared.State.{State}
+use Rattle.model_semantics.specs.State.{isActive, codeOf, dispatchTime, lengthOf, spentOf, behaviorOf, missedOf, nowOf, cpuFor, none, withPorts, withCpu, withCode, withJob}
+use Rattle.model_semantics.specs.Tests.{waitingExecution, execution, isDue, awaitsImmediate, startFault, canStart}
+use Rattle.model_semantics.specs.Effects.{freeze, start}
 use Rattle.table_format.specs.declared.Update.{Update}
-use Rattle.table_format.specs.Variables.{variables, nowVar, cpuVar, activeVar, stateVar, dispatchVar, dueVar, endVar, behaviorVar, missedVar, flagVar, inputVar, bufferVar, outputVar, localVar}
-use Rattle.table.specs.Rules.{valueOf}
-use Rattle.translate.specs.Parts.{constant, variable, chosenLength, copied, sumOf, update, setTo}
-use Rattle.translate.specs.Rules.{perInput, startPort, startRules}
+use Rattle.table_format.specs.Variables.{variables, nowVar, cpuVar, activeVar, stateVar, dispatchVar, dueVar, endVar, behaviorVar, missedVar, flagVar, inputVar, bufferVar, outputVar, localVar, inputRoom, threadVar}
+use Rattle.table_semantics.specs.Rules.{valueOf}
+use Rattle.translation.specs.Parts.{constant, variable, chosenLength, copied, sumOf, update, setTo}
+use Rattle.translation.specs.Rules.{perInput, startPort, startRules}
 use Rattle.simulation.specs.Compared.{Dispatched}
 use Rattle.simulation.specs.Match.{Match}
-use Rattle.simulation.specs.Writes.{value-written, updated-here, updated-there, constant-worth, chosen-worth, Misses, Apart, misses-within, column-kept}
+use Rattle.simulation.specs.Writes.{value-written, updated-here, updated-there, constant-worth, chosen-worth, Misses, Apart, misses-within, column-kept, NotInput}
 use Rattle.simulation.specs.Effects.{Does, firstUpdates, InParts, ThreadsSized, JobShown, jobOf, same, put, in-parts, afterwards, kept, cpu-set, thread-does, and-left, and-right}
 use Rattle.simulation.specs.EffectPorts.{start-takes, start-single, inputs-within, inputs-apart, freeze-shown}
 
@@ -48,10 +48,10 @@ module _ (m : Timing) (g : GoodTiming m) (d : Dispatched) (s : State) (v : List 
   abbrev after : List Value
   after = afterwards n v changes
 
-  inputs-miss : (j : ℕ) → (160 ≤ j → j < 192 → ⊥) → Misses j inputs
-  inputs-miss j b = misses-within 160 192 j inputs (inputs-within m g t (startPort m) (start-single m)) b
+  inputs-miss : (j : ℕ) → NotInput j → Misses j inputs
+  inputs-miss j b = misses-within (inputVar 0) (inputVar inputRoom) j inputs (inputs-within m g t (startPort m) (start-single m)) b
 
-  start-kept : (j : ℕ) → j < variables → (j ≡ stateVar t → ⊥) × (j ≡ cpuVar → ⊥) × (j ≡ endVar t → ⊥) → (160 ≤ j → j < 192 → ⊥) → valueOf after j ≡ valueOf v j
+  start-kept : (j : ℕ) → j < variables → (j ≡ stateVar t → ⊥) × (j ≡ cpuVar → ⊥) × (j ≡ endVar t → ⊥) → NotInput j → valueOf after j ≡ valueOf v j
   unfolding Misses
   start-kept j b a e = kept n v changes (h .size) j b (a .0, (a .1, (a .2, inputs-miss j e)))
 
@@ -124,7 +124,7 @@ module _ (m : Timing) (g : GoodTiming m) (d : Dispatched) (s : State) (v : List 
         touched = record { active = same; code = put execution; dispatched = same; long = put _; spent = put _; behavior = same; missed = same };
         live = refl;
         now = refl;
-        others = λ u b a k y z. (λ e. omega arith, (λ e. omega arith, (λ e. omega arith, inputs-miss (k * 16 + u) (omega arith))));
+        others = λ u b a k y z. (λ e. omega arith, (λ e. omega arith, (λ e. omega arith, inputs-miss (threadVar k u) (omega arith))));
         flags = λ c b. (λ e. omega arith, (λ e. omega arith, (λ e. omega arith, inputs-miss (flagVar c) (omega arith))));
         known = λ u a. refl;
         clock = cpu-set t (h .clock) (λ j b a. start-kept j (omega arith) (λ e. omega arith, a, λ e. omega arith) (omega arith))

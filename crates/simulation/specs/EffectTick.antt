@@ -18,17 +18,17 @@ use Rattle.model_format.specs.declared.Timing.{Timing}
 use Rattle.model_format.specs.Model.{maxThreads}
 use Rattle.model_format.specs.Reading.{longestTime}
 use Rattle.model_format.specs.WellFormed.{GoodTiming}
-use Rattle.model.specs.declared.State.{State}
-use Rattle.model.specs.State.{isActive, codeOf, dispatchTime, lengthOf, spentOf, behaviorOf, missedOf, nowOf, withNow, withSpent}
-use Rattle.model.specs.Tests.{execution, isBusy}
-use Rattle.model.specs.Effects.{tick}
-use Rattle.table_format.specs.Variables.{variables, nowVar, modeVar, phaseVar, pendingVar, enteredVar, cpuVar, flagVar}
-use Rattle.table.specs.Rules.{valueOf}
+use Rattle.model_semantics.specs.declared.State.{State}
+use Rattle.model_semantics.specs.State.{isActive, codeOf, dispatchTime, lengthOf, spentOf, behaviorOf, missedOf, nowOf, withNow, withSpent}
+use Rattle.model_semantics.specs.Tests.{execution, isBusy}
+use Rattle.model_semantics.specs.Effects.{tick}
+use Rattle.table_format.specs.Variables.{variables, nowVar, modeVar, phaseVar, pendingVar, enteredVar, cpuVar, flagVar, clockVars, activeVar, stateVar, dispatchVar, dueVar, endVar, behaviorVar, missedVar}
+use Rattle.table_semantics.specs.Rules.{valueOf}
 use Rattle.simulation.specs.Compared.{Dispatched}
 use Rattle.simulation.specs.Match.{Match}
 use Rattle.simulation.specs.Ticks.{tickVariables}
 use Rattle.simulation.specs.Quiet.{quiet-unspent}
-use Rattle.simulation.specs.Writes.{plus-small, fold-related, column-kept}
+use Rattle.simulation.specs.Writes.{plus-small, column-kept, fold-related}
 use Rattle.simulation.specs.Effects.{InParts, JobShown, jobOf, in-parts, whole, ports-kept}
 
 -- ---- Spent of all threads
@@ -124,15 +124,15 @@ module _ (m : Timing) (g : GoodTiming m) (d : Dispatched) (s : State) (v : List 
   job-ticked : (t : ℕ) → t < maxThreads → JobShown m (d t) (nowOf s + 1) (jobOf later t) after t
   unfolding withNow withSpents isActive codeOf dispatchTime lengthOf behaviorOf missedOf
   job-ticked t l = let x : JobShown m (d t) (nowOf s) (jobOf s t) v t = h .jobs t l in record {
-    active = tick-kept (16 + t) (omega arith) ∙ x .active;
-    code = tick-kept (32 + t) (omega arith) ∙ x .code;
-    dispatched = tick-kept (48 + t) (omega arith) ∙ x .dispatched;
-    due = λ b e. tick-kept (64 + t) (omega arith) ∙ x .due b e;
-    noDue = λ b. tick-kept (64 + t) (omega arith) ∙ x .noDue b;
-    end = λ b e. tick-kept (80 + t) (omega arith) ∙ (x .end b e ∙ ap natural (let a = one-spent t b e in omega arith));
-    noEnd = λ b. tick-kept (80 + t) (omega arith) ∙ x .noEnd b;
-    behavior = tick-kept (96 + t) (omega arith) ∙ x .behavior;
-    missed = tick-kept (112 + t) (omega arith) ∙ x .missed;
+    active = tick-kept (activeVar t) (omega arith) ∙ x .active;
+    code = tick-kept (stateVar t) (omega arith) ∙ x .code;
+    dispatched = tick-kept (dispatchVar t) (omega arith) ∙ x .dispatched;
+    due = λ b e. tick-kept (dueVar t) (omega arith) ∙ x .due b e;
+    noDue = λ b. tick-kept (dueVar t) (omega arith) ∙ x .noDue b;
+    end = λ b e. tick-kept (endVar t) (omega arith) ∙ (x .end b e ∙ ap natural (let a = one-spent t b e in omega arith));
+    noEnd = λ b. tick-kept (endVar t) (omega arith) ∙ x .noEnd b;
+    behavior = tick-kept (behaviorVar t) (omega arith) ∙ x .behavior;
+    missed = tick-kept (missedVar t) (omega arith) ∙ x .missed;
     blank = λ b. record { active = x .blank b .active; code = x .blank b .code; dispatched = x .blank b .dispatched; behavior = x .blank b .behavior; missed = x .blank b .missed };
     reached = record {
       codes = x .reached .codes;
@@ -157,7 +157,7 @@ module _ (m : Timing) (g : GoodTiming m) (d : Dispatched) (s : State) (v : List 
       pending = tick-kept pendingVar (omega arith) ∙ h .clock .pending;
       entered = tick-kept enteredVar (omega arith) ∙ h .clock .entered;
       cpu = tick-kept cpuVar (omega arith) ∙ h .clock .cpu;
-      spare = λ j l. tick-kept (6 + j) (omega arith) ∙ h .clock .spare j l;
+      spare = λ j l. tick-kept (clockVars + j) (omega arith) ∙ h .clock .spare j l;
     };
     sized = record {
       active = h .sized .active;

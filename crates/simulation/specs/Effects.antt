@@ -2,7 +2,7 @@
 use mathlib.Core.Path.{_≡_, refl, _∙_}
 use mathlib.Core.Bool.{Bool, true, false, _&&_, _||_, or-false}
 use mathlib.Core.List.{List, [], _∷_}
-use Prim.Native.Nat.{ℕ, _+_, _-_, _*_, _<_, _≤_}
+use Prim.Native.Nat.{ℕ, _+_, _-_, _<_, _≤_}
 use native.Mathlib.Omega.{arith}
 use native.Mathlib.Decide.{ℕ-discrete, decLt}
 use lib.Dec.{eqb}
@@ -18,19 +18,19 @@ use Rattle.records.specs.declared.Cause.the-variants.{None}
 use Rattle.records.specs.Refusals.{numberOf, isNone}
 use Rattle.records.specs.Events.{dispatchKind, lastClock}
 use Rattle.model_format.specs.declared.Timing.{Timing}
-use Rattle.model_format.specs.Model.{maxThreads, maxConnections, threadAt}
+use Rattle.model_format.specs.Model.{maxThreads, maxConnections, threadAt, maxInputs, maxOutputs, maxLocals}
 use Rattle.model_format.specs.Reading.{longestTime}
-use Rattle.model.specs.declared.Clock.{Clock}
-use Rattle.model.specs.declared.Threads.{Threads}
-use Rattle.model.specs.declared.Ports.{Ports}
-use Rattle.model.specs.declared.State.{State}
-use Rattle.model.specs.State.{isActive, codeOf, dispatchTime, lengthOf, spentOf, behaviorOf, missedOf, isLive, inputValue, bufferValue, outputValue, localValue, nowOf}
-use Rattle.model.specs.Tests.{waitingExecution, execution, completed, dueOf}
+use Rattle.model_semantics.specs.declared.Clock.{Clock}
+use Rattle.model_semantics.specs.declared.Threads.{Threads}
+use Rattle.model_semantics.specs.declared.Ports.{Ports}
+use Rattle.model_semantics.specs.declared.State.{State}
+use Rattle.model_semantics.specs.State.{isActive, codeOf, dispatchTime, lengthOf, spentOf, behaviorOf, missedOf, isLive, inputValue, bufferValue, outputValue, localValue, nowOf}
+use Rattle.model_semantics.specs.Tests.{waitingExecution, execution, dueOf, lastCode}
 use Rattle.table_format.specs.declared.Update.{Update}
-use Rattle.table_format.specs.Variables.{variables, nowVar, modeVar, phaseVar, pendingVar, enteredVar, cpuVar, activeVar, stateVar, dispatchVar, dueVar, endVar, behaviorVar, missedVar, flagVar, inputVar, bufferVar, outputVar, localVar}
-use Rattle.table.specs.Rules.{valueOf, writes, inconsistent, written}
-use Rattle.translate.specs.Shown.{bit}
-use Rattle.translate.specs.Parts.{Body}
+use Rattle.table_format.specs.Variables.{variables, nowVar, modeVar, phaseVar, pendingVar, enteredVar, cpuVar, activeVar, stateVar, dispatchVar, dueVar, endVar, behaviorVar, missedVar, flagVar, inputVar, bufferVar, outputVar, localVar, clockVars, spareVars, threadVar, threadColumns}
+use Rattle.table_semantics.specs.Rules.{valueOf, writes, inconsistent, written}
+use Rattle.translation.specs.Shown.{bit}
+use Rattle.translation.specs.Parts.{Body}
 use Rattle.simulation.specs.Compared.{Dispatched, andAfter}
 use Rattle.simulation.specs.Match.{Match}
 use Rattle.simulation.specs.Writes.{value-written, updated-miss, length-written, Misses, Apart, apart-consistent, Column, column-kept}
@@ -43,7 +43,7 @@ pub record ClockShown (c : Clock) (v : List Value) : Type 0 where
   pub pending : valueOf v pendingVar ≡ natural (c .pending)
   pub entered : valueOf v enteredVar ≡ natural (c .entered .0)
   pub cpu : valueOf v cpuVar ≡ natural (c .cpu)
-  pub spare : (j : ℕ) → j < 10 → valueOf v (6 + j) ≡ natural 0
+  pub spare : (j : ℕ) → j < spareVars → valueOf v (clockVars + j) ≡ natural 0
 
 -- one thread of a state
 pub record Job : Type 0 where
@@ -75,7 +75,7 @@ pub record JobBlank (x : Job) : Type 0 where
   pub missed : x .missed ≡ 0
 
 pub record JobReached (d : Bool) (now : ℕ) (x : Job) : Type 0 where
-  pub codes : x .code ≤ completed
+  pub codes : x .code ≤ lastCode
   pub ran : x .code ≡ execution → x .spent ≤ x .long
   pub long : x .code ≡ execution → x .long ≤ longestTime
   pub begun : waitingExecution ≤ x .code → d ≡ true
@@ -112,14 +112,14 @@ flagOf b = natural (bit b)
 abbrev pub LiveShown : Timing → List Bool → List Value → Type 0
 LiveShown m l v = Column flagOf false (flagVar 0) maxConnections (m .connections) l v
 
-abbrev pub ValuesShown : ℕ → ℕ → List Value → List Value → Type 0
-ValuesShown base count l v = Column (λ x. x) (natural 0) base 32 count l v
+abbrev pub ValuesShown : ℕ → ℕ → ℕ → List Value → List Value → Type 0
+ValuesShown base room count l v = Column (λ x. x) (natural 0) base room count l v
 
 pub record PortsShown (m : Timing) (p : Ports) (v : List Value) : Type 0 where
-  pub input : ValuesShown (inputVar 0) (m .inputs) (p .input) v
-  pub buffer : ValuesShown (bufferVar 0) (m .inputs) (p .buffer) v
-  pub output : ValuesShown (outputVar 0) (m .outputs) (p .output) v
-  pub local : ValuesShown (localVar 0) (m .locals) (p .local) v
+  pub input : ValuesShown (inputVar 0) maxInputs (m .inputs) (p .input) v
+  pub buffer : ValuesShown (bufferVar 0) maxInputs (m .inputs) (p .buffer) v
+  pub output : ValuesShown (outputVar 0) maxOutputs (m .outputs) (p .output) v
+  pub local : ValuesShown (localVar 0) maxLocals (m .locals) (p .local) v
 
 pub record InParts (m : Timing) (d : Dispatched) (s : State) (v : List Value) : Type 0 where
   pub size : length v ≡ variables
@@ -284,7 +284,7 @@ firstUpdates [] = []
 firstUpdates (b ∷ l) = b .updates
 
 -- ---- parts that are kept
-pub clock-kept : {c : Clock} {v w : List Value} → ClockShown c v → ((j : ℕ) → j < 16 → valueOf w j ≡ valueOf v j) → ClockShown c w
+pub clock-kept : {c : Clock} {v w : List Value} → ClockShown c v → ((j : ℕ) → j < activeVar 0 → valueOf w j ≡ valueOf v j) → ClockShown c w
 clock-kept h k = record {
   now = k nowVar (omega arith) ∙ h .now;
   mode = k modeVar (omega arith) ∙ h .mode;
@@ -292,11 +292,11 @@ clock-kept h k = record {
   pending = k pendingVar (omega arith) ∙ h .pending;
   entered = k enteredVar (omega arith) ∙ h .entered;
   cpu = k cpuVar (omega arith) ∙ h .cpu;
-  spare = λ j l. k (6 + j) (omega arith) ∙ h .spare j l;
+  spare = λ j l. k (clockVars + j) (omega arith) ∙ h .spare j l;
 }
 
 pub ports-kept : {m : Timing} {p : Ports} {v w : List Value} → PortsShown m p v →
-    ((j : ℕ) → 160 ≤ j → j < variables → valueOf w j ≡ valueOf v j) → PortsShown m p w
+    ((j : ℕ) → inputVar 0 ≤ j → j < variables → valueOf w j ≡ valueOf v j) → PortsShown m p w
 ports-kept h k = record {
   input = column-kept (h .input) (λ i l. k (inputVar i) (omega arith) (omega arith));
   buffer = column-kept (h .buffer) (λ i l. k (bufferVar i) (omega arith) (omega arith));
@@ -304,9 +304,9 @@ ports-kept h k = record {
   local = column-kept (h .local) (λ i l. k (localVar i) (omega arith) (omega arith));
 }
 
--- the variables of thread t are t past a multiple of 16, from Active to Missed
+-- the variables of thread t
 abbrev pub SameJob : List Value → List Value → ℕ → Type 0
-SameJob v w t = (k : ℕ) → 1 ≤ k → k ≤ 7 → valueOf w (k * 16 + t) ≡ valueOf v (k * 16 + t)
+SameJob v w t = (k : ℕ) → 1 ≤ k → k ≤ threadColumns → valueOf w (threadVar k t) ≡ valueOf v (threadVar k t)
 
 pub job-kept : {m : Timing} {d : Bool} {now : ℕ} {x : Job} {v w : List Value} {t : ℕ} → JobShown m d now x v t → SameJob v w t → JobShown m d now x w t
 job-kept h k = record {
@@ -385,7 +385,7 @@ pub kept : (n : ℕ) (v : List Value) (us : List Update) → length v ≡ variab
 kept n v us z j l k = value-written n v us v j z l ∙ updated-miss n v j us (valueOf v j) k
 
 -- the processor alone
-pub cpu-set : {c : Clock} {v w : List Value} (cpu : ℕ) → ClockShown c v → ((j : ℕ) → j < 16 → (j ≡ cpuVar → ⊥) → valueOf w j ≡ valueOf v j) → valueOf w cpuVar ≡ natural cpu →
+pub cpu-set : {c : Clock} {v w : List Value} (cpu : ℕ) → ClockShown c v → ((j : ℕ) → j < activeVar 0 → (j ≡ cpuVar → ⊥) → valueOf w j ≡ valueOf v j) → valueOf w cpuVar ≡ natural cpu →
     ClockShown (record { now = c .now; entered = c .entered; mode = c .mode; phase = c .phase; pending = c .pending; cpu = cpu }) w
 cpu-set cpu h k e = record {
   now = k nowVar (omega arith) (λ q. omega arith) ∙ h .now;
@@ -394,7 +394,7 @@ cpu-set cpu h k e = record {
   pending = k pendingVar (omega arith) (λ q. omega arith) ∙ h .pending;
   entered = k enteredVar (omega arith) (λ q. omega arith) ∙ h .entered;
   cpu = e;
-  spare = λ j l. k (6 + j) (omega arith) (λ q. omega arith) ∙ h .spare j l;
+  spare = λ j l. k (clockVars + j) (omega arith) (λ q. omega arith) ∙ h .spare j l;
 }
 
 -- ---- an event of thread t, from state s to state r, with the updates us; d and e tell the threads dispatched before and after
@@ -406,7 +406,7 @@ pub record ThreadEvent (m : Timing) (d e : Dispatched) (s r : State) (v : List V
   pub touched : ThreadsTouched t (s .threads) (r .threads)
   pub live : r .live ≡ s .live
   pub now : nowOf r ≡ nowOf s
-  pub others : (u : ℕ) → u < maxThreads → (u ≡ t → ⊥) → (k : ℕ) → 1 ≤ k → k ≤ 7 → Misses (k * 16 + u) us
+  pub others : (u : ℕ) → u < maxThreads → (u ≡ t → ⊥) → (k : ℕ) → 1 ≤ k → k ≤ threadColumns → Misses (threadVar k u) us
   pub flags : (c : ℕ) → c < maxConnections → Misses (flagVar c) us
   pub known : (u : ℕ) → (u ≡ t → ⊥) → e u ≡ d u
   pub clock : ClockShown (r .clock) (afterwards n v us)
@@ -424,37 +424,30 @@ thread-does m d e s r v n t us few h x = record {
     clock = x .clock;
     sized = touched-sized t s r (x .touched) (h .sized);
     jobs = rw (x .now) (jobs-touched t s r (x .touched) m d e (nowOf s) v (afterwards n v us) (h .jobs)
-        (λ u b z k p q. kept n v us (h .size) (k * 16 + u) (omega arith) (x .others u b z k p q)) (x .known) (x .job));
+        (λ u b z k p q. kept n v us (h .size) (threadVar k u) (omega arith) (x .others u b z k p q)) (x .known) (x .job));
     live = rw (x .live) (column-kept (h .live) (λ c b. kept n v us (h .size) (flagVar c) (omega arith) (x .flags c b)));
     ports = x .ports;
   });
 }
 
--- ---- a thread without a job after the event
-pub rest-shown : (m : Timing) (d : Bool) (now : ℕ) (x : Job) (w : List Value) (t : ℕ) → t < m .threads → x .code < waitingExecution → x .dispatched ≤ now → x .missed ≤ now →
+-- ---- a thread whose job does not run after the event: what its variables show of it; End stands for nothing
+pub still-shown : (m : Timing) (d : Bool) (now : ℕ) (x : Job) (w : List Value) (t : ℕ) → t < m .threads → (x .code ≡ execution → ⊥) → x .code ≤ lastCode →
+    (waitingExecution ≤ x .code → d ≡ true) → (waitingExecution ≤ x .code → x .missed ≤ x .dispatched) → x .dispatched ≤ now → x .missed ≤ now →
     valueOf w (activeVar t) ≡ natural (bit (x .active)) → valueOf w (stateVar t) ≡ natural (x .code) → valueOf w (dispatchVar t) ≡ natural (x .dispatched) →
     (d ≡ true → valueOf w (dueVar t) ≡ natural (x .dispatched + threadAt m t .deadline .0)) →
     valueOf w (behaviorVar t) ≡ natural (x .behavior) → valueOf w (missedVar t) ≡ natural (x .missed) → JobShown m d now x w t
-rest-shown m d now x w t l c p q active code dispatched due behavior missed = record {
+still-shown m d now x w t l r c b f p q active code dispatched due behavior missed = record {
   active = active;
   code = code;
   dispatched = dispatched;
   due = λ b. due;
   noDue = λ b. absurd (omega arith);
-  end = λ b e. absurd (omega arith);
+  end = λ b e. absurd (r e);
   noEnd = λ b. absurd (omega arith);
   behavior = behavior;
   missed = missed;
   blank = λ b. absurd (omega arith);
-  reached = record {
-    codes = omega arith;
-    ran = λ e. absurd (omega arith);
-    long = λ e. absurd (omega arith);
-    begun = λ e. absurd (omega arith);
-    past = p;
-    missed = q;
-    missedBefore = λ e. absurd (omega arith);
-  };
+  reached = record { codes = c; ran = λ e. absurd (r e); long = λ e. absurd (r e); begun = b; past = p; missed = q; missedBefore = f };
 }
 
 -- ---- both of two tests

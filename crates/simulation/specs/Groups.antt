@@ -10,12 +10,14 @@ use borrow.Author.Tests.{eq-eqb, ne-eqb, lt-ltb, le-ltb}
 use Rattle.numbers.specs.declared.Value.{Value}
 use Rattle.numbers.specs.Lists.{anyBelow, joinBelow}
 use Rattle.records.specs.Events.{requestKind}
+use Rattle.table_format.specs.RuleKinds.{isOneOf}
 use Rattle.table_format.specs.Table.{Rule}
-use Rattle.table.specs.Rules.{allHold, isEnabled, enabledRules}
-use Rattle.table.specs.Machine.{isBusy}
+use Rattle.table_format.specs.All.{All}
+use Rattle.table_semantics.specs.Rules.{allHold, isEnabled, enabledRules}
+use Rattle.table_semantics.specs.Machine.{isBusy}
 use Rattle.model_format.specs.declared.Model.{Model}
-use Rattle.translate.specs.Parts.{Body, stamped, Group, rulesOfGroups}
-use Rattle.translate.specs.Rules.{activateRules, deactivateRules, dispatchRules, startRules, completeRules, deadlineRules, missRules, requestRules, enterRules, leaveRules, groupsOf}
+use Rattle.translation.specs.Parts.{Body, stamped, Group, rulesOfGroups}
+use Rattle.translation.specs.Rules.{activateRules, deactivateRules, dispatchRules, startRules, completeRules, deadlineRules, missRules, requestRules, enterRules, leaveRules, itemsOf, timingRules, rulesFor, groupsFor, groupsOf}
 
 -- the bodies whose clauses all hold
 unfoldable pub enabledBodies : List Value → List Body → List Body
@@ -123,44 +125,44 @@ enabled-rules v k i (g ∷ gs) =
 
 -- ---- a model's groups: at each kind the one group
 module _ (m : Model) (i : ℕ) where
-  pub bodies-activate : bodiesFor 1 i (groupsOf m) ≡ cond (ltb i (m .timing .threads)) (activateRules i) []
-  unfolding bodiesFor groupsOf
+  pub bodies-activate : bodiesFor 1 i (groupsOf m) ≡ cond (ltb i (m .timing .threads)) (activateRules (m .timing) i) []
+  unfolding bodiesFor groupsFor itemsOf timingRules rulesFor isOneOf
   bodies-activate = append-nil _
 
-  pub bodies-deactivate : bodiesFor 2 i (groupsOf m) ≡ cond (ltb i (m .timing .threads)) (deactivateRules i) []
-  unfolding bodiesFor groupsOf
+  pub bodies-deactivate : bodiesFor 2 i (groupsOf m) ≡ cond (ltb i (m .timing .threads)) (deactivateRules (m .timing) i) []
+  unfolding bodiesFor groupsFor itemsOf timingRules rulesFor isOneOf
   bodies-deactivate = append-nil _
 
   pub bodies-dispatch : bodiesFor 3 i (groupsOf m) ≡ cond (ltb i (m .timing .threads)) (dispatchRules (m .timing) i) []
-  unfolding bodiesFor groupsOf
+  unfolding bodiesFor groupsFor itemsOf timingRules rulesFor isOneOf
   bodies-dispatch = append-nil _
 
   pub bodies-start : bodiesFor 4 i (groupsOf m) ≡ cond (ltb i (m .timing .threads)) (startRules (m .timing) i) []
-  unfolding bodiesFor groupsOf
+  unfolding bodiesFor groupsFor itemsOf timingRules rulesFor isOneOf
   bodies-start = append-nil _
 
   pub bodies-complete : bodiesFor 5 i (groupsOf m) ≡ cond (ltb i (m .timing .threads)) (completeRules m i) []
-  unfolding bodiesFor groupsOf
+  unfolding bodiesFor groupsFor itemsOf timingRules rulesFor isOneOf
   bodies-complete = append-nil _
 
   pub bodies-deadline : bodiesFor 6 i (groupsOf m) ≡ cond (ltb i (m .timing .threads)) (deadlineRules (m .timing) i) []
-  unfolding bodiesFor groupsOf
+  unfolding bodiesFor groupsFor itemsOf timingRules rulesFor isOneOf
   bodies-deadline = append-nil _
 
-  pub bodies-miss : bodiesFor 7 i (groupsOf m) ≡ cond (ltb i (m .timing .threads)) (missRules i) []
-  unfolding bodiesFor groupsOf
+  pub bodies-miss : bodiesFor 7 i (groupsOf m) ≡ cond (ltb i (m .timing .threads)) (missRules (m .timing) i) []
+  unfolding bodiesFor groupsFor itemsOf timingRules rulesFor isOneOf
   bodies-miss = append-nil _
 
   pub bodies-request : bodiesFor 8 i (groupsOf m) ≡ cond (ltb i (m .timing .switches)) (requestRules (m .timing) i) []
-  unfolding bodiesFor groupsOf
+  unfolding bodiesFor groupsFor itemsOf timingRules rulesFor isOneOf
   bodies-request = append-nil _
 
   pub bodies-enter : bodiesFor 9 i (groupsOf m) ≡ cond (ltb i (m .timing .switches)) (enterRules (m .timing) i) []
-  unfolding bodiesFor groupsOf
+  unfolding bodiesFor groupsFor itemsOf timingRules rulesFor isOneOf
   bodies-enter = append-nil _
 
   pub bodies-leave : bodiesFor 10 i (groupsOf m) ≡ cond (ltb i (m .timing .switches)) (leaveRules (m .timing) i) []
-  unfolding bodiesFor groupsOf
+  unfolding bodiesFor groupsFor itemsOf timingRules rulesFor isOneOf
   bodies-leave = append-nil _
 
 -- ---- some rule is enabled
@@ -225,3 +227,23 @@ any-of-one v l c b e = some-enabled v l ∙ rw e (go c)
 pub single-enabled : (v : List Value) (b : Body) (c : Bool) → allHold v (b .clauses) ≡ c → enabledBodies v (b ∷ []) ≡ cond c (b ∷ []) []
 unfolding enabledBodies
 single-enabled v b c e = rw e
+
+-- ---- rules that differ by State: f has those for each of the codes l, no code twice; just the rule g of the code that the thread has is
+-- enabled, where p passes for it
+unfoldable pub perCode : List ℕ → (ℕ → List Body) → List Body
+perCode [] f = []
+perCode (c ∷ l) f = f c ++ perCode l f
+
+unfoldable pub Differ : List ℕ → Type 0
+Differ [] = Unit {0}
+Differ (c ∷ l) = (isOneOf l c ≡ false) × Differ l
+
+pub by-state : (v : List Value) (code : ℕ) (l : List ℕ) (f : ℕ → List Body) (g : ℕ → Body) (p : ℕ → Bool) → Differ l →
+    All (λ (c : ℕ). enabledBodies v (f c) ≡ cond (eqb code c && p c) (g c ∷ []) []) l → enabledBodies v (perCode l f) ≡ cond (isOneOf l code && p code) (g code ∷ []) []
+unfolding perCode Differ isOneOf enabledBodies
+by-state v code [] f g p d h = refl
+by-state v code (c ∷ l) f g p d h = enabled-append v (f c) (perCode l f) ∙ rw (h .0, by-state v code l f g p (d .1) (h .1)) (go (ℕ-discrete code c))
+  where
+    go : Dec (code ≡ c) → cond (eqb code c && p c) (g c ∷ []) [] ++ cond (isOneOf l code && p code) (g code ∷ []) [] ≡ cond ((eqb code c || isOneOf l code) && p code) (g code ∷ []) []
+    go (yes e) = rw (e, eq-eqb c c refl, d .0) (append-nil _)
+    go (no n) = rw (ne-eqb code c n)

@@ -18,15 +18,15 @@ use Rattle.model_format.specs.declared.Model.{Model}
 use Rattle.model_format.specs.Model.{maxThreads, maxInputs, maxLocals, transitionAt, atomAt}
 use Rattle.model_format.specs.Reading.{namesItem}
 use Rattle.model_format.specs.WellFormed.{GoodTiming, GoodOperand, GoodAtom, WellFormed}
-use Rattle.model.specs.declared.State.{State}
-use Rattle.model.specs.State.{codeOf, lengthOf, spentOf, behaviorOf, inputValue, localValue}
-use Rattle.model.specs.Effects.{leftValue, atomHolds, isOpen, firstOpen, operandValue as modelValue}
-use Rattle.model.specs.Tests.{execution, canComplete}
+use Rattle.model_semantics.specs.declared.State.{State}
+use Rattle.model_semantics.specs.State.{codeOf, lengthOf, spentOf, behaviorOf, inputValue, localValue}
+use Rattle.model_semantics.specs.Effects.{leftValue, atomHolds, isOpen, firstOpen, operandValue as modelValue}
+use Rattle.model_semantics.specs.Tests.{execution, canComplete}
 use Rattle.table_format.specs.declared.Atom as table-atom
 use Rattle.table_format.specs.Variables.{behaviorVar, stateVar}
-use Rattle.table.specs.Rules.{valueOf, operandValue, holdsOp, holds, clauseHolds, allHold}
-use Rattle.translate.specs.Parts.{negatedOp, Body}
-use Rattle.translate.specs.Rules.{variableOf, operandOf, atomWith, guardClauses, negatedGuard, perTransition, earlierClause, otherwiseClause, transitionRule, defaultRule, completeRules}
+use Rattle.table_semantics.specs.Rules.{valueOf, operandValue, holdsOp, holds, clauseHolds, allHold}
+use Rattle.translation.specs.Parts.{negatedOp, Body}
+use Rattle.translation.specs.Rules.{variableOf, operandOf, atomWith, guardClauses, negatedGuard, perTransition, earlierClause, otherwiseClause, transitionRule, defaultRule, completeRules}
 use Rattle.simulation.specs.Compared.{Dispatched}
 use Rattle.simulation.specs.Match.{Match}
 use Rattle.simulation.specs.Groups.{enabledBodies, enabled-append, single-enabled}

@@ -1,28 +1,29 @@
 -- Guards of DEADLINE and MISS: of the rules that differ by Active, and MISS's by the code, just the right one is enabled.
-use mathlib.Core.Path.{_≡_, refl, sym, _∙_}
+use mathlib.Core.Path.{_≡_, refl, sym, _∙_, ap}
 use mathlib.Core.Bool.{Bool, true, false, cond, _&&_, _||_, not, and-true, and-false, or-false, and-assoc}
-use mathlib.Core.List.{List, [], _∷_, _++_}
+use mathlib.Core.List.{List, [], _∷_}
 use Prim.Native.Nat.{ℕ, _<_, _≤_}
 use native.Mathlib.Omega.{arith}
 use native.Mathlib.Decide.{ℕ-discrete}
 use lib.Dec.{eqb}
-use borrow.Author.Tests.{ne-eqb}
+use borrow.Author.Tests.{eq-eqb, ne-eqb}
 use Rattle.numbers.specs.declared.Value.{Value}
 use Rattle.model_format.specs.declared.Timing.{Timing}
 use Rattle.model_format.specs.Model.{maxThreads}
 use Rattle.model_format.specs.WellFormed.{GoodTiming}
-use Rattle.model.specs.declared.State.{State}
-use Rattle.model.specs.State.{isActive, codeOf, lengthOf, spentOf}
-use Rattle.model.specs.Effects.{restCode}
-use Rattle.model.specs.Tests.{waitingExecution, execution, completed, isDue, canMeetDeadline, canMiss}
+use Rattle.model_semantics.specs.declared.State.{State}
+use Rattle.model_semantics.specs.State.{isActive, codeOf, lengthOf, spentOf}
+use Rattle.model_semantics.specs.Effects.{restCode}
+use Rattle.model_semantics.specs.Tests.{waitingExecution, execution, completed, isDue, canMeetDeadline, canMiss, waitingMode, waitingDispatch}
 use Rattle.table_format.specs.Variables.{nowVar, activeVar, stateVar, endVar}
-use Rattle.table.specs.Rules.{clauseHolds, allHold}
-use Rattle.translate.specs.Shown.{bit}
-use Rattle.translate.specs.Parts.{Body}
-use Rattle.translate.specs.Rules.{deadlineRule, deadlineRules, missWaiting, missRunning, missRules}
+use Rattle.table_format.specs.RuleKinds.{isOneOf}
+use Rattle.table_semantics.specs.Rules.{clauseHolds, allHold}
+use Rattle.translation.specs.Shown.{bit}
+use Rattle.translation.specs.Parts.{Body}
+use Rattle.translation.specs.Rules.{deadlineRule, deadlineRules, missWaiting, missRunning, missRules}
 use Rattle.simulation.specs.Compared.{Dispatched}
 use Rattle.simulation.specs.Match.{Match}
-use Rattle.simulation.specs.Groups.{enabledBodies, enabled-append}
+use Rattle.simulation.specs.Groups.{enabledBodies, perCode, Differ, by-state}
 use Rattle.simulation.specs.Guards.{equals-constant, differs-is-not, dueTest, endTest, with-code, due-known, end-known}
 
 -- two rules, for Active 1 and 0
@@ -37,27 +38,15 @@ by-active v a c f h = rw (h 1 1, h 0 0) (go a c)
     go false true = refl
     go false false = refl
 
--- one of two rules, by the code
-by-code : (c : ℕ) (x e : Bool) (a b : Body) →
-    cond (eqb c 2 && x) (a ∷ []) [] ++ cond (eqb c 3 && (x && not e)) (b ∷ []) [] ≡ cond (x && (eqb c 2 || (eqb c 3 && not e))) (cond (eqb c 2) a b ∷ []) []
-by-code c x e a b = go (ℕ-discrete c 2) x e
-  where
-    go : Dec (c ≡ 2) → (x e : Bool) →
-        cond (eqb c 2 && x) (a ∷ []) [] ++ cond (eqb c 3 && (x && not e)) (b ∷ []) [] ≡ cond (x && (eqb c 2 || (eqb c 3 && not e))) (cond (eqb c 2) a b ∷ []) []
-    go (yes q) true e = rw q
-    go (yes q) false e = rw q
-    go (no q) true e = rw (ne-eqb c 2 q)
-    go (no q) false e = rw (ne-eqb c 2 q, and-false (eqb c 3))
-
 first-last : (c a x : Bool) → (c && (a && x)) ≡ ((c && x) && a)
 first-last true true x = sym (and-true x)
 first-last true false x = sym (and-false x)
 first-last false a x = refl
 
 -- the rule of MISS for a state
-abbrev pub missRule : State → ℕ → Body
-missRule s t =
-    cond (eqb (codeOf s t) waitingExecution) (missWaiting t (bit (isActive s t)) (restCode s t)) (missRunning t (bit (isActive s t)) (restCode s t))
+abbrev pub missRule : Timing → State → ℕ → Body
+missRule m s t =
+    cond (eqb (codeOf s t) waitingExecution) (missWaiting t (bit (isActive s t)) (restCode s t)) (missRunning m t (bit (isActive s t)) (restCode s t))
 
 module _ (m : Timing) (d : Dispatched) (s : State) (v : List Value) (g : GoodTiming m) (h : Match m d s v) (t : ℕ) (l : t < m .threads) where
   deadline-clauses : (x y : ℕ) → allHold v (deadlineRule m t x y .clauses) ≡ (canMeetDeadline m s t && eqb (bit (isActive s t)) x)
@@ -90,7 +79,7 @@ module _ (m : Timing) (d : Dispatched) (s : State) (v : List Value) (g : GoodTim
       (with-code (codeOf s t) waitingExecution (λ b. eqb (bit (isActive s t)) x && b) (dueTest v t) (isDue m s t) (λ e. due-known m d s v h t l (omega arith))
       ∙ first-last (eqb (codeOf s t) waitingExecution) (eqb (bit (isActive s t)) x) (isDue m s t))
 
-  running-clauses : (x y : ℕ) → allHold v (missRunning t x y .clauses) ≡ ((eqb (codeOf s t) execution && (isDue m s t && not (eqb (spentOf s t) (lengthOf s t)))) && eqb (bit (isActive s t)) x)
+  running-clauses : (x y : ℕ) → allHold v (missRunning m t x y .clauses) ≡ ((eqb (codeOf s t) execution && (isDue m s t && not (eqb (spentOf s t) (lengthOf s t)))) && eqb (bit (isActive s t)) x)
   unfolding allHold clauseHolds
   running-clauses x y =
       let k : m .threads ≤ maxThreads = g .threads in
@@ -105,13 +94,34 @@ module _ (m : Timing) (d : Dispatched) (s : State) (v : List Value) (g : GoodTim
       ∙ with-code (codeOf s t) execution (λ b. eqb (bit (isActive s t)) x && (isDue m s t && not b)) (endTest v t) (eqb (spentOf s t) (lengthOf s t)) (end-known m d s v h t l)
       ∙ first-last (eqb (codeOf s t) execution) (eqb (bit (isActive s t)) x) (isDue m s t && not (eqb (spentOf s t) (lengthOf s t))))
 
-  pub miss-enabled : enabledBodies v (missRules t) ≡
-      cond (canMiss m s t) (missRule s t ∷ []) []
-  unfolding missRules canMiss
+  -- for each code: its rules, what they ask besides it, and the one for Active as it is
+  abbrev rulesAt : ℕ → List Body
+  rulesAt c =
+      cond (eqb c waitingExecution) (missWaiting t 1 waitingDispatch ∷ missWaiting t 0 waitingMode ∷ []) (missRunning m t 1 waitingDispatch ∷ missRunning m t 0 waitingMode ∷ [])
+
+  abbrev lateAt : ℕ → Bool
+  lateAt c = cond (eqb c waitingExecution) (isDue m s t) (isDue m s t && not (eqb (spentOf s t) (lengthOf s t)))
+
+  abbrev ruleAt : ℕ → Body
+  ruleAt c = cond (eqb c waitingExecution) (missWaiting t (bit (isActive s t)) (restCode s t)) (missRunning m t (bit (isActive s t)) (restCode s t))
+
+  miss-test : (isOneOf (waitingExecution ∷ execution ∷ []) (codeOf s t) && lateAt (codeOf s t)) ≡ canMiss m s t
+  unfolding isOneOf canMiss
+  miss-test = go (ℕ-discrete (codeOf s t) waitingExecution)
+    where
+      running : (r x e : Bool) → ((r || false) && (x && not e)) ≡ (x && (r && not e))
+      running true x e = refl
+      running false x e = sym (and-false x)
+
+      go : Dec (codeOf s t ≡ waitingExecution) → (isOneOf (waitingExecution ∷ execution ∷ []) (codeOf s t) && lateAt (codeOf s t)) ≡ canMiss m s t
+      go (yes q) = rw (eq-eqb (codeOf s t) waitingExecution q) (sym (and-true (isDue m s t)))
+      go (no q) = rw (ne-eqb (codeOf s t) waitingExecution q) (running (eqb (codeOf s t) execution) (isDue m s t) (eqb (spentOf s t) (lengthOf s t)))
+
+  pub miss-enabled : enabledBodies v (missRules m t) ≡ cond (canMiss m s t) (missRule m s t ∷ []) []
+  unfolding missRules perCode Differ isOneOf
   miss-enabled =
-      enabled-append v (missWaiting t 1 1 ∷ missWaiting t 0 0 ∷ []) (missRunning t 1 1 ∷ missRunning t 0 0 ∷ [])
-      ∙ rw (
+      by-state v (codeOf s t) (waitingExecution ∷ execution ∷ []) rulesAt ruleAt lateAt (refl, (refl, tt)) (
         by-active v (isActive s t) (eqb (codeOf s t) waitingExecution && isDue m s t) (missWaiting t) waiting-clauses,
-        by-active v (isActive s t) (eqb (codeOf s t) execution && (isDue m s t && not (eqb (spentOf s t) (lengthOf s t)))) (missRunning t) running-clauses,
+        (by-active v (isActive s t) (eqb (codeOf s t) execution && (isDue m s t && not (eqb (spentOf s t) (lengthOf s t)))) (missRunning m t) running-clauses, tt),
       )
-      (by-code (codeOf s t) (isDue m s t) (eqb (spentOf s t) (lengthOf s t)) (missWaiting t (bit (isActive s t)) (restCode s t)) (missRunning t (bit (isActive s t)) (restCode s t)))
+      ∙ ap (λ (b : Bool). cond b (missRule m s t ∷ []) []) miss-test

@@ -9,13 +9,13 @@ use Rattle.numbers.specs.declared.Value.{Value}
 use Rattle.model_format.specs.declared.Timing.{Timing}
 use Rattle.model_format.specs.Model.{maxThreads, maxConnections, threadAt, delayed, isKind, sourceThread, targetThread}
 use Rattle.model_format.specs.WellFormed.{GoodTiming}
-use Rattle.model.specs.declared.State.{State}
-use Rattle.model.specs.State.{isActive, codeOf, isLive, nowOf}
-use Rattle.model.specs.Tests.{isUnfinished, hasJob, isDue, feeds, awaitsDelayed, canDispatch}
+use Rattle.model_semantics.specs.declared.State.{State}
+use Rattle.model_semantics.specs.State.{isActive, codeOf, isLive, nowOf}
+use Rattle.model_semantics.specs.Tests.{isUnfinished, hasJob, isDue, feeds, awaitsDelayed, canDispatch, waitingDispatch}
 use Rattle.table_format.specs.Variables.{nowVar, activeVar, stateVar, dueVar, flagVar}
-use Rattle.table.specs.Rules.{clauseHolds, allHold}
-use Rattle.translate.specs.Shown.{bit}
-use Rattle.translate.specs.Rules.{perInto, delayedClause, dispatchRules}
+use Rattle.table_semantics.specs.Rules.{clauseHolds, allHold}
+use Rattle.translation.specs.Shown.{bit}
+use Rattle.translation.specs.Rules.{perInto, delayedClause, dispatchRules}
 use Rattle.simulation.specs.Compared.{Dispatched}
 use Rattle.simulation.specs.Match.{Match}
 use Rattle.simulation.specs.Groups.{enabledBodies}
@@ -59,7 +59,7 @@ module _ (m : Timing) (d : Dispatched) (s : State) (v : List Value) (g : GoodTim
   dispatch-enabled t l =
       let k : m .threads ≤ maxThreads = g .threads in
       simp (
-        equals-constant v (stateVar t) (codeOf s t) (h .code t (omega arith)) 1,
+        equals-constant v (stateVar t) (codeOf s t) (h .code t (omega arith)) waitingDispatch,
         equals-constant v (activeVar t) (bit (isActive s t)) (h .active t (omega arith)) 1,
         multiple-of-constant v nowVar (nowOf s) (h .now) (threadAt m t .period .0),
         delayed-clauses t,

@@ -8,14 +8,14 @@ use borrow.Author.Tests.{ltb-true}
 use Rattle.numbers.specs.declared.Value.{Value}
 use Rattle.model_format.specs.declared.Model.{Model}
 use Rattle.model_format.specs.WellFormed.{WellFormed}
-use Rattle.model.specs.declared.State.{State}
-use Rattle.model.specs.State.{isActive}
-use Rattle.model.specs.Effects.{restCode}
-use Rattle.model.specs.Tests.{canActivate, canDeactivate, canDispatch, canComplete, canMeetDeadline, canMiss, canEnter, canLeave}
-use Rattle.table.specs.Rules.{enabledRules}
-use Rattle.translate.specs.Shown.{bit}
-use Rattle.translate.specs.Parts.{Body, stamped}
-use Rattle.translate.specs.Rules.{activateRules, deactivateRules, dispatchRules, startRules, deadlineRule, enterRules, leaveRules, groupsOf, rulesOf}
+use Rattle.model_semantics.specs.declared.State.{State}
+use Rattle.model_semantics.specs.State.{isActive}
+use Rattle.model_semantics.specs.Effects.{restCode}
+use Rattle.model_semantics.specs.Tests.{canActivate, canDeactivate, canDispatch, canComplete, canMeetDeadline, canMiss, canEnter, canLeave}
+use Rattle.table_semantics.specs.Rules.{enabledRules}
+use Rattle.translation.specs.Shown.{bit}
+use Rattle.translation.specs.Parts.{Body, stamped}
+use Rattle.translation.specs.Rules.{activateRules, deactivateRules, dispatchRules, startRules, deadlineRule, enterRules, leaveRules, groupsOf, rulesOf}
 use Rattle.simulation.specs.Compared.{Dispatched}
 use Rattle.simulation.specs.Match.{Match}
 use Rattle.simulation.specs.Groups.{enabledBodies, bodiesFor, enabled-rules, bodies-activate, bodies-deactivate, bodies-dispatch, bodies-start, bodies-complete, bodies-deadline, bodies-miss, bodies-request, bodies-enter, bodies-leave}
@@ -36,10 +36,10 @@ of-item m v k i n c l r e h = enabled-rules v k i (groupsOf m) ∙ rw e (go (ltb
     go false e = refl
 
 module _ (m : Model) (d : Dispatched) (s : State) (v : List Value) (w : WellFormed m) (h : Match (m .timing) d s v) (i : ℕ) where
-  pub activate-rules : enabledRules v 1 i (rulesOf m) ≡ stamped 1 i (cond (ltb i (m .timing .threads) && canActivate s i) (activateRules i) [])
+  pub activate-rules : enabledRules v 1 i (rulesOf m) ≡ stamped 1 i (cond (ltb i (m .timing .threads) && canActivate s i) (activateRules (m .timing) i) [])
   activate-rules = of-item m v 1 i _ _ _ _ (bodies-activate m i) (activate-enabled (m .timing) d s v (w .timing) h i)
 
-  pub deactivate-rules : enabledRules v 2 i (rulesOf m) ≡ stamped 2 i (cond (ltb i (m .timing .threads) && canDeactivate s i) (deactivateRules i) [])
+  pub deactivate-rules : enabledRules v 2 i (rulesOf m) ≡ stamped 2 i (cond (ltb i (m .timing .threads) && canDeactivate s i) (deactivateRules (m .timing) i) [])
   deactivate-rules = of-item m v 2 i _ _ _ _ (bodies-deactivate m i) (deactivate-enabled (m .timing) d s v (w .timing) h i)
 
   pub dispatch-rules : enabledRules v 3 i (rulesOf m) ≡ stamped 3 i (cond (ltb i (m .timing .threads) && canDispatch (m .timing) s i) (dispatchRules (m .timing) i) [])
@@ -54,7 +54,7 @@ module _ (m : Model) (d : Dispatched) (s : State) (v : List Value) (w : WellForm
   pub deadline-rules : enabledRules v 6 i (rulesOf m) ≡ stamped 6 i (cond (ltb i (m .timing .threads) && canMeetDeadline (m .timing) s i) (deadlineRule (m .timing) i (bit (isActive s i)) (restCode s i) ∷ []) [])
   deadline-rules = of-item m v 6 i _ _ _ _ (bodies-deadline m i) (deadline-enabled (m .timing) d s v (w .timing) h i)
 
-  pub miss-rules : enabledRules v 7 i (rulesOf m) ≡ stamped 7 i (cond (ltb i (m .timing .threads) && canMiss (m .timing) s i) (missRule s i ∷ []) [])
+  pub miss-rules : enabledRules v 7 i (rulesOf m) ≡ stamped 7 i (cond (ltb i (m .timing .threads) && canMiss (m .timing) s i) (missRule (m .timing) s i ∷ []) [])
   miss-rules = of-item m v 7 i _ _ _ _ (bodies-miss m i) (miss-enabled (m .timing) d s v (w .timing) h i)
 
   pub request-rules : enabledRules v 8 i (rulesOf m) ≡ stamped 8 i (cond (ltb i (m .timing .switches)) (requestRule (m .timing) s i ∷ []) [])

@@ -9,57 +9,49 @@ use Rattle.numbers.specs.declared.Value.{Value}
 use Rattle.model_format.specs.declared.Timing.{Timing}
 use Rattle.model_format.specs.Model.{maxThreads, switchAt}
 use Rattle.model_format.specs.WellFormed.{GoodTiming}
-use Rattle.model.specs.declared.State.{State}
-use Rattle.model.specs.State.{isActive, codeOf, nowOf}
-use Rattle.model.specs.Tests.{canActivate, canDeactivate, canEnter, canLeave}
+use Rattle.model_semantics.specs.declared.State.{State}
+use Rattle.model_semantics.specs.State.{isActive, codeOf, nowOf}
+use Rattle.model_semantics.specs.Tests.{canActivate, canDeactivate, canEnter, canLeave, waitingMode, waitingDispatch}
 use Rattle.table_format.specs.Variables.{nowVar, modeVar, phaseVar, pendingVar, enteredVar, activeVar, stateVar}
-use Rattle.table.specs.Rules.{clauseHolds, allHold}
-use Rattle.translate.specs.Shown.{bit}
-use Rattle.translate.specs.Parts.{constant, equals, differs, plain, setTo, Body, body}
-use Rattle.translate.specs.Rules.{activateRules, deactivateRules, requestRules, enterRules, leaveRules}
+use Rattle.table_semantics.specs.Rules.{clauseHolds, allHold}
+use Rattle.translation.specs.Shown.{bit}
+use Rattle.translation.specs.Parts.{Body}
+use Rattle.translation.specs.Rules.{activateRules, deactivateRules, requestGranted, requestIgnored, requestRules, enterRules, leaveRules}
 use Rattle.simulation.specs.Compared.{Dispatched}
 use Rattle.simulation.specs.Match.{Match}
 use Rattle.simulation.specs.Groups.{enabledBodies}
 use Rattle.simulation.specs.Guards.{bit-zero, bit-one, equals-constant, differs-constant, differs-variable, multiple-of-constant}
-
--- the two rules of REQUEST
-abbrev pub requestTaken : Timing → ℕ → Body
-requestTaken m q =
-    body (plain (equals phaseVar (constant 0)) ∷ plain (equals modeVar (constant (switchAt m q .from))) ∷ []) (setTo phaseVar 1 ∷ setTo pendingVar q ∷ [])
-
-abbrev pub requestIgnored : Timing → ℕ → Body
-requestIgnored m q = body ((differs phaseVar (constant 0) ∷ differs modeVar (constant (switchAt m q .from)) ∷ []) ∷ []) []
 
 -- "With Phase 0 and Mode the from-mode"
 abbrev pub takesRequest : Timing → State → ℕ → Bool
 takesRequest m s q = eqb (s .clock .phase) 0 && eqb (s .clock .mode) (switchAt m q .from)
 
 abbrev pub requestRule : Timing → State → ℕ → Body
-requestRule m s q = cond (takesRequest m s q) (requestTaken m q) (requestIgnored m q)
+requestRule m s q = cond (takesRequest m s q) (requestGranted q (switchAt m q .from)) (requestIgnored (switchAt m q .from))
 
 module _ (m : Timing) (d : Dispatched) (s : State) (v : List Value) (g : GoodTiming m) (h : Match m d s v) where
   module _ (t : ℕ) (l : t < m .threads) where
-    pub activate-enabled : enabledBodies v (activateRules t) ≡ cond (canActivate s t) (activateRules t) []
+    pub activate-enabled : enabledBodies v (activateRules m t) ≡ cond (canActivate s t) (activateRules m t) []
     unfolding activateRules canActivate enabledBodies allHold clauseHolds
     activate-enabled =
         let k : m .threads ≤ maxThreads = g .threads in
         let b : t < maxThreads = omega arith in
         simp (
           equals-constant v (activeVar t) (bit (isActive s t)) (h .active t b) 1,
-          equals-constant v (stateVar t) (codeOf s t) (h .code t b) 0,
+          equals-constant v (stateVar t) (codeOf s t) (h .code t b) waitingMode,
           bit-one (isActive s t),
           or-false,
           and-true,
         )
 
-    pub deactivate-enabled : enabledBodies v (deactivateRules t) ≡ cond (canDeactivate s t) (deactivateRules t) []
+    pub deactivate-enabled : enabledBodies v (deactivateRules m t) ≡ cond (canDeactivate s t) (deactivateRules m t) []
     unfolding deactivateRules canDeactivate enabledBodies allHold clauseHolds
     deactivate-enabled =
         let k : m .threads ≤ maxThreads = g .threads in
         let b : t < maxThreads = omega arith in
         simp (
           equals-constant v (activeVar t) (bit (isActive s t)) (h .active t b) 0,
-          equals-constant v (stateVar t) (codeOf s t) (h .code t b) 1,
+          equals-constant v (stateVar t) (codeOf s t) (h .code t b) waitingDispatch,
           bit-zero (isActive s t),
           or-false,
           and-true,
@@ -76,7 +68,7 @@ module _ (m : Timing) (d : Dispatched) (s : State) (v : List Value) (g : GoodTim
         differs-constant v modeVar (s .clock .mode) (h .mode) (switchAt m q .from),
         or-false,
         and-true,
-      ) (one-of (eqb (s .clock .phase) 0) (eqb (s .clock .mode) (switchAt m q .from)) (requestTaken m q) (requestIgnored m q))
+      ) (one-of (eqb (s .clock .phase) 0) (eqb (s .clock .mode) (switchAt m q .from)) (requestGranted q (switchAt m q .from)) (requestIgnored (switchAt m q .from)))
     where
       one-of : (a b : Bool) (x y : Body) →
           cond (a && b) (x ∷ cond (not a || not b) (y ∷ []) []) (cond (not a || not b) (y ∷ []) []) ≡ cond (a && b) x y ∷ []

@@ -10,13 +10,13 @@ use Rattle.numbers.specs.declared.Value.{Value}
 use Rattle.model_format.specs.declared.Timing.{Timing}
 use Rattle.model_format.specs.Model.{maxThreads, maxConnections, threadAt, immediate, isKind, sourceThread, targetThread}
 use Rattle.model_format.specs.WellFormed.{GoodTiming}
-use Rattle.model.specs.declared.State.{State}
-use Rattle.model.specs.State.{none, isActive, codeOf, dispatchTime, isLive, nowOf, cpuFor}
-use Rattle.model.specs.Tests.{waitingExecution, isWaiting, isUnfinished, isDue, isPeriodic, feeds, runsBeside, comesBeside, awaitsImmediate, startFault, canStart}
+use Rattle.model_semantics.specs.declared.State.{State}
+use Rattle.model_semantics.specs.State.{none, isActive, codeOf, dispatchTime, isLive, nowOf, cpuFor}
+use Rattle.model_semantics.specs.Tests.{waitingExecution, isWaiting, isUnfinished, isDue, isPeriodic, feeds, runsBeside, comesBeside, awaitsImmediate, startFault, canStart, completed, lastCode}
 use Rattle.table_format.specs.Variables.{nowVar, cpuVar, activeVar, stateVar, dispatchVar, dueVar, flagVar}
-use Rattle.table.specs.Rules.{clauseHolds, allHold}
-use Rattle.translate.specs.Shown.{bit}
-use Rattle.translate.specs.Rules.{perInto, besideClause, comingClause, startRules}
+use Rattle.table_semantics.specs.Rules.{clauseHolds, allHold}
+use Rattle.translation.specs.Shown.{bit}
+use Rattle.translation.specs.Rules.{perInto, besideClause, comingClause, startRules}
 use Rattle.simulation.specs.Compared.{Dispatched}
 use Rattle.simulation.specs.Match.{Match}
 use Rattle.simulation.specs.Groups.{enabledBodies}
@@ -51,7 +51,7 @@ start-shortest m s t g l =
     (and-true (mayStart m s t))
 
 -- ---- clauses
-finished : (k : ℕ) (x : Bool) → k ≤ 4 → (ltb k 2 || (eqb k 4 || not x)) ≡ not (isUnfinished k && x)
+finished : (k : ℕ) (x : Bool) → k ≤ lastCode → (ltb k waitingExecution || (eqb k completed || not x)) ≡ not (isUnfinished k && x)
 unfolding isUnfinished
 finished zero x b = refl
 finished (suc zero) x b = refl
@@ -60,7 +60,7 @@ finished (suc (suc (suc zero))) x b = refl
 finished (suc (suc (suc (suc zero)))) x b = refl
 finished (suc (suc (suc (suc (suc k))))) x b = absurd (omega arith)
 
-waiting : (k : ℕ) → ltb k 2 ≡ isWaiting k
+waiting : (k : ℕ) → ltb k waitingExecution ≡ isWaiting k
 unfolding isWaiting
 waiting zero = refl
 waiting (suc zero) = refl
@@ -96,8 +96,8 @@ module _ (m : Timing) (d : Dispatched) (s : State) (v : List Value) (g : GoodTim
       let code = h .code (sourceThread m c) (omega arith) in
       simp (
         equals-constant v (flagVar c) (bit (isLive s c)) (h .flag c (omega arith)) 0,
-        below-constant v (stateVar (sourceThread m c)) (codeOf s (sourceThread m c)) code 2,
-        equals-constant v (stateVar (sourceThread m c)) (codeOf s (sourceThread m c)) code 4,
+        below-constant v (stateVar (sourceThread m c)) (codeOf s (sourceThread m c)) code waitingExecution,
+        equals-constant v (stateVar (sourceThread m c)) (codeOf s (sourceThread m c)) code completed,
         differs-variable v (dispatchVar (sourceThread m c)) (dispatchTime s (sourceThread m c)) (h .dispatched (sourceThread m c) (omega arith)) (dispatchVar t) (dispatchTime s t)
             (h .dispatched t (omega arith)),
         bit-zero (isLive s c),
@@ -114,7 +114,7 @@ module _ (m : Timing) (d : Dispatched) (s : State) (v : List Value) (g : GoodTim
       simp (
         equals-constant v (flagVar c) (bit (isLive s c)) (h .flag c (omega arith)) 0,
         equals-constant v (activeVar (sourceThread m c)) (bit (isActive s (sourceThread m c))) (h .active (sourceThread m c) (omega arith)) 0,
-        at-least-constant v (stateVar (sourceThread m c)) (codeOf s (sourceThread m c)) (h .code (sourceThread m c) (omega arith)) 2,
+        at-least-constant v (stateVar (sourceThread m c)) (codeOf s (sourceThread m c)) (h .code (sourceThread m c) (omega arith)) waitingExecution,
         differs-variable v (dispatchVar t) (dispatchTime s t) (h .dispatched t (omega arith)) nowVar (nowOf s) (h .now),
         no-multiple-of-constant v nowVar (nowOf s) (h .now) (threadAt m (sourceThread m c) .period .0),
         bit-zero (isLive s c),
@@ -136,11 +136,11 @@ module _ (m : Timing) (d : Dispatched) (s : State) (v : List Value) (g : GoodTim
   start-enabled =
       let k : m .threads ≤ maxThreads = g .threads in
       simp (
-        equals-constant v (stateVar t) (codeOf s t) (h .code t (omega arith)) 2,
+        equals-constant v (stateVar t) (codeOf s t) (h .code t (omega arith)) waitingExecution,
         equals-constant v cpuVar (s .clock .cpu) (h .cpu) none,
         differs-is-not v (dueVar t) nowVar,
         immediate-clauses,
         or-false,
-        with-code (codeOf s t) 2 (λ b. eqb (s .clock .cpu) none && (not b && not (awaitsImmediate m s t))) (dueTest v t) (isDue m s t) (λ e. due-known m d s v h t l (omega arith)),
+        with-code (codeOf s t) waitingExecution (λ b. eqb (s .clock .cpu) none && (not b && not (awaitsImmediate m s t))) (dueTest v t) (isDue m s t) (λ e. due-known m d s v h t l (omega arith)),
         swapped (eqb (s .clock .cpu) none) (not (isDue m s t)) (not (awaitsImmediate m s t)),
       )

@@ -12,14 +12,14 @@ use Rattle.numbers.specs.Lists.{anyBelow, allBelow, joinBelow}
 use Rattle.numbers.specs.Values.{natural, compares}
 use Rattle.numbers.specs.Multiples.{isMultiple}
 use Rattle.model_format.specs.declared.Timing.{Timing}
-use Rattle.model.specs.declared.State.{State}
-use Rattle.model.specs.State.{codeOf, lengthOf, spentOf, nowOf}
-use Rattle.model.specs.Tests.{waitingExecution, execution, dueOf, isDue}
+use Rattle.model_semantics.specs.declared.State.{State}
+use Rattle.model_semantics.specs.State.{codeOf, lengthOf, spentOf, nowOf}
+use Rattle.model_semantics.specs.Tests.{waitingExecution, execution, dueOf, isDue}
 use Rattle.table_format.specs.declared.Atom.{Atom}
 use Rattle.table_format.specs.Variables.{nowVar, dueVar, endVar}
-use Rattle.table.specs.Rules.{valueOf, operandValue, holdsOp, holds, clauseHolds, allHold}
-use Rattle.translate.specs.Shown.{bit}
-use Rattle.translate.specs.Parts.{constant, variable, equals, differs, isBelow, isAtLeast, multipleOf, noMultipleOf}
+use Rattle.table_semantics.specs.Rules.{valueOf, operandValue, holdsOp, holds, clauseHolds, allHold}
+use Rattle.translation.specs.Shown.{bit}
+use Rattle.translation.specs.Parts.{constant, variable, equals, differs, isBelow, isAtLeast, multipleOf, noMultipleOf}
 use Rattle.simulation.specs.Compared.{Dispatched}
 use Rattle.simulation.specs.Match.{Match}
 

@@ -11,6 +11,7 @@ pub mod GuardRules
 pub mod Quiet
 pub mod Writes
 pub mod Effects
+pub mod EffectEnd
 pub mod EffectSimple
 pub mod EffectPorts
 pub mod EffectDispatch

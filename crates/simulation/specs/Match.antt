@@ -10,12 +10,12 @@ use Rattle.records.specs.Events.{lastClock}
 use Rattle.model_format.specs.declared.Timing.{Timing}
 use Rattle.model_format.specs.Model.{maxThreads, maxInputs, maxOutputs, maxLocals, maxConnections}
 use Rattle.model_format.specs.Reading.{longestTime}
-use Rattle.model.specs.declared.State.{State}
-use Rattle.model.specs.State.{isActive, codeOf, dispatchTime, lengthOf, spentOf, behaviorOf, missedOf, isLive, inputValue, bufferValue, outputValue, localValue, nowOf}
-use Rattle.model.specs.Tests.{waitingExecution, execution, completed, dueOf}
-use Rattle.table.specs.Rules.{valueOf}
-use Rattle.table_format.specs.Variables.{variables, nowVar, modeVar, phaseVar, pendingVar, enteredVar, cpuVar, activeVar, stateVar, dispatchVar, dueVar, endVar, behaviorVar, missedVar, flagVar, inputVar, bufferVar, outputVar, localVar}
-use Rattle.translate.specs.Shown.{bit}
+use Rattle.model_semantics.specs.declared.State.{State}
+use Rattle.model_semantics.specs.State.{isActive, codeOf, dispatchTime, lengthOf, spentOf, behaviorOf, missedOf, isLive, inputValue, bufferValue, outputValue, localValue, nowOf}
+use Rattle.model_semantics.specs.Tests.{waitingExecution, execution, dueOf, lastCode}
+use Rattle.table_semantics.specs.Rules.{valueOf}
+use Rattle.table_format.specs.Variables.{variables, nowVar, modeVar, phaseVar, pendingVar, enteredVar, cpuVar, activeVar, stateVar, dispatchVar, dueVar, endVar, behaviorVar, missedVar, flagVar, inputVar, bufferVar, outputVar, localVar, clockVars, spareVars}
+use Rattle.translation.specs.Shown.{bit}
 use Rattle.simulation.specs.Compared.{Dispatched}
 
 -- the rooms of a state's arrays
@@ -49,7 +49,7 @@ pub record Blank (m : Timing) (s : State) : Type 0 where
 -- facts of every state that a run reaches
 pub record Reached (m : Timing) (d : Dispatched) (s : State) : Type 0 where
   pub clock : nowOf s ≤ lastClock
-  pub codes : (t : ℕ) → codeOf s t ≤ completed
+  pub codes : (t : ℕ) → codeOf s t ≤ lastCode
   pub ran : (t : ℕ) → codeOf s t ≡ execution → spentOf s t ≤ lengthOf s t
   pub long : (t : ℕ) → codeOf s t ≡ execution → lengthOf s t ≤ longestTime
   -- a job in hand was dispatched, not after now and not before it last missed
@@ -69,7 +69,7 @@ pub record Match (m : Timing) (d : Dispatched) (s : State) (v : List Value) : Ty
   pub pending : valueOf v pendingVar ≡ natural (s .clock .pending)
   pub entered : valueOf v enteredVar ≡ natural (s .clock .entered .0)
   pub cpu : valueOf v cpuVar ≡ natural (s .clock .cpu)
-  pub spare : (j : ℕ) → j < 10 → valueOf v (6 + j) ≡ natural 0
+  pub spare : (j : ℕ) → j < spareVars → valueOf v (clockVars + j) ≡ natural 0
   pub active : (t : ℕ) → t < maxThreads → valueOf v (activeVar t) ≡ natural (bit (isActive s t))
   pub code : (t : ℕ) → t < maxThreads → valueOf v (stateVar t) ≡ natural (codeOf s t)
   pub dispatched : (t : ℕ) → t < maxThreads → valueOf v (dispatchVar t) ≡ natural (dispatchTime s t)

@@ -8,7 +8,7 @@ use Prim.Native.Nat.{ℕ, _+_, _-_, _<_, _≤_}
 use native.Mathlib.Omega.{arith}
 use lib.ListN.{take}
 use lib.Dec.{eqb, ltb, leb}
-use borrow.Author.Tests.{ne-eqb, eqb-true, ltb-true, leb-true}
+use borrow.Author.Tests.{eqb-true, ltb-true, leb-true}
 use Rattle.numbers.specs.declared.Value.{Value}
 use Rattle.numbers.specs.Values.{natural, sameValue}
 use Rattle.records.specs.Refusals.{isNone}
@@ -19,18 +19,18 @@ use Rattle.model_format.specs.Model.{maxThreads}
 use Rattle.model_format.specs.Reading.{readModel}
 use Rattle.model_format.specs.WellFormed.{Bytes}
 use Rattle.model_format.specs.Accepted.{accepted-well-formed}
-use Rattle.model.specs.declared.State.{State}
-use Rattle.model.specs.State.{codeOf, lengthOf, spentOf, nowOf}
-use Rattle.model.specs.Tests.{execution, dueOf}
-use Rattle.model.specs.Machine.{startState, modelStages}
-use Rattle.table.specs.declared.Variables.{Variables}
-use Rattle.table.specs.Rules.{valueOf}
-use Rattle.table.specs.Machine.{startVariables, tableStages}
+use Rattle.model_semantics.specs.declared.State.{State}
+use Rattle.model_semantics.specs.State.{codeOf, lengthOf, spentOf, nowOf}
+use Rattle.model_semantics.specs.Tests.{execution, dueOf}
+use Rattle.model_semantics.specs.Machine.{startState, modelStages}
+use Rattle.table_semantics.specs.declared.Variables.{Variables}
+use Rattle.table_semantics.specs.Rules.{valueOf}
+use Rattle.table_semantics.specs.Machine.{startVariables, tableStages}
 use Rattle.table_format.specs.Table.{tableOf}
-use Rattle.table_format.specs.Variables.{variables, activeVar, stateVar, dueVar, endVar}
-use Rattle.translate.specs.Shown.{inBlock, standsFor}
+use Rattle.table_format.specs.Variables.{variables, stateVar, dueVar, endVar}
+use Rattle.translation.specs.Shown.{inBlock, standsFor, blocksOf}
 use Rattle.simulation.specs.Compared.{Dispatched, noneYet, andAfter, isDueOrEnd, Alike, Lockstep, Demand3, Simulates}
-use Rattle.simulation.specs.Stands.{in-block, out-block}
+use Rattle.translation.specs.ShownLaws.{out-block, Avoids, stands-block}
 
 -- The compared variables, as a machine shows them: Due once dispatched, End in code 3, every other one as it stands; 0 where a variable
 -- is not compared.
@@ -74,19 +74,10 @@ inside base n j e = go (leb base j) (ltb j (base + n)) refl refl e
 
 module _ (m : Timing) (few : m .threads ≤ maxThreads) (d : Dispatched) (s : State) (v : Variables) (h : Alike m d s v) where
   same-code : (t : ℕ) → t < m .threads → valueOf (v .value) (stateVar t) ≡ natural (codeOf s t)
-  unfolding standsFor
+  unfolding blocksOf Avoids
   same-code t l =
       h .others (stateVar t) (omega arith) (rw (out-block (dueVar 0) (m .threads) (stateVar t) (λ p q. omega arith), out-block (endVar 0) (m .threads) (stateVar t) (λ p q. omega arith))) ∙
-      rw (
-        ne-eqb (stateVar t) 0 (λ e. omega arith),
-        ne-eqb (stateVar t) 1 (λ e. omega arith),
-        ne-eqb (stateVar t) 2 (λ e. omega arith),
-        ne-eqb (stateVar t) 3 (λ e. omega arith),
-        ne-eqb (stateVar t) 4 (λ e. omega arith),
-        ne-eqb (stateVar t) 5 (λ e. omega arith),
-        out-block (activeVar 0) (m .threads) (stateVar t) (λ p q. omega arith),
-        in-block (stateVar 0) (m .threads) (stateVar t) (omega arith) (omega arith),
-      ) (ap (λ (i : ℕ). natural (codeOf s i)) (omega arith))
+      stands-block m s 2 t refl (omega arith) (omega arith) (λ e. absurd (omega arith))
 
   same-due : (j : ℕ) → inBlock (dueVar 0) (m .threads) j ≡ true →
       cond (d (j - dueVar 0)) (natural (dueOf m s (j - dueVar 0))) (natural 0) ≡ cond (d (j - dueVar 0)) (valueOf (v .value) j) (natural 0)

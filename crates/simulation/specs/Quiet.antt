@@ -13,12 +13,13 @@ use Rattle.model_format.specs.declared.Timing.{Timing}
 use Rattle.model_format.specs.declared.Model.{Model}
 use Rattle.model_format.specs.Model.{threadAt}
 use Rattle.model_format.specs.WellFormed.{WellFormed}
-use Rattle.model.specs.declared.State.{State}
-use Rattle.model.specs.State.{codeOf, lengthOf, spentOf}
-use Rattle.model.specs.Tests.{execution, canActivate, canDeactivate, canDispatch, canStart, canComplete, canMeetDeadline, canMiss, canEnter, canLeave, threadBusy, switchBusy, isBusy}
-use Rattle.table.specs.Machine as table-machine
-use Rattle.translate.specs.Parts.{Body}
-use Rattle.translate.specs.Rules.{activateRules, deactivateRules, dispatchRules, startRules, completeRules, deadlineRules, missRules, enterRules, leaveRules, groupsOf, rulesOf}
+use Rattle.model_semantics.specs.declared.State.{State}
+use Rattle.model_semantics.specs.State.{codeOf, lengthOf, spentOf}
+use Rattle.model_semantics.specs.Tests.{execution, canActivate, canDeactivate, canDispatch, canStart, canComplete, canMeetDeadline, canMiss, canEnter, canLeave, threadBusy, switchBusy, isBusy}
+use Rattle.table_format.specs.RuleKinds.{isOneOf}
+use Rattle.table_semantics.specs.Machine as table-machine
+use Rattle.translation.specs.Parts.{Body}
+use Rattle.translation.specs.Rules.{activateRules, deactivateRules, dispatchRules, startRules, completeRules, deadlineRules, missRules, enterRules, leaveRules, itemsOf, timingRules, rulesFor, groupsFor, groupsOf, rulesOf}
 use Rattle.simulation.specs.Compared.{Dispatched}
 use Rattle.simulation.specs.Match.{Match}
 use Rattle.simulation.specs.Groups.{enabledBodies, anyEnabled, groupsBusy, busy-groups, any-of-one}
@@ -73,7 +74,7 @@ module _ (m : Model) (d : Dispatched) (s : State) (v : List Value) (w : WellForm
   some-enabled n f can b e = any-same n _ can (λ i l. any-of-one v (f i) (can i) (b i) (e i l))
 
   groups-busy : groupsBusy v (groupsOf m) ≡ isBusy (m .timing) s
-  unfolding groupsBusy groupsOf isBusy activateRules deactivateRules dispatchRules startRules enterRules leaveRules
+  unfolding groupsBusy groupsFor itemsOf timingRules rulesFor isOneOf isBusy activateRules deactivateRules dispatchRules startRules enterRules leaveRules
   groups-busy =
       let x = m .timing in
       let n = m .timing .threads in
@@ -83,13 +84,13 @@ module _ (m : Model) (d : Dispatched) (s : State) (v : List Value) (w : WellForm
         threads-busy x s n,
         switches-busy x s q,
         any-same n (λ t. canStart x s t (threadAt x t .bcet .0)) (mayStart x s) (λ t l. start-shortest x s t g l),
-        some-enabled n activateRules (canActivate s) _ (activate-enabled x d s v g h),
-        some-enabled n deactivateRules (canDeactivate s) _ (deactivate-enabled x d s v g h),
+        some-enabled n (activateRules x) (canActivate s) _ (activate-enabled x d s v g h),
+        some-enabled n (deactivateRules x) (canDeactivate s) _ (deactivate-enabled x d s v g h),
         some-enabled n (dispatchRules x) (canDispatch x s) _ (dispatch-enabled x d s v g h),
         some-enabled n (startRules x) (mayStart x s) _ (start-enabled x d s v g h),
         some-enabled n (completeRules m) (canComplete s) _ (complete-enabled m d s v w h),
         some-enabled n (deadlineRules x) (canMeetDeadline x s) _ (deadline-enabled x d s v g h),
-        some-enabled n missRules (canMiss x s) _ (miss-enabled x d s v g h),
+        some-enabled n (missRules x) (canMiss x s) _ (miss-enabled x d s v g h),
         some-enabled q (enterRules x) (canEnter x s) _ (λ i l. enter-enabled x d s v g h i),
         some-enabled q (leaveRules x) (canLeave x s) _ (λ i l. leave-enabled x d s v g h i),
       )

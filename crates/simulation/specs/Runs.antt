@@ -11,10 +11,10 @@ use Rattle.records.specs.Refusals.{isNone}
 use Rattle.records.specs.Events.{eventOf}
 use Rattle.records.specs.Run.{Machine, Ended, runFrom, stagesFrom}
 use Rattle.model_format.specs.declared.Timing.{Timing}
-use Rattle.model.specs.declared.State.{State}
-use Rattle.model.specs.State.{nowOf}
-use Rattle.table.specs.declared.Variables.{Variables}
-use Rattle.table.specs.Machine.{clockOf}
+use Rattle.model_semantics.specs.declared.State.{State}
+use Rattle.model_semantics.specs.State.{nowOf}
+use Rattle.table_semantics.specs.declared.Variables.{Variables}
+use Rattle.table_semantics.specs.Machine.{clockOf}
 use Rattle.simulation.specs.Compared.{Dispatched, andAfter, Alike, Lockstep}
 use Rattle.simulation.specs.Match.{Match}
 

@@ -16,19 +16,18 @@ use Rattle.model_format.specs.declared.Model.{Model}
 use Rattle.model_format.specs.Reading.{readModel}
 use Rattle.model_format.specs.WellFormed.{Bytes, WellFormed}
 use Rattle.model_format.specs.Accepted.{accepted-well-formed}
-use Rattle.model.specs.declared.State.{State}
-use Rattle.model.specs.Tests as tests
-use Rattle.model.specs.Effects.{tick}
-use Rattle.model.specs.Machine.{startState, runModel, modelStages, machineOf as modelMachine}
-use Rattle.model.specs.Machine as model-machine
-use Rattle.table.specs.declared.Variables.{Variables}
-use Rattle.table.specs.Machine.{startVariables, runTable, tableStages, machineOf as tableMachine}
-use Rattle.table.specs.Machine as table-machine
+use Rattle.model_semantics.specs.declared.State.{State}
+use Rattle.model_semantics.specs.Tests as tests
+use Rattle.model_semantics.specs.Machine.{startState, runModel, modelStages, machineOf as modelMachine}
+use Rattle.model_semantics.specs.Machine as model-machine
+use Rattle.table_semantics.specs.declared.Variables.{Variables}
+use Rattle.table_semantics.specs.Machine.{startVariables, runTable, tableStages, machineOf as tableMachine}
+use Rattle.table_semantics.specs.Machine as table-machine
 use Rattle.table_format.specs.Table.{tableOf}
-use Rattle.translate.specs.declared.Translation.{Translation}
-use Rattle.translate.specs.Rules.{rulesOf}
-use Rattle.translate.specs.Translate.{tableFrom, tableBytes, translated, outputAfter}
-use Rattle.translate.specs.WellFormed.{translation-back}
+use Rattle.translation.specs.declared.Translation.{Translation}
+use Rattle.translation.specs.Rules.{rulesOf}
+use Rattle.translation.specs.Translate.{tableFrom, tableBytes, translated, outputAfter}
+use Rattle.translation.specs.WellFormed.{translation-back}
 use Rattle.simulation.specs.Compared.{Dispatched, noneYet, Alike, Lockstep, Demand3, Simulates}
 use Rattle.simulation.specs.Match.{Match}
 use Rattle.simulation.specs.Runs.{Agree, SameEnd, lockstep, same-run}
@@ -37,7 +36,8 @@ use Rattle.simulation.specs.Quiet.{busy-same}
 use Rattle.simulation.specs.EffectTick.{tick-match}
 use Rattle.simulation.specs.StartState.{start-match}
 use Rattle.simulation.specs.Stands.{match-alike}
-use Rattle.simulation.specs.Kinds.{OneOf, kind-1, kind-2, kind-3, kind-4, kind-5, kind-6, kind-7, kind-8, kind-9, kind-10, kind-11, one-of, model-tick, table-ticks}
+use Rattle.reached.specs.Kinds.{OneOf, kind-1, kind-2, kind-3, kind-4, kind-5, kind-6, kind-7, kind-8, kind-9, kind-10, kind-11, one-of, model-tick}
+use Rattle.simulation.specs.Kinds.{table-ticks}
 use Rattle.simulation.specs.Step.{After, other-states}
 use Rattle.simulation.specs.Agree.{broken-after, activate-after, deactivate-after, dispatch-after, start-after, complete-after, deadline-after, miss-after, request-after, enter-after, leave-after}
 

@@ -18,21 +18,21 @@ use Rattle.model_format.specs.declared.Timing.{Timing}
 use Rattle.model_format.specs.declared.Model.{Model}
 use Rattle.model_format.specs.Model.{maxThreads, maxInputs, maxOutputs, maxLocals, maxConnections, threadAt, localAt, connectionAt, inMode}
 use Rattle.model_format.specs.WellFormed.{GoodTiming, WellFormed}
-use Rattle.model.specs.declared.State.{State}
-use Rattle.model.specs.State.{isActive, codeOf, dispatchTime, behaviorOf, missedOf, isLive, inputValue, bufferValue, outputValue, localValue}
-use Rattle.model.specs.Effects.{activeIn, inBoth, liveIn}
-use Rattle.model.specs.Machine.{startState}
+use Rattle.model_semantics.specs.declared.State.{State}
+use Rattle.model_semantics.specs.State.{isActive, codeOf, dispatchTime, behaviorOf, missedOf, isLive, inputValue, bufferValue, outputValue, localValue}
+use Rattle.model_semantics.specs.Effects.{activeIn, inBoth, liveIn}
+use Rattle.model_semantics.specs.Machine.{startState}
 use Rattle.table_format.specs.declared.InitialValue.{InitialValue}
-use Rattle.table_format.specs.Variables.{variables}
-use Rattle.table.specs.Rules.{valueOf}
-use Rattle.table.specs.Machine.{begun, startVariables}
-use Rattle.translate.specs.Shown.{standsFor}
-use Rattle.translate.specs.Translate.{initialOf, tableFrom}
+use Rattle.table_format.specs.Variables.{variables, nowVar, phaseVar, pendingVar, enteredVar, cpuVar, clockVars, activeVar, stateVar, dispatchVar, dueVar, endVar, behaviorVar, missedVar, flagVar, inputVar, bufferVar, outputVar, localVar, modeVar}
+use Rattle.table_semantics.specs.Rules.{valueOf}
+use Rattle.table_semantics.specs.Machine.{begun, startVariables}
+use Rattle.translation.specs.Shown.{standsFor, blocksOf, shownIn}
+use Rattle.translation.specs.Translate.{initialOf, tableFrom}
 use Rattle.simulation.specs.Compared.{noneYet}
 use Rattle.simulation.specs.Match.{Match, Blank}
-use Rattle.simulation.specs.Writes.{fold-related}
 use Rattle.simulation.specs.Effects.{InParts, JobShown, jobOf, whole}
 use Rattle.simulation.specs.Stands.{each-variable, stands-active, stands-code, stands-dispatched, stands-behavior, stands-missed, stands-flag, stands-input, stands-buffer, stands-output, stands-local, stands-spare, stands-due, stands-end}
+use Rattle.simulation.specs.Writes.{fold-related}
 
 -- ---- arrays that begin alike, with a c stored at c for each c below k
 module _ {A : Type 0} (room : ℕ) (d : A) where
@@ -114,12 +114,12 @@ module _ (m : Timing) where
   module _ (g : GoodTiming m) where
     start-plain : (j : ℕ) → j < variables → Plain (standsFor m begins j)
     start-plain = each-variable (λ j. Plain (standsFor m begins j)) (record {
-      now = unfold standsFor in plain-natural _;
-      mode = unfold standsFor in plain-natural _;
-      phase = unfold standsFor in plain-natural _;
-      pending = unfold standsFor in plain-natural _;
-      entered = unfold standsFor in plain-natural _;
-      cpu = unfold standsFor in plain-natural _;
+      now = unfold standsFor shownIn blocksOf in plain-natural _;
+      mode = unfold standsFor shownIn blocksOf in plain-natural _;
+      phase = unfold standsFor shownIn blocksOf in plain-natural _;
+      pending = unfold standsFor shownIn blocksOf in plain-natural _;
+      entered = unfold standsFor shownIn blocksOf in plain-natural _;
+      cpu = unfold standsFor shownIn blocksOf in plain-natural _;
       spare = λ j l. rw (stands-spare m g begins start-blank j l) (plain-natural 0);
       active = λ t l. rw (stands-active m g begins start-blank t l) (plain-natural _);
       code = λ t l. rw (stands-code m g begins start-blank t l) (plain-natural _);
@@ -201,18 +201,18 @@ module _ (x : ℕ → Value) (plain : (j : ℕ) → j < variables → Plain (x j
 -- ---- the match
 module _ (m : Timing) (g : GoodTiming m) (v : List Value) (size : length v ≡ variables) (stands : (j : ℕ) → j < variables → valueOf v j ≡ standsFor m (startState m) j) where
   start-parts : InParts m noneYet (startState m) v
-  unfolding startState activeIn liveIn isLive inputValue bufferValue outputValue localValue standsFor
+  unfolding startState activeIn liveIn isLive inputValue bufferValue outputValue localValue standsFor shownIn blocksOf
   start-parts = let s = startState m in let b = start-blank m in record {
     size = size;
     ticks = omega arith;
     clock = record {
-      now = stands 0 (omega arith);
-      mode = stands 1 (omega arith);
-      phase = stands 2 (omega arith);
-      pending = stands 3 (omega arith);
-      entered = stands 4 (omega arith);
-      cpu = stands 5 (omega arith);
-      spare = λ j l. stands (6 + j) (omega arith) ∙ stands-spare m g s b j l;
+      now = stands nowVar (omega arith);
+      mode = stands modeVar (omega arith);
+      phase = stands phaseVar (omega arith);
+      pending = stands pendingVar (omega arith);
+      entered = stands enteredVar (omega arith);
+      cpu = stands cpuVar (omega arith);
+      spare = λ j l. stands (clockVars + j) (omega arith) ∙ stands-spare m g s b j l;
     };
     sized = record {
       active = filled-length maxThreads false (λ c. inMode (threadAt m c .modes) (m .initial)) (m .threads);
@@ -227,31 +227,31 @@ module _ (m : Timing) (g : GoodTiming m) (v : List Value) (size : length v ≡ v
     live = record {
       sized = filled-length maxConnections false (λ e. inBoth (connectionAt m e .modes) (m .initial) (m .initial)) (m .connections);
       blank = b .live;
-      shows = λ c l. stands (128 + c) (omega arith) ∙ stands-flag m g s b c l;
+      shows = λ c l. stands (flagVar c) (omega arith) ∙ stands-flag m g s b c l;
     };
     ports = record {
-      input = record { sized = refl; blank = b .input; shows = λ i l. stands (160 + i) (omega arith) ∙ stands-input m g s b i l };
-      buffer = record { sized = refl; blank = b .buffer; shows = λ i l. stands (192 + i) (omega arith) ∙ stands-buffer m g s b i l };
-      output = record { sized = refl; blank = b .output; shows = λ i l. stands (224 + i) (omega arith) ∙ stands-output m g s b i l };
+      input = record { sized = refl; blank = b .input; shows = λ i l. stands (inputVar i) (omega arith) ∙ stands-input m g s b i l };
+      buffer = record { sized = refl; blank = b .buffer; shows = λ i l. stands (bufferVar i) (omega arith) ∙ stands-buffer m g s b i l };
+      output = record { sized = refl; blank = b .output; shows = λ i l. stands (outputVar i) (omega arith) ∙ stands-output m g s b i l };
       local = record {
         sized = filled-length maxLocals (natural 0) (λ c. localAt m c .start) (m .locals);
         blank = b .local;
-        shows = λ i l. stands (256 + i) (omega arith) ∙ stands-local m g s b i l;
+        shows = λ i l. stands (localVar i) (omega arith) ∙ stands-local m g s b i l;
       };
     };
   }
     where
       start-job : (t : ℕ) → t < maxThreads → JobShown m false 0 (jobOf (startState m) t) v t
       start-job t l = let s = startState m in let b = start-blank m in let c = start-code m t in record {
-        active = stands (16 + t) (omega arith) ∙ stands-active m g s b t l;
-        code = stands (32 + t) (omega arith) ∙ stands-code m g s b t l;
-        dispatched = stands (48 + t) (omega arith) ∙ stands-dispatched m g s b t l;
+        active = stands (activeVar t) (omega arith) ∙ stands-active m g s b t l;
+        code = stands (stateVar t) (omega arith) ∙ stands-code m g s b t l;
+        dispatched = stands (dispatchVar t) (omega arith) ∙ stands-dispatched m g s b t l;
         due = λ p e. absurd (false≢true e);
-        noDue = λ p. stands (64 + t) (omega arith) ∙ stands-due m g s b t l;
+        noDue = λ p. stands (dueVar t) (omega arith) ∙ stands-due m g s b t l;
         end = λ p e. absurd (omega arith);
-        noEnd = λ p. stands (80 + t) (omega arith) ∙ stands-end m g s b t l;
-        behavior = stands (96 + t) (omega arith) ∙ stands-behavior m g s b t l;
-        missed = stands (112 + t) (omega arith) ∙ stands-missed m g s b t l;
+        noEnd = λ p. stands (endVar t) (omega arith) ∙ stands-end m g s b t l;
+        behavior = stands (behaviorVar t) (omega arith) ∙ stands-behavior m g s b t l;
+        missed = stands (missedVar t) (omega arith) ∙ stands-missed m g s b t l;
         blank = λ p. record { active = b .active t p; code = b .code t p; dispatched = b .dispatched t p; behavior = b .behavior t p; missed = b .missed t p };
         reached = record {
           codes = omega arith;

@@ -11,14 +11,14 @@ use Rattle.records.specs.declared.Cause.the-variants.{None, NotEnabled}
 use Rattle.records.specs.Refusals.{numberOf, isNone}
 use Rattle.records.specs.Events.{dispatchKind, startKind}
 use Rattle.model_format.specs.declared.Timing.{Timing}
-use Rattle.model.specs.declared.State.{State}
-use Rattle.model.specs.declared.Stepped as model-stepped
-use Rattle.model.specs.Machine as model-machine
-use Rattle.table.specs.declared.Variables.{Variables}
-use Rattle.table.specs.declared.Stepped as table-stepped
-use Rattle.table.specs.Machine as table-machine
+use Rattle.model_semantics.specs.declared.State.{State}
+use Rattle.model_semantics.specs.declared.Stepped as model-stepped
+use Rattle.model_semantics.specs.Machine as model-machine
+use Rattle.table_semantics.specs.declared.Variables.{Variables}
+use Rattle.table_semantics.specs.declared.Stepped as table-stepped
+use Rattle.table_semantics.specs.Machine as table-machine
 use Rattle.table_format.specs.declared.Update.{Update}
-use Rattle.translate.specs.Parts.{Body, stamped}
+use Rattle.translation.specs.Parts.{Body, stamped}
 use Rattle.simulation.specs.Compared.{Dispatched, andAfter}
 use Rattle.simulation.specs.Match.{Match}
 use Rattle.simulation.specs.Effects.{Does, after-other, after-refused}

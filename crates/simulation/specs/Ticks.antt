@@ -10,17 +10,17 @@ use Rattle.numbers.specs.Lists.{store}
 use Rattle.numbers.specs.Values.{natural, plus, lessValue}
 use Rattle.records.specs.Events.{lastClock}
 use Rattle.model_format.specs.declared.Timing.{Timing}
-use Rattle.model.specs.declared.State.{State}
-use Rattle.model.specs.declared.Stepped as model-stepped
-use Rattle.model.specs.State.{nowOf}
-use Rattle.model.specs.Tests as tests
-use Rattle.model.specs.Effects.{tick}
-use Rattle.model.specs.Machine as model-machine
+use Rattle.model_semantics.specs.declared.State.{State}
+use Rattle.model_semantics.specs.declared.Stepped as model-stepped
+use Rattle.model_semantics.specs.State.{nowOf}
+use Rattle.model_semantics.specs.Tests as tests
+use Rattle.model_semantics.specs.Effects.{tick}
+use Rattle.model_semantics.specs.Machine as model-machine
 use Rattle.table_format.specs.Variables.{variables, nowVar}
 use Rattle.table_format.specs.Table.{Rule}
-use Rattle.table.specs.declared.Variables.{Variables}
-use Rattle.table.specs.declared.Stepped as table-stepped
-use Rattle.table.specs.Machine as table-machine
+use Rattle.table_semantics.specs.declared.Variables.{Variables}
+use Rattle.table_semantics.specs.declared.Stepped as table-stepped
+use Rattle.table_semantics.specs.Machine as table-machine
 use Rattle.simulation.specs.Compared.{Dispatched}
 use Rattle.simulation.specs.Match.{Match}
 

@@ -15,9 +15,9 @@ use Rattle.numbers.specs.Lists.{item, store, foldBelow, firstBelow, joinBelow}
 use Rattle.numbers.specs.ListLaws.{length-store, item-store-same, item-store-other}
 use Rattle.numbers.specs.Values.{natural, plus, combine, value, signed}
 use Rattle.table_format.specs.declared.Update.{Update}
-use Rattle.table_format.specs.Variables.{variables}
-use Rattle.table.specs.Rules.{valueOf, operandValue, applies, newValue, Write, writes, writtenTo, inconsistent, written}
-use Rattle.translate.specs.Parts.{constant, variable, chosenLength, Expression, copied, sumOf, update, setTo}
+use Rattle.table_format.specs.Variables.{variables, threadRoom, connectionRoom, inputRoom, activeVar, flagVar, inputVar, bufferVar}
+use Rattle.table_semantics.specs.Rules.{valueOf, operandValue, applies, newValue, Write, writes, writtenTo, inconsistent, written}
+use Rattle.translation.specs.Parts.{constant, variable, chosenLength, Expression, copied, sumOf, update, setTo}
 
 -- ---- sums that do not wrap
 pub plus-small : (a b : ℕ) → a + b < 2147483648 → plus (natural a) (natural b) ≡ natural (a + b)
@@ -101,6 +101,19 @@ Clear (u ∷ a) b = Misses (u .target) b × Clear a b
 unfoldable pub Within : ℕ → ℕ → List Update → Type 0
 Within lo hi [] = Unit {0}
 Within lo hi (u ∷ l) = (lo ≤ u .target) × (u .target < hi) × Within lo hi l
+
+-- the blocks that updates of several items write
+abbrev pub NotActive : ℕ → Type 0
+NotActive j = activeVar 0 ≤ j → j < activeVar threadRoom → ⊥
+
+abbrev pub NotFlag : ℕ → Type 0
+NotFlag j = flagVar 0 ≤ j → j < flagVar connectionRoom → ⊥
+
+abbrev pub NotInput : ℕ → Type 0
+NotInput j = inputVar 0 ≤ j → j < inputVar inputRoom → ⊥
+
+abbrev pub NotBuffer : ℕ → Type 0
+NotBuffer j = bufferVar 0 ≤ j → j < bufferVar inputRoom → ⊥
 
 pub misses-append : (j : ℕ) (a b : List Update) → Misses j a → Misses j b → Misses j (a ++ b)
 unfolding Misses

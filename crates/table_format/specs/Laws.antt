@@ -6,11 +6,11 @@ use Prim.Native.Nat.{ℕ, _+_, _-_, _<_, _≤_}
 use native.Mathlib.Omega.{arith}
 use lib.ListN.{getD, length, take, drop}
 use lib.Dec.{eqb, ltb}
-use lib.IntN.{pos}
-use lib.Signed.{ltZ}
+use lib.IntN.{ℤ, pos}
+use lib.Signed.{ltZ, leZ}
 use borrow.Author.Tests.{ne-eqb, lt-ltb, le-ltb, eqb-true, eqb-false}
 use Rattle.numbers.specs.declared.Value.{Value}
-use Rattle.numbers.specs.Values.{u16At, u32At, valueAt}
+use Rattle.numbers.specs.Values.{u16At, u32At, valueAt, bitsOf}
 use Rattle.records.specs.declared.Notation.the-variants as notations
 use Rattle.records.specs.declared.Operand.{Operand}
 use Rattle.records.specs.declared.Cause.{Cause}
@@ -151,6 +151,9 @@ module _ (x : List ℕ) where
     is-update f y g = by-kind 36 (sym f ∙ e) (omega arith) ∙ ap Change (sym g)
 
 -- ---- fields
+pub variable-named : (z : ℤ) (n : ℕ) (a b : Bool) → n ≡ bitsOf z → a ≡ leZ (pos 0) z → b ≡ isVariable n → (a && b) ≡ namesVariable z
+variable-named z n a b e f g = rw (g, f, e)
+
 module _ (c : Bool) (o : Operand) where
   pub operand-constant : o .tag ≡ 0 → true ≡ operandFits c o
   unfolding operandFits

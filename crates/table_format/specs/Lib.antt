@@ -1,8 +1,11 @@
 pub mod Variables
+pub mod RuleKinds
 pub mod Format
 pub mod Table
 pub mod Reading
 pub mod All
+pub mod KindLaws
+pub mod VariableLaws
 pub mod WellFormed
 pub mod RoundTrip
 pub mod BytesLaws

@@ -6,6 +6,7 @@ use lib.ListN.{length}
 use lib.Dec.{eqb, ltb, leb}
 use lib.IntN.{ℤ, pos}
 use lib.Signed.{ltZ, leZ}
+use Rattle.numbers.specs.Values.{bitsOf}
 use Rattle.records.specs.declared.Notation.the-variants as notations
 use Rattle.records.specs.declared.Operand.{Operand}
 use Rattle.records.specs.declared.Cause.{Cause}
@@ -21,13 +22,14 @@ use Rattle.table_format.specs.declared.Update.{Update}
 use Rattle.table_format.specs.declared.Context.{Context}
 use Rattle.table_format.specs.declared.Record.{Record}
 use Rattle.table_format.specs.declared.Record.the-variants.{Initial, Head, Clause, Atomic, Change, Cut, Unknown}
-use Rattle.table_format.specs.Variables.{isVariable, variables, noVariable}
+use Rattle.table_format.specs.Variables.{isVariable, noVariable}
+use Rattle.table_format.specs.RuleKinds.{hasRules}
 use Rattle.table_format.specs.Format.{recordOf}
 
 -- ---- fields
 -- the number of a variable that is there
 abbrev pub namesVariable : ℤ → Bool
-namesVariable z = leZ (pos 0) z && ltZ z (pos variables)
+namesVariable z = leZ (pos 0) z && isVariable (bitsOf z)
 
 -- "Operands, checked likewise, have tag 0 constant, 1 variable, 2 chosen length (only in updates of START rules)"; the number behind
 -- the chosen length is free.
@@ -40,8 +42,7 @@ initialFits least x = leb least (x .variable) && isVariable (x .variable)
 
 -- "event kind (01 to 0A)", "low, high u32 (0 but for START; low ≤ high ≤ 1,000,000)"
 unfoldable pub headFits : RuleHead → Bool
-headFits h =
-    leb 1 (h .kind) && (leb (h .kind) 10 && (leb (h .low) (h .high) && leb (h .high) (cond (eqb (h .kind) startKind) 1000000 0)))
+headFits h = hasRules (h .kind) && (leb (h .low) (h .high) && leb (h .high) (cond (eqb (h .kind) startKind) 1000000 0))
 
 -- "Ops 6 and 7: (not) a multiple of a constant above 0."
 unfoldable pub atomFits : Atom → Bool

@@ -1,6 +1,6 @@
 -- "The table's machine": the variables' numbers.
 use mathlib.Core.Bool.{Bool}
-use Prim.Native.Nat.{ℕ, _+_}
+use Prim.Native.Nat.{ℕ, _+_, _*_}
 use lib.Dec.{ltb}
 
 abbrev pub nowVar : ℕ
@@ -20,6 +20,29 @@ enteredVar = 4
 
 abbrev pub cpuVar : ℕ
 cpuVar = 5
+
+-- how many belong to no item, and how many after them stand for nothing
+abbrev pub clockVars : ℕ
+clockVars = 6
+
+abbrev pub spareVars : ℕ
+spareVars = 10
+
+-- ---- blocks, each with room for so many items: threads, connections, input ports (and as many buffers), output ports, locals
+abbrev pub threadRoom : ℕ
+threadRoom = 16
+
+abbrev pub connectionRoom : ℕ
+connectionRoom = 32
+
+abbrev pub inputRoom : ℕ
+inputRoom = 32
+
+abbrev pub outputRoom : ℕ
+outputRoom = 32
+
+abbrev pub localRoom : ℕ
+localRoom = 32
 
 -- of thread t
 abbrev pub activeVar : ℕ → ℕ
@@ -43,6 +66,13 @@ behaviorVar t = 96 + t
 abbrev pub missedVar : ℕ → ℕ
 missedVar t = 112 + t
 
+-- these stand t past multiples of the room: columns 1 to 7
+abbrev pub threadVar : ℕ → ℕ → ℕ
+threadVar column t = column * threadRoom + t
+
+abbrev pub threadColumns : ℕ
+threadColumns = 7
+
 -- of connection c
 abbrev pub flagVar : ℕ → ℕ
 flagVar c = 128 + c
@@ -64,6 +94,7 @@ localVar v = 256 + v
 abbrev pub variables : ℕ
 variables = 288
 
+-- the variable is there
 unfoldable pub isVariable : ℕ → Bool
 isVariable n = ltb n variables
 

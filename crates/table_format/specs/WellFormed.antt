@@ -10,7 +10,7 @@ use lib.IntN.{pos}
 use lib.Signed.{ltZ}
 use mir.Syntax.{w32}
 use mir.Val.{SFits}
-use borrow.Author.Tests.{lt-ltb, le-leb, ltb-true, leb-true, eqb-true}
+use borrow.Author.Tests.{le-leb, ltb-true, leb-true, eqb-true}
 use Rattle.numbers.specs.declared.Value.{Value}
 use Rattle.numbers.specs.Lists.{joinBelow, only}
 use Rattle.records.specs.declared.Operand.{Operand}
@@ -23,6 +23,9 @@ use Rattle.table_format.specs.declared.Record.{Record}
 use Rattle.table_format.specs.declared.Record.the-variants.{Initial, Head, Clause, Atomic, Change, Cut, Unknown}
 use Rattle.table_format.specs.All.{All, all-join, all-only}
 use Rattle.table_format.specs.Variables.{isVariable, variables, noVariable}
+use Rattle.table_format.specs.RuleKinds.{hasRules}
+use Rattle.table_format.specs.KindLaws.{kind-small}
+use Rattle.table_format.specs.VariableLaws.{variable-there, variable-small}
 use Rattle.table_format.specs.Table.{Rule, Table, encode}
 use Rattle.table_format.specs.Reading.{namesVariable, operandFits, initialFits, headFits, atomFits, updateFits, longestTable}
 
@@ -72,10 +75,6 @@ pub and-split : (a b : Bool) → (a && b) ≡ true → (a ≡ true) × (b ≡ tr
 and-split true b h = (refl, h)
 and-split false b h = absurd (false≢true h)
 
-variable-small : (n : ℕ) → isVariable n ≡ true → n < 65536
-unfolding isVariable
-variable-small n h = let l = ltb-true n variables h in omega arith
-
 condition-small : (n : ℕ) → (eqb n noVariable || isVariable n) ≡ true → n < 65536
 condition-small n h = go (eqb n noVariable) refl
   where
@@ -103,10 +102,9 @@ initial-fits least x h f = (variable-small (x .variable) (and-split (leb least (
 pub head-fits : (x : RuleHead) → headFits x ≡ true → x .id < 256 → Fits (Head x)
 unfolding headFits
 head-fits x h i =
-    let (a, h₁) = and-split (leb 1 (x .kind)) _ h in
-    let (b, h₂) = and-split (leb (x .kind) 10) _ h₁ in
-    let (c, d) = and-split (leb (x .low) (x .high)) _ h₂ in
-    let k = leb-true (x .kind) 10 b in
+    let (a, h₁) = and-split (hasRules (x .kind)) _ h in
+    let (c, d) = and-split (leb (x .low) (x .high)) _ h₁ in
+    let k = kind-small (x .kind) a in
     let l = leb-true (x .low) (x .high) c in
     let m = leb-true (x .high) _ d in
     let n = most (eqb (x .kind) startKind) in
@@ -148,8 +146,8 @@ update-fits kind u g =
 -- ---- initial values for the variables below n that a test picks
 rising-more : (l : List InitialValue) (least : ℕ) (x : InitialValue) → Rising least l → All (λ y. y .variable < x .variable) l → least ≤ x .variable →
     x .variable < variables → SFits w32 (x .value .0) → Rising least (l ++ x ∷ [])
-unfolding initialFits isVariable
-rising-more [] least x h k l v f = (rw (le-leb least (x .variable) l, lt-ltb (x .variable) variables v), f, tt)
+unfolding initialFits
+rising-more [] least x h k l v f = (rw (le-leb least (x .variable) l, variable-there (x .variable) v), f, tt)
 rising-more (y ∷ l) least x h k i v f = (h .0, h .1, rising-more l (y .variable + 1) x (h .2) (k .1) (omega (arith, k .0)) v f)
 
 module _ (picked : ℕ → Bool) (value : ℕ → Value) (first : picked 0 ≡ false) (fits : (j : ℕ) → SFits w32 (value j .0)) where

@@ -1,22 +1,64 @@
 // A table of rules as bytes: its records, and reading it.
 
+mod ops;
+mod variables;
+
 use numbers::Value;
+pub use ops::CONSTANT_TAG;
+pub use ops::COPY;
+pub use ops::DIFFERS;
+pub use ops::EQUALS;
+pub use ops::IS_ABOVE;
+pub use ops::IS_AT_LEAST;
+pub use ops::IS_AT_MOST;
+pub use ops::IS_BELOW;
+pub use ops::LENGTH_TAG;
+pub use ops::MULTIPLE_OF;
+pub use ops::NO_MULTIPLE_OF;
+pub use ops::SUM;
+pub use ops::VARIABLE_TAG;
+use records::ACTIVATE;
 use records::Cause;
 use records::Holder;
+use records::LEAVE;
 use records::Notation;
 use records::Operand;
 use records::Refusal;
+pub use variables::CPU;
+pub use variables::ENTERED;
+pub use variables::MODE;
+pub use variables::NO_VARIABLE;
+pub use variables::NOW;
+pub use variables::PENDING;
+pub use variables::PHASE;
+pub use variables::VARIABLES;
+pub use variables::active_var;
+pub use variables::behavior_var;
+pub use variables::buffer_var;
+pub use variables::dispatch_var;
+pub use variables::due_var;
+pub use variables::end_var;
+pub use variables::flag_var;
+pub use variables::input_var;
+pub use variables::local_var;
+pub use variables::missed_var;
+pub use variables::output_var;
+pub use variables::state_var;
 ghost use mathlib.Core.Path.{_≡_};
 ghost use mathlib.Core.Bool.{cond};
 ghost use lib.Dec.{eqb};
 ghost use lib.IntN.{pos};
-ghost use lib.Signed.{ltZ};
+ghost use lib.Signed.{leZ, ltZ};
 ghost use Rattle.records.specs.Events.{startKind};
 ghost use Rattle.records.specs.Refusals.{inModel};
 ghost use Rattle.table_format.specs.Variables.{isVariable};
+ghost use Rattle.table_format.specs.RuleKinds.{hasRules};
 ghost use Rattle.table_format.specs.Format.{initialOf, headOf, atomOf, updateOf, recordOf};
 ghost use Rattle.table_format.specs.Format.{kindOf};
 ghost use Rattle.table_format.specs.Reading.{namesVariable, operandFits, initialFits, headFits, atomFits, updateFits, judged, causeOf, nextContext, readTable};
+
+// In bytes.
+pub const LONGEST_TABLE: usize = 1000000;
 
 // Kind 20, a start: the value with which an environment variable begins.
 pub struct InitialValue {
@@ -178,18 +220,26 @@ pub fn record_of(x: &[u8]) -> Record
 }
 
 // ---- fields
-fn is_variable(n: u16) -> bool
+fn is_variable(n: u32) -> bool
     ensures { λ r. ⌜ r ≡ isVariable n ⌝ }
 {
     n < 288
+}
+
+fn is_natural(v: Value) -> bool
+    ensures { λ r. ⌜ r ≡ leZ (pos 0) (v .0) ⌝ }
+{
+    let z = v.0;
+    0 <= z
 }
 
 // The number of a variable that is there.
 fn names_variable(v: Value) -> bool
     ensures { λ r. ⌜ r ≡ namesVariable (v .0) ⌝ }
 {
-    let z = v.0;
-    (0 <= z) & (z < 288)
+    let n = numbers::bits(v);
+    let there = is_variable(n);
+    is_natural(v) & there
 }
 
 // `may_choose`: the operand may be the chosen length.
@@ -210,9 +260,9 @@ pub fn operand_fits(may_choose: bool, o: Operand) -> bool
 pub fn initial_fits(least: u32, x: InitialValue) -> bool
     ensures { λ r. ⌜ r ≡ initialFits least x ⌝ }
 {
-    let n = x.variable;
+    let n = x.variable as u32;
     let b = is_variable(n);
-    (least <= (n as u32)) & b
+    (least <= n) & b
 }
 
 // The greatest length that a rule of a kind may allow.
@@ -222,6 +272,12 @@ fn longest(kind: u8) -> u32
     if kind == 4 { 1000000 } else { 0 }
 }
 
+fn has_rules(kind: u8) -> bool
+    ensures { λ r. ⌜ r ≡ hasRules kind ⌝ }
+{
+    (ACTIVATE <= kind) & (kind <= LEAVE)
+}
+
 pub fn head_fits(h: RuleHead) -> bool
     ensures { λ r. ⌜ r ≡ headFits h ⌝ }
 {
@@ -229,7 +285,8 @@ pub fn head_fits(h: RuleHead) -> bool
     let l = h.low;
     let m = h.high;
     let n = longest(k);
-    (1 <= k) & ((k <= 10) & ((l <= m) & (m <= n)))
+    let known = has_rules(k);
+    known & ((l <= m) & (m <= n))
 }
 
 fn above_zero(v: Value) -> bool
@@ -245,7 +302,7 @@ pub fn atom_fits(a: Atom) -> bool
     let o = a.op;
     let n = a.variable;
     let y = a.right;
-    let b = is_variable(n);
+    let b = is_variable(n as u32);
     if o < 6 {
         let r = operand_fits(false, y);
         return (o < 8) & (b & r);
@@ -264,8 +321,8 @@ pub fn update_fits(kind: u8, u: Update) -> bool
     let o = u.op;
     let x = u.first;
     let y = u.second;
-    let b = is_variable(c);
-    let d = is_variable(t);
+    let b = is_variable(c as u32);
+    let d = is_variable(t as u32);
     let f = operand_fits(kind == 4, x);
     let g = operand_fits(kind == 4, y);
     ((c == 65535) | b) & ((0 < t) & (d & ((o < 3) & (f & g))))
@@ -358,7 +415,7 @@ fn refusal(cause: Cause, start: usize, end: usize) -> Refusal
 pub fn read_table(s: &[u8]) -> Refusal
     ensures { λ r. ⌜ r ≡ readTable (now (s .entry)) ⌝ }
 {
-    if 1000000 < s.len() {
+    if LONGEST_TABLE < s.len() {
         let long = Cause::TooMany;
         return refusal(long, 0, s.len());
     }

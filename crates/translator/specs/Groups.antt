@@ -1,49 +1,51 @@
--- The rules of each event kind, by its number, and laws of writing them.
-use mathlib.Core.Path.{_≡_, refl, _∙_}
-use mathlib.Core.Bool.{Bool, true, false, cond}
-use mathlib.Core.List.{List, [], _++_, append-assoc, append-nil}
-use Prim.Native.Nat.{ℕ, _+_, _≤_}
-use lib.ListN.{length}
-use lib.Dec.{eqb, ltb}
+-- The rules of each event kind, and laws of writing them.
+use mathlib.Core.Path.{_≡_, refl, sym, _∙_, ap}
+use mathlib.Core.Bool.{Bool, true, false, cond, _||_, or-false}
+use mathlib.Core.List.{List, [], _∷_, _++_, append-assoc, append-nil}
+use Prim.Native.Nat.{ℕ, zero, suc, _+_, _≤_}
+use lib.ListN.{getD, length}
+use lib.Dec.{eqb}
+use borrow.Author.Tests.{ne-eqb}
 use Rattle.numbers.specs.Lists.{joinBelow}
 use Rattle.model_format.specs.declared.Timing.{Timing}
 use Rattle.model_format.specs.declared.Model.{Model}
 use Rattle.model_format.specs.WellFormed.{GoodTiming}
 use Rattle.table_format.specs.Table.{Rule}
-use Rattle.writer.specs.Written.{keeps-length}
-use Rattle.rule_writer.specs.Lists.{Counted, joins-rules, wrote-none, loop-begins, loop-next}
-use Rattle.rule_writer.specs.Wrote.{WroteRules}
-use Rattle.translate.specs.Parts.{Body, stamped, rulesOfGroups}
-use Rattle.translate.specs.Rules.{activateRules, deactivateRules, dispatchRules, startRules, completeRules, deadlineRules, missRules, requestRules, enterRules, leaveRules, groupsOf, rulesOf}
+use Rattle.table_format.specs.RuleKinds.{ruleKinds, isOneOf}
+use Rattle.table_writer.specs.Written.{keeps-length}
+use Rattle.table_writer.specs.Lists.{Counted, joins-rules, wrote-none, loop-begins, loop-next}
+use Rattle.table_writer.specs.WroteRules.{WroteRules}
+use Rattle.translation.specs.Parts.{Body, stamped, rulesOfGroups}
+use Rattle.translation.specs.Rules.{completeRules, switchKinds, itemsOf, timingRules, rulesFor, groupsFor, rulesOf}
 
-abbrev pub countOf : Timing → ℕ → ℕ
-countOf x kind = cond (ltb kind 8) (x .threads) (x .switches)
-
--- the rules of each kind but COMPLETE
-abbrev pub bodiesOf : Timing → ℕ → ℕ → List Body
-bodiesOf x kind i =
-    cond (eqb kind 1) (activateRules i)
-    (cond (eqb kind 2) (deactivateRules i)
-    (cond (eqb kind 3) (dispatchRules x i)
-    (cond (eqb kind 4) (startRules x i)
-    (cond (eqb kind 6) (deadlineRules x i)
-    (cond (eqb kind 7) (missRules i)
-    (cond (eqb kind 8) (requestRules x i)
-    (cond (eqb kind 9) (enterRules x i)
-    (cond (eqb kind 10) (leaveRules x i) []))))))))
-
+-- of every item: those that the timing alone gives, COMPLETE's, and those of any kind
 abbrev pub groupRules : Timing → ℕ → List Rule
-groupRules x kind = joinBelow (countOf x kind) (λ i. stamped kind i (bodiesOf x kind i))
+groupRules x kind = joinBelow (itemsOf x kind) (λ i. stamped kind i (timingRules x kind i))
 
 abbrev pub completesOf : Model → List Rule
 completesOf m = joinBelow (m .timing .threads) (λ i. stamped 5 i (completeRules m i))
 
-pub count-small : (x : Timing) (kind : ℕ) → GoodTiming x → countOf x kind ≤ 16
-count-small x kind g = go (ltb kind 8)
-  where
-    go : (b : Bool) → cond b (x .threads) (x .switches) ≤ 16
-    go true = g .threads
-    go false = g .switches
+abbrev pub kindRules : Model → ℕ → List Rule
+kindRules m kind = joinBelow (itemsOf (m .timing) kind) (λ i. stamped kind i (rulesFor m kind i))
+
+-- n is how many there are
+module _ (x : Timing) (kind n : ℕ) where
+  pub items-switches : n ≡ x .switches → (eqb kind 8 || (eqb kind 9 || eqb kind 10)) ≡ true → n ≡ itemsOf x kind
+  unfolding itemsOf isOneOf
+  items-switches e h = rw (e, or-false (eqb kind 10), h)
+
+  pub items-threads : n ≡ x .threads → (eqb kind 8 || (eqb kind 9 || eqb kind 10)) ≡ false → n ≡ itemsOf x kind
+  unfolding itemsOf isOneOf
+  items-threads e h = rw (e, or-false (eqb kind 10), h)
+
+module _ (x : Timing) (kind : ℕ) where
+  pub items-few : GoodTiming x → itemsOf x kind ≤ 16
+  unfolding itemsOf
+  items-few g = go (isOneOf switchKinds kind)
+    where
+      go : (b : Bool) → cond b (x .switches) (x .threads) ≤ 16
+      go true = g .switches
+      go false = g .threads
 
 -- a kind that has no rules
 pub no-rules : {d : List ℕ} {at : ℕ} (kind i : ℕ) (l : List Body) → l ≡ [] → Counted at → WroteRules d at (stamped kind i l) d at
@@ -71,16 +73,25 @@ module _ (x : ℕ → List Rule) where
     pub loop-over : (n : ℕ) → i ≡ n → WroteRules start at (joinBelow n x) d p
     loop-over n e = rw (← e) (g .written)
 
--- ---- the ten kinds, one after the other
-abbrev pub kindRules : Model → ℕ → List Rule
-kindRules m i = cond (eqb (i + 1) 5) (completesOf m) (groupRules (m .timing) (i + 1))
+-- ---- the kinds, one after the other; k is the kind as the code has read it
+module _ {d e : List ℕ} {at p : ℕ} (m : Model) (kind : ℕ) {k : ℕ} (q : k ≡ kind) where
+  pub complete-kind : k ≡ 5 → WroteRules d at (completesOf m) e p → WroteRules d at (kindRules m kind) e p
+  unfolding itemsOf isOneOf rulesFor
+  complete-kind h w = rw (sym q ∙ h) w
 
-ten : (a b c d e f g h i j : List Rule) →
-    [] ++ a ++ b ++ c ++ d ++ e ++ f ++ g ++ h ++ i ++ j ≡ a ++ (b ++ (c ++ (d ++ (e ++ (f ++ (g ++ (h ++ (i ++ (j ++ [])))))))))
-ten a b c d e f g h i j = simp (append-assoc, append-nil)
+  pub other-kind : (k ≡ 5 → ⊥) → WroteRules d at (groupRules (m .timing) k) e p → WroteRules d at (kindRules m kind) e p
+  unfolding rulesFor
+  other-kind h w = rw (← q, ne-eqb k 5 h) w
 
-pub all-rules : (m : Model) → joinBelow 10 (kindRules m) ≡ rulesOf m
-unfolding joinBelow rulesOfGroups groupsOf
-all-rules m =
-    let x = m .timing in
-    ten (groupRules x 1) (groupRules x 2) (groupRules x 3) (groupRules x 4) (completesOf m) (groupRules x 6) (groupRules x 7) (groupRules x 8) (groupRules x 9) (groupRules x 10)
+join-front : {A : Type 0} (n : ℕ) (f : ℕ → List A) → joinBelow (suc n) f ≡ f 0 ++ joinBelow n (λ i. f (suc i))
+unfolding joinBelow
+join-front zero f = sym (append-nil (f 0))
+join-front (suc n) f = ap (λ l. l ++ f (suc n)) (join-front n f) ∙ append-assoc (f 0) (joinBelow n (λ i. f (suc i))) (f (suc n))
+
+rules-joined : (m : Model) (l : List ℕ) → joinBelow (length l) (λ i. kindRules m (getD l i 0)) ≡ rulesOfGroups (groupsFor m l)
+unfolding rulesOfGroups groupsFor
+rules-joined m [] = unfold joinBelow in refl
+rules-joined m (kind ∷ l) = join-front (length l) (λ i. kindRules m (getD (kind ∷ l) i 0)) ∙ ap (λ r. kindRules m kind ++ r) (rules-joined m l)
+
+pub all-rules : (m : Model) → joinBelow (length ruleKinds) (λ i. kindRules m (getD ruleKinds i 0)) ≡ rulesOf m
+all-rules m = rules-joined m ruleKinds

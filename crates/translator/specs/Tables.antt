@@ -11,22 +11,25 @@ use mir.Val.{Fits}
 use lib.Seq.{sets-eq}
 use lib.Dec.{ltb}
 use Rattle.records.specs.declared.Cause.the-variants.{ShortOutput}
+use Rattle.records.specs.declared.Refusal.{Refusal}
 use Rattle.records.specs.Refusals.{numberOf, isNone, inModel, noRefusal}
 use Rattle.model_format.specs.declared.Model.{Model}
 use Rattle.model_format.specs.declared.ModelRead.{ModelRead}
 use Rattle.model_format.specs.Reading.{readModel}
 use Rattle.model_format.specs.WellFormed.{Bytes, WellFormed}
 use Rattle.model_format.specs.Accepted.{accepted-well-formed}
+use Rattle.model_words.specs.Words.{modelIn, modelWords}
+use Rattle.model_reading.specs.Reads.{readRefusal, ReadInto}
 use Rattle.table_format.specs.Table.{rulesTo, initialTo}
 use Rattle.table_format.specs.BytesLaws.{initial-append}
-use Rattle.writer.specs.Written.{records-then}
-use Rattle.writer.specs.Wrote.{Wrote}
-use Rattle.rule_writer.specs.Lists.{Counted}
-use Rattle.rule_writer.specs.Wrote.{WroteRules, WroteInitial}
-use Rattle.translate.specs.declared.Translation.{Translation}
-use Rattle.translate.specs.Rules.{rulesOf}
-use Rattle.translate.specs.Translate.{initialOf, tableFrom, tableBytes, translated, outputAfter}
-use Rattle.translate.specs.TableLength.{table-most, table-short}
+use Rattle.table_writer.specs.Written.{records-then}
+use Rattle.table_writer.specs.Wrote.{Wrote}
+use Rattle.table_writer.specs.Lists.{Counted}
+use Rattle.table_writer.specs.WroteRules.{WroteRules, WroteInitial}
+use Rattle.translation.specs.declared.Translation.{Translation}
+use Rattle.translation.specs.Rules.{rulesOf}
+use Rattle.translation.specs.Translate.{initialOf, tableFrom, tableBytes, translated, outputAfter}
+use Rattle.translation.specs.TableLength.{longestMadeTable, table-most, table-short}
 use Rattle.simulation.specs.Simulation.{written-is, simulates}
 use Rattle.translator.specs.Translates.{Translates}
 
@@ -44,6 +47,15 @@ length-told m w x =
 -- a slice of bytes is a list of bytes
 pub bytes-known : (s : List ℕ) → ((i : ℕ) → Fits w8 (getD s i 0)) → Bytes s
 bytes-known s f i = f i .fits
+
+-- what reading gave, the model in a list of numbers
+abbrev pub readAs : Refusal → List ℕ → ModelRead
+readAs r l = record { refusal = r; model = modelIn l }
+
+-- a list that has room for the model
+pub read-whole : (model l l′ : List ℕ) (r : Refusal) → ReadInto model l l′ r → modelWords ≤ length l → readAs r l′ ≡ readModel model
+unfolding readRefusal
+read-whole model l l′ r i h = rw (i .refusal, le-ltb (length l) modelWords h, i .model h)
 
 -- ---- r is what reading the model gave, b whether it was accepted
 module _ (model out : List ℕ) (r : ModelRead) (b : Bool) (e : r ≡ readModel model) (g : b ≡ isNone (r .refusal .cause)) where
@@ -80,7 +92,7 @@ module _ (model out : List ℕ) (r : ModelRead) (b : Bool) (e : r ≡ readModel 
       record { told = told; output = output; simulated = λ s made. simulates model out (record { refusal = noRefusal; bytes = n }) after told output made bytes s }
 
   -- an output with room for any table
-  pub table-made-at-once : b ≡ true → 394304 ≤ length out → (after : List ℕ) (n : ℕ) → Wrote out 0 (tableBytes (r .model)) after n →
+  pub table-made-at-once : b ≡ true → longestMadeTable ≤ length out → (after : List ℕ) (n : ℕ) → Wrote out 0 (tableBytes (r .model)) after n →
       Translates model out (record { refusal = noRefusal; bytes = n }) after
   table-made-at-once f l after n w =
       let good = model-good f in

@@ -5,8 +5,8 @@ use mathlib.Core.List.{List}
 use Prim.Native.Nat.{ℕ}
 use lib.ListN.{length}
 use Rattle.records.specs.Refusals.{isNone}
-use Rattle.translate.specs.declared.Translation.{Translation}
-use Rattle.translate.specs.Translate.{translated, outputAfter}
+use Rattle.translation.specs.declared.Translation.{Translation}
+use Rattle.translation.specs.Translate.{translated, outputAfter}
 use Rattle.simulation.specs.Compared.{Simulates}
 
 -- what it tells, the output afterwards, and, where the table was made, demand 3 for every event list

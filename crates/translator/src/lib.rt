@@ -1,115 +1,154 @@
-// The translator: from the bytes of a model to the bytes of its table.
+// The translator: from the bytes of a model to the bytes of its table. In between the model is a list of numbers, which is lent to what
+// lays down its rules.
 
 ghost use mathlib.Core.Path.{_≡_};
-ghost use lib.ListN.{length};
+ghost use Prim.Native.Nat.{_<_, _≤_};
+ghost use lib.ListN.{getD, length};
 ghost use Rattle.records.specs.Refusals.{inModel};
+ghost use Rattle.model_format.specs.Reading.{readModel};
 ghost use Rattle.model_format.specs.WellFormed.{GoodTiming, WellFormed};
-ghost use Rattle.writer.specs.Wrote.{Wrote};
-ghost use Rattle.rule_writer.specs.Wrote.{WroteRules};
-ghost use Rattle.translate.specs.Parts.{stamped};
-ghost use Rattle.translate.specs.Rules.{rulesOf};
-ghost use Rattle.translate.specs.Translate.{tableBytes};
-ghost use Rattle.translator.specs.Groups.{countOf, bodiesOf, groupRules, completesOf};
+ghost use Rattle.model_words.specs.Words.{timingIn, modelIn, modelWords};
+ghost use Rattle.table_writer.specs.Wrote.{Wrote};
+ghost use Rattle.table_writer.specs.WroteRules.{WroteRules};
+ghost use Rattle.translation.specs.Parts.{stamped};
+ghost use Rattle.table_format.specs.RuleKinds.{ruleKinds};
+ghost use Rattle.translation.specs.Rules.{itemsOf, timingRules, rulesOf};
+ghost use Rattle.translation.specs.Translate.{tableBytes};
+ghost use Rattle.translator.specs.Groups.{groupRules, completesOf};
+ghost use Rattle.translator.specs.Tables.{readAs};
 ghost use Rattle.translator.specs.Translates.{Translates};
-use model_format::Model;
-use model_format::Timing;
+use model_words::MODEL_WORDS;
+use records::ACTIVATE;
+use records::COMPLETE;
 use records::Cause;
+use records::DEACTIVATE;
+use records::DEADLINE;
+use records::DISPATCH;
+use records::ENTER;
 use records::Holder;
+use records::LEAVE;
+use records::MISS;
+use records::REQUEST;
 use records::Refusal;
-use translate::Translation;
+use records::START;
+use translation::Translation;
 
 // No table is longer.
 const LONGEST_MADE_TABLE: usize = 394304;
 
-// How many items an event kind has rules for: threads, or mode transitions.
-fn count_of(x: Timing, kind: u8) -> usize
-    ensures { λ r. ⌜ r ≡ countOf x kind ⌝ }
+// The kinds of events that have rules, in the table's order.
+const KINDS: usize = 10;
+
+const RULE_KINDS: [u8; KINDS] = [
+    ACTIVATE,
+    DEACTIVATE,
+    DISPATCH,
+    START,
+    COMPLETE,
+    DEADLINE,
+    MISS,
+    REQUEST,
+    ENTER,
+    LEAVE,
+];
+
+fn rule_kind(i: usize) -> u8
+    requires { ⌜ i < length ruleKinds ⌝ }
+    ensures { λ r. ⌜ r ≡ getD ruleKinds i 0 ⌝ }
 {
-    if kind < 8 { x.threads } else { x.switches }
+    RULE_KINDS[i]
 }
 
-// The rules of an event kind and an item. COMPLETE has its own function: only it needs the behaviours, and they are long.
-fn put_item(d: &mut [u8], at: usize, x: Timing, kind: u8, i: u8) -> usize
-    requires { ⌜ GoodTiming x ⌝ }
-    ensures { λ r. ⌜ WroteRules (now (d .entry)) at (stamped kind i (bodiesOf x kind i)) (now (d .exit)) r ⌝ }
+// How many items an event kind has rules for: mode transitions, or threads.
+fn items_of(m: &[u32], kind: u8) -> usize
+    ensures { λ r. ⌜ r ≡ itemsOf (timingIn (now (m .entry))) kind ⌝ }
+{
+    if (kind == REQUEST) | ((kind == ENTER) | (kind == LEAVE)) {
+        return model_words::switches(m);
+    }
+    model_words::threads(m)
+}
+
+// The rules of an event kind and an item. COMPLETE has its own function: only it needs the behaviours.
+fn put_item(output: &mut [u8], at: usize, m: &[u32], kind: u8, i: u8) -> usize
+    requires { ⌜ GoodTiming (timingIn (now m)) ⌝ }
+    ensures { λ r. ⌜ WroteRules (now (output .entry)) at (stamped kind i (timingRules (timingIn (now (m .entry))) kind i)) (now (output .exit)) r ⌝ }
 {
     match kind {
-        1 => thread_rules::put_activate(d, at, i),
-        2 => thread_rules::put_deactivate(d, at, i),
-        3 => thread_rules::put_dispatch(d, at, x, i),
-        4 => thread_rules::put_start(d, at, x, i),
-        6 => thread_rules::put_deadline(d, at, x, i),
-        7 => thread_rules::put_miss(d, at, i),
-        8 => mode_rules::put_request(d, at, x, i),
-        9 => mode_rules::put_enter(d, at, x, i),
-        10 => mode_rules::put_leave(d, at, x, i),
+        ACTIVATE => translate_threads::put_activate(output, at, m, i),
+        DEACTIVATE => translate_threads::put_deactivate(output, at, m, i),
+        DISPATCH => translate_threads::put_dispatch(output, at, m, i),
+        START => translate_threads::put_start(output, at, m, i),
+        DEADLINE => translate_threads::put_deadline(output, at, m, i),
+        MISS => translate_threads::put_miss(output, at, m, i),
+        REQUEST => translate_modes::put_request(output, at, m, i),
+        ENTER => translate_modes::put_enter(output, at, m, i),
+        LEAVE => translate_modes::put_leave(output, at, m, i),
         _ => at,
     }
 }
 
 // The rules of an event kind.
-fn put_group(d: &mut [u8], at: usize, x: Timing, kind: u8) -> usize
-    requires { ⌜ GoodTiming x ⌝ }
-    ensures { λ r. ⌜ WroteRules (now (d .entry)) at (groupRules x kind) (now (d .exit)) r ⌝ }
+fn put_group(output: &mut [u8], at: usize, m: &[u32], kind: u8) -> usize
+    requires { ⌜ GoodTiming (timingIn (now m)) ⌝ }
+    ensures { λ r. ⌜ WroteRules (now (output .entry)) at (groupRules (timingIn (now (m .entry))) kind) (now (output .exit)) r ⌝ }
 {
-    let n = count_of(x, kind);
-    let mut p = at;
+    let n = items_of(m, kind);
+    let mut at = at;
     let mut i = 0;
     while i < n {
-        p = put_item(d, p, x, kind, i as u8);
+        at = put_item(output, at, m, kind, i as u8);
         i += 1;
     }
-    p
+    at
 }
 
-fn put_completes(d: &mut [u8], at: usize, m: Model) -> usize
-    requires { ⌜ WellFormed m ⌝ }
-    ensures { λ r. ⌜ WroteRules (now (d .entry)) at (completesOf m) (now (d .exit)) r ⌝ }
+fn put_completes(output: &mut [u8], at: usize, m: &[u32]) -> usize
+    requires { ⌜ WellFormed (modelIn (now m)) ⌝ }
+    ensures { λ r. ⌜ WroteRules (now (output .entry)) at (completesOf (modelIn (now (m .entry)))) (now (output .exit)) r ⌝ }
 {
-    let x = m.timing;
-    let n = x.threads;
-    let mut p = at;
+    let n = model_words::threads(m);
+    let mut at = at;
     let mut i = 0;
     while i < n {
-        p = complete_rules::put_complete(d, p, m, i as u8);
+        at = translate_complete::put_complete(output, at, m, i as u8);
         i += 1;
     }
-    p
+    at
 }
 
 // All rules, by kind.
-fn put_rules(d: &mut [u8], at: usize, m: Model) -> usize
-    requires { ⌜ WellFormed m ⌝ }
-    ensures { λ r. ⌜ WroteRules (now (d .entry)) at (rulesOf m) (now (d .exit)) r ⌝ }
+fn put_rules(output: &mut [u8], at: usize, m: &[u32]) -> usize
+    requires { ⌜ WellFormed (modelIn (now m)) ⌝ }
+    ensures { λ r. ⌜ WroteRules (now (output .entry)) at (rulesOf (modelIn (now (m .entry)))) (now (output .exit)) r ⌝ }
 {
-    let x = m.timing;
-    let mut p = at;
-    let mut i: u8 = 0;
-    while i < 10 {
-        let kind = i + 1;
-        i = kind;
-        if kind == 5 {
-            p = put_completes(d, p, m);
+    let mut at = at;
+    let mut i: usize = 0;
+    while i < KINDS {
+        let kind = rule_kind(i);
+        i += 1;
+        if kind == COMPLETE {
+            at = put_completes(output, at, m);
         } else {
-            p = put_group(d, p, x, kind);
+            at = put_group(output, at, m, kind);
         }
     }
-    p
+    at
 }
 
 // The whole table from the slice's start, as far as the slice goes: the start records, then the rules.
-fn put_table(d: &mut [u8], m: Model) -> usize
-    requires { ⌜ WellFormed m ⌝ }
-    ensures { λ r. ⌜ Wrote (now (d .entry)) 0 (tableBytes m) (now (d .exit)) r ⌝ }
+fn put_table(output: &mut [u8], m: &[u32]) -> usize
+    requires { ⌜ WellFormed (modelIn (now m)) ⌝ }
+    ensures { λ r. ⌜ Wrote (now (output .entry)) 0 (tableBytes (modelIn (now (m .entry)))) (now (output .exit)) r ⌝ }
 {
-    let p = initial_values::put_initial_values(d, 0, m);
-    put_rules(d, p, m)
+    let at = translate_starts::put_initial_values(output, 0, m);
+    put_rules(output, at, m)
 }
 
 // The table's length: the same walk over one byte of its own, past which it counts and does not write.
-fn table_length(m: Model) -> usize
-    requires { ⌜ WellFormed m ⌝ }
-    ensures { λ r. ⌜ r ≡ length (tableBytes m) ⌝ }
+fn table_length(m: &[u32]) -> usize
+    requires { ⌜ WellFormed (modelIn (now m)) ⌝ }
+    ensures { λ r. ⌜ r ≡ length (tableBytes (modelIn (now (m .entry)))) ⌝ }
 {
     let mut none = [0u8; 1];
     put_table(&mut none, m)
@@ -118,54 +157,61 @@ fn table_length(m: Model) -> usize
 fn refused(c: Cause, start: usize, end: usize) -> Refusal
     ensures { λ r. ⌜ r ≡ inModel c start end ⌝ }
 {
-    let h = Holder::Model;
+    let holder = Holder::Model;
     Refusal {
         cause: c,
-        holder: h,
+        holder: holder,
         start: start,
         end: end,
     }
 }
 
+// A model read into a list that has room for it.
+fn read_into(model: &[u8], m: &mut [u32]) -> Refusal
+    requires { ⌜ modelWords ≤ length (now m) ⌝ }
+    ensures { λ r. ⌜ readAs r (now (m .exit)) ≡ readModel (now (model .entry)) ⌝ }
+{
+    model_reading::read_model_into(model, m)
+}
+
 // The table of an accepted model, at the beginning of the output, where it fits; else the output is as it was. With room for any table
 // there is nothing to count first.
-pub fn translate(model: &[u8], out: &mut [u8]) -> Translation
-    ensures { λ r. ⌜ Translates (now (model .entry)) (now (out .entry)) r (now (out .exit)) ⌝ }
+pub fn translate(model: &[u8], output: &mut [u8]) -> Translation
+    ensures { λ r. ⌜ Translates (now (model .entry)) (now (output .entry)) r (now (output .exit)) ⌝ }
 {
-    let r = model_reader::read_model(model);
-    let f = r.refusal;
-    let c = f.cause;
+    let mut m = [0u32; MODEL_WORDS];
+    let refusal = read_into(model, &mut m);
+    let c = refusal.cause;
     if !records::is_none(c) {
         return Translation {
-            refusal: f,
+            refusal: refusal,
             bytes: 0,
         };
     }
-    let m = r.model;
-    if LONGEST_MADE_TABLE <= out.len() {
-        let k = put_table(out, m);
-        let o = Cause::None;
-        let g = refused(o, 0, 0);
+    if LONGEST_MADE_TABLE <= output.len() {
+        let made = put_table(output, &m);
+        let none = Cause::None;
+        let accepted = refused(none, 0, 0);
         return Translation {
-            refusal: g,
-            bytes: k,
+            refusal: accepted,
+            bytes: made,
         };
     }
-    let n = table_length(m);
-    if out.len() < n {
+    let n = table_length(&m);
+    if output.len() < n {
         let end = model.len();
-        let s = Cause::ShortOutput;
-        let g = refused(s, end, end);
+        let short = Cause::ShortOutput;
+        let told = refused(short, end, end);
         return Translation {
-            refusal: g,
+            refusal: told,
             bytes: 0,
         };
     }
-    put_table(out, m);
-    let o = Cause::None;
-    let g = refused(o, 0, 0);
+    put_table(output, &m);
+    let none = Cause::None;
+    let accepted = refused(none, 0, 0);
     Translation {
-        refusal: g,
+        refusal: accepted,
         bytes: n,
     }
 }

@@ -1,5 +1,5 @@
 use mathlib.Core.Path.{_∙_}
-use Rattle.model_causes.specs.Causes as causes
+use Rattle.model_faults.specs.Causes as causes
 use borrow.Author.Needs.{needs}
 use Rattle.model_causes.proofs.found_in.Statement.{statement}
 use Rattle.model_causes.proofs.found_in.Tie as tie

@@ -1,28 +1,28 @@
 use mathlib.Core.Path.{_≡_, sym, _∙_}
-use mathlib.Core.Logic.{⊎-elim}
-use Prim.Native.Nat.{_≤_, _-_}
+use Prim.Native.Nat.{ℕ, _≤_, _-_}
 use native.Mathlib.Omega.{arith}
 use Rattle.numbers.specs.ListLaws.{fold-zero}
 use Rattle.model_format.specs.Laws.{periodsBelow, periods-next, periods-all}
-use Rattle.model_causes.specs.Laws.{period-at, thread-within}
+use Rattle.model_faults.specs.Laws.{period-at}
+use Rattle.model_words.specs.Words.{timingIn}
 use borrow.Author.Needs.{needs}
 use Rattle.model_causes.proofs.hyperperiod.Statement.{statement}
 use Rattle.model_causes.proofs.hyperperiod.Tie as tie
 
+same-at : (t n k : ℕ) → t ≤ n → n ≤ t → n ≡ k → t ≡ k
+same-at t n k h l e = omega arith
+
 abbrev Inv-loop : tie.InvT-loop
-Inv-loop old new m n h₀ t₀ h t = (t ≤ n) × (h ≡ periodsBelow m old new t)
+Inv-loop m old new n h₀ t₀ h t = (t ≤ n) × (h ≡ periodsBelow (timingIn m) old new t)
 
 abbrev μ-loop : tie.MeasureT-loop
-μ-loop old new m n h₀ t₀ h t = n - t
+μ-loop m old new n h₀ t₀ h t = n - t
+
+threads-requires : tie.Need-threads-requires Inv-loop μ-loop
+threads-requires c κs = search needs
 
 loop-holds : tie.Need-loop-holds Inv-loop μ-loop
 loop-holds c = (omega arith, sym (fold-zero _ _))
-
-mul-x : tie.Need-mul-x Inv-loop μ-loop
-mul-x c = search needs
-
-element-copy-out-x : tie.Need-element-copy-out-x Inv-loop μ-loop
-element-copy-out-x c = search needs
 
 thread-at-requires : tie.Need-thread-at-requires Inv-loop μ-loop
 thread-at-requires c κs = search needs
@@ -37,10 +37,10 @@ loop-less : tie.Need-loop-less Inv-loop μ-loop
 loop-less c = search needs
 
 loop-again : tie.Need-loop-again Inv-loop μ-loop
-loop-again c = (omega arith, periods-next _ _ _ _ _ _ (c .before .before .before .loop .inv .1) (period-at _ _ _ _ _ _ _ (⊎-elim (λ w. thread-within _ _ _ (w .0 .taken) (w .2)) (λ w. w .2 ∙ w .1 .ensures) (c .before .if1 .came)) (c .with-period .ensures)))
+loop-again c = (omega (arith, c .before .before .loop-test .taken), periods-next _ _ _ _ _ _ (c .before .before .before .loop .inv .1) (period-at _ _ _ _ _ _ _ (c .before .thread-at .ensures) (c .with-period .ensures)))
 
 returns : tie.Need-returns Inv-loop μ-loop
-returns c = periods-all _ _ _ _ _ (c .before .loop .inv .1) (omega arith)
+returns c = periods-all _ _ _ _ _ (c .before .loop .inv .1) (same-at _ _ _ (c .before .loop .inv .0) (c .loop-test .left) (c .before .before .threads .ensures))
 
 pub hyperperiod-spec : {M : Type 1} → statement M
 hyperperiod-spec =
@@ -48,9 +48,8 @@ hyperperiod-spec =
     (tie.spec
     Inv-loop
     μ-loop
+    threads-requires
     loop-holds
-    mul-x
-    element-copy-out-x
     thread-at-requires
     with-period-requires
     add-t

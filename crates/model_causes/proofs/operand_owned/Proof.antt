@@ -9,7 +9,7 @@ is-owned-by-requires : tie.Need-is-owned-by-requires
 is-owned-by-requires c κs = search needs
 
 returns : tie.Need-returns
-returns c = rw (← c .before .number-in .ensures) (c .is-owned-by .ensures)
+returns c = rw (c .is-owned-by .ensures, c .before .number-in .ensures)
 
 pub operand-owned-spec : {M : Type 1} → statement M
 operand-owned-spec = tie.close (tie.spec number-in-requires is-owned-by-requires returns)

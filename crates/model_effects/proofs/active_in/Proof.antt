@@ -4,7 +4,7 @@ use native.Mathlib.Omega.{arith}
 use Rattle.numbers.specs.Lists.{foldBelow}
 use Rattle.numbers.specs.ListLaws.{fold-zero}
 use Rattle.model_format.specs.Model.{threadAt, inMode}
-use Rattle.model.specs.Effects.{activeIn}
+use Rattle.model_semantics.specs.Effects.{activeIn}
 use Rattle.model_effects.specs.Laws.{storing, stored-next, stored-all, active-is}
 use borrow.Author.Needs.{needs}
 use Rattle.model_effects.proofs.active_in.Statement.{statement}

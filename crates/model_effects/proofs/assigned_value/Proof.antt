@@ -1,4 +1,4 @@
-use Rattle.model.specs.Effects.{assignedValue}
+use Rattle.model_semantics.specs.Effects.{assignedValue}
 use borrow.Author.Needs.{needs}
 use Rattle.model_effects.proofs.assigned_value.Statement.{statement}
 use Rattle.model_effects.proofs.assigned_value.Tie as tie

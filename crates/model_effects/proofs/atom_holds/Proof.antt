@@ -1,4 +1,4 @@
-use Rattle.model.specs.Effects.{atomHolds}
+use Rattle.model_semantics.specs.Effects.{atomHolds}
 use borrow.Author.Needs.{needs}
 use Rattle.model_effects.proofs.atom_holds.Statement.{statement}
 use Rattle.model_effects.proofs.atom_holds.Tie as tie

@@ -1,5 +1,5 @@
 use Rattle.model_effects.specs.Laws.{dispatch-is}
-use Rattle.model.specs.State.{withPorts}
+use Rattle.model_semantics.specs.State.{withPorts}
 use borrow.Author.Needs.{needs}
 use Rattle.model_effects.proofs.dispatch.Statement.{statement}
 use Rattle.model_effects.proofs.dispatch.Tie as tie

@@ -1,5 +1,5 @@
 use Rattle.model_effects.specs.Laws.{enter-is}
-use Rattle.model.specs.State.{withLive, withActive}
+use Rattle.model_semantics.specs.State.{withLive, withActive}
 use borrow.Author.Needs.{needs}
 use Rattle.model_effects.proofs.enter.Statement.{statement}
 use Rattle.model_effects.proofs.enter.Tie as tie

@@ -1,4 +1,4 @@
-use Rattle.model.specs.Effects.{inBoth}
+use Rattle.model_semantics.specs.Effects.{inBoth}
 use borrow.Author.Needs.{needs}
 use Rattle.model_effects.proofs.in_both.Statement.{statement}
 use Rattle.model_effects.proofs.in_both.Tie as tie

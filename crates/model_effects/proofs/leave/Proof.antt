@@ -1,5 +1,5 @@
 use Rattle.model_effects.specs.Laws.{leave-is}
-use Rattle.model.specs.State.{withLive}
+use Rattle.model_semantics.specs.State.{withLive}
 use borrow.Author.Needs.{needs}
 use Rattle.model_effects.proofs.leave.Statement.{statement}
 use Rattle.model_effects.proofs.leave.Tie as tie

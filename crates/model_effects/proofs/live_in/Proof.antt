@@ -4,7 +4,7 @@ use native.Mathlib.Omega.{arith}
 use Rattle.numbers.specs.Lists.{foldBelow}
 use Rattle.numbers.specs.ListLaws.{fold-zero}
 use Rattle.model_format.specs.Model.{connectionAt}
-use Rattle.model.specs.Effects.{inBoth, liveIn}
+use Rattle.model_semantics.specs.Effects.{inBoth, liveIn}
 use Rattle.model_effects.specs.Laws.{storing, stored-next, stored-all, live-is}
 use borrow.Author.Needs.{needs}
 use Rattle.model_effects.proofs.live_in.Statement.{statement}

@@ -1,5 +1,5 @@
 use Rattle.model_effects.specs.Laws.{sendOne}
-use Rattle.model.specs.State.{outputValue}
+use Rattle.model_semantics.specs.State.{outputValue}
 use borrow.Author.Needs.{needs}
 use Rattle.model_effects.proofs.send_one.Statement.{statement}
 use Rattle.model_effects.proofs.send_one.Tie as tie

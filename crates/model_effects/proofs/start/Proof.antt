@@ -1,5 +1,5 @@
 use Rattle.model_effects.specs.Laws.{start-is}
-use Rattle.model.specs.State.{withPorts}
+use Rattle.model_semantics.specs.State.{withPorts}
 use borrow.Author.Needs.{needs}
 use Rattle.model_effects.proofs.start.Statement.{statement}
 use Rattle.model_effects.proofs.start.Tie as tie

@@ -1,5 +1,5 @@
 use Rattle.model_effects.specs.Laws.{takeBuffer}
-use Rattle.model.specs.State.{bufferValue}
+use Rattle.model_semantics.specs.State.{bufferValue}
 use borrow.Author.Needs.{needs}
 use Rattle.model_effects.proofs.take_buffer.Statement.{statement}
 use Rattle.model_effects.proofs.take_buffer.Tie as tie

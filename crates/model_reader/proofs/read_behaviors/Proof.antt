@@ -12,7 +12,7 @@ use Rattle.records.specs.Refusals.{isNone}
 use Rattle.model_format.proofs.Record.{the-type}
 use Rattle.model_format.specs.declared.Record.{Record}
 use Rattle.model_format.specs.declared.Record.the-variants.{HeadRecord, ThreadRecord, InputRecord, OutputRecord, LocalRecord, ConnectionRecord, ModeRecord, TransitionRecord, AtomRecord, AssignmentRecord, Cut, Unknown}
-use Rattle.model_format.specs.Format.{kindOf}
+use Rattle.model_format.specs.Format.{rankOf}
 use Rattle.model_format.specs.Model.{maxTransitions}
 use Rattle.model_format.specs.Reading.{causeOf, nextReading}
 use Rattle.model_reader.specs.Laws.{standing, readAt, readOn, Late, behavior-begin, read-on, read-refused, read-end, end-within, behavior-cause-is, behavior-late, behavior-room, transition-room, atom-room, assignment-room, transition-added, atom-added, assignment-added, late-next}
@@ -21,10 +21,10 @@ use Rattle.model_reader.proofs.read_behaviors.Statement.{statement}
 use Rattle.model_reader.proofs.read_behaviors.Tie as tie
 use Rattle.model_reader.proofs.read_behaviors.Reads as reads
 use Rattle.model_reader.proofs.read_behaviors.Lts as lts
-use Rattle.model_causes.proofs.behavior_cause.Reads as behavior-cause-reads
-use Rattle.model_causes.proofs.owners_of.Reads as owners-of-reads
+use Rattle.model_faults.proofs.behavior_cause.Reads as behavior-cause-reads
+use Rattle.model_faults.proofs.owners_of.Reads as owners-of-reads
 use Rattle.numbers.proofs.usize_of_u8.Reads as usize-of-u8-reads
-use Rattle.model_format.proofs.kind_of.Reads as kind-of-reads
+use Rattle.model_format.proofs.rank_of.Reads as rank-of-reads
 use Rattle.model_reader.proofs.counted.Reads as counted-reads
 use Rattle.model_reader.proofs.end_at.Reads as end-at-reads
 use Rattle.model_reader.proofs.finished.Reads as finished-reads
@@ -44,7 +44,7 @@ abbrev μ-loop : tie.MeasureT-loop
 μ-loop s from t o b₀ n₀ at₀ b n at = length s - at
 
 abbrev claims : lts.Claims
-claims = (owners-of-reads.Asked, owners-of-reads.Learnt, record-at-reads.Asked, record-at-reads.Learnt, last-of-reads.Asked, last-of-reads.Learnt, two-reads.Asked, two-reads.Learnt, four-reads.Asked, four-reads.Learnt, behavior-cause-reads.Asked, behavior-cause-reads.Learnt, is-none-reads.Asked, is-none-reads.Learnt, end-at-reads.Asked, end-at-reads.Learnt, refused-reads.Asked, refused-reads.Learnt, kind-of-reads.Asked, kind-of-reads.Learnt, counted-reads.Asked, counted-reads.Learnt, transitions-after-reads.Asked, transitions-after-reads.Learnt, with-counts-reads.Asked, with-counts-reads.Learnt, usize-of-u8-reads.Asked, usize-of-u8-reads.Learnt, finished-reads.Asked, finished-reads.Learnt)
+claims = (owners-of-reads.Asked, owners-of-reads.Learnt, record-at-reads.Asked, record-at-reads.Learnt, last-of-reads.Asked, last-of-reads.Learnt, two-reads.Asked, two-reads.Learnt, four-reads.Asked, four-reads.Learnt, behavior-cause-reads.Asked, behavior-cause-reads.Learnt, is-none-reads.Asked, is-none-reads.Learnt, end-at-reads.Asked, end-at-reads.Learnt, refused-reads.Asked, refused-reads.Learnt, rank-of-reads.Asked, rank-of-reads.Learnt, counted-reads.Asked, counted-reads.Learnt, transitions-after-reads.Asked, transitions-after-reads.Learnt, with-counts-reads.Asked, with-counts-reads.Learnt, usize-of-u8-reads.Asked, usize-of-u8-reads.Learnt, finished-reads.Asked, finished-reads.Learnt)
 
 -- ---- c is the cause, and the record passes
 cause : (c : lts.After-behavior-cause claims reads.Pre reads.Post Inv-loop μ-loop) → c .behavior-cause .result ≡ causeOf (standing (c .before .before .before .before .before .before .before .before .before .before .before .before .before .loop .n) (c .before .before .before .before .before .before .before .before .before .before .before .before .before .before .before .before .args .t) (c .before .before .before .before .before .before .before .before .before .before .before .before .before .loop .b)) (c .before .before .before .before .before .before .before .before .before .before .before .record-at .result)
@@ -62,8 +62,8 @@ tag-other x w h k =
     ⊎-elim (λ e. omega arith) (⊎-elim (λ e. omega arith) (⊎-elim (λ e. omega arith) (⊎-elim (λ e. omega arith) (⊎-elim (λ e. omega arith)
     (⊎-elim (λ e. omega arith) (⊎-elim (λ e. omega arith) (⊎-elim (λ e. omega arith) (λ e. omega arith)))))))) w
 
-other-kind : (r : Record) → (7 ≤ tagOf the-type r → tagOf the-type r ≤ 9 → ⊥) → 8 ≤ kindOf r → ⊥
-unfolding kindOf
+other-kind : (r : Record) → (7 ≤ tagOf the-type r → tagOf the-type r ≤ 9 → ⊥) → 8 ≤ rankOf r → ⊥
+unfolding rankOf
 other-kind (HeadRecord x) h l = absurd (omega arith)
 other-kind (ThreadRecord x) h l = absurd (omega arith)
 other-kind (InputRecord o) h l = absurd (omega arith)
@@ -81,7 +81,7 @@ other-kind Unknown h l = absurd (omega arith)
 added : (c : lts.At-match-came claims reads.Pre reads.Post Inv-loop μ-loop) →
     (c .match .b .transitions ≤ maxTransitions) × (standing (c .before .before .counted .result) (c .before .before .before .before .before .before .before .before .before .before .before .before .before .before .before .before .before .before .before .before .before .before .args .t) (c .match .b) ≡ nextReading (standing (c .before .before .before .before .before .before .before .before .before .before .before .before .before .before .before .before .before .before .before .loop .n) (c .before .before .before .before .before .before .before .before .before .before .before .before .before .before .before .before .before .before .before .before .before .before .args .t) (c .before .before .before .before .before .before .before .before .before .before .before .before .before .before .before .before .before .before .before .loop .b)) (c .before .before .before .before .before .before .before .before .before .before .before .before .before .before .before .before .before .record-at .result))
 added c =
-    let e = c .before .before .before .kind-of .ensures in
+    let e = c .before .before .before .rank-of .ensures in
     let k = c .before .before .counted .ensures in
     let u = c .before .transitions-after .ensures in
     let h = c .before .before .before .before .before .before .before .before .before .before .before .before .before .before .before .before .before .before .before .loop .inv .0 in
@@ -173,11 +173,11 @@ returns c =
     c .refused .ensures ∙ read-refused _ _ _ _ _ _ (c .before .before .before .before .before .before .before .before .before .before .before .before .before .before .before .before .loop-test .taken) (c .before .end-at .ensures) (c .before .before .before .before .before .before .before .before .before .before .before .before .before .before .before .record-at .ensures) (cause (c .before .before .before .before))
     (sym (c .before .before .before .is-none .ensures) ∙ not-true _ (c .before .before .if1 .taken)) ∙ c .before .before .before .before .before .before .before .before .before .before .before .before .before .before .before .before .before .loop .inv .2
 
-kind-of-requires : tie.Need-kind-of-requires Inv-loop μ-loop
-kind-of-requires c κs = search needs
+rank-of-requires : tie.Need-rank-of-requires Inv-loop μ-loop
+rank-of-requires c κs = search needs
 
 counted-requires : tie.Need-counted-requires Inv-loop μ-loop
-counted-requires c κs = behavior-room _ _ _ _ _ _ _ (c .before .before .before .behavior-cause .ensures) (passes (c .before)) _ (c .kind-of .ensures)
+counted-requires c κs = behavior-room _ _ _ _ _ _ _ (c .before .before .before .behavior-cause .ensures) (passes (c .before)) _ (c .rank-of .ensures)
 
 transitions-after-requires : tie.Need-transitions-after-requires Inv-loop μ-loop
 transitions-after-requires c κs = c .before .before .before .before .before .before .before .before .before .before .before .before .before .before .before .before .before .loop .inv .0
@@ -256,7 +256,7 @@ loop-again c =
     let a = added (c .before) in
     let p = passes (c .before .before .before .before .before) in (
       a .0,
-      late-next _ _ _ _ _ _ (c .before .before .before .counted .ensures) (c .before .before .before .before .kind-of .ensures) (behavior-late _ _ _ _ _ _ _ (c .before .before .before .before .before .before .before .behavior-cause .ensures) p),
+      late-next _ _ _ _ _ _ (c .before .before .before .counted .ensures) (c .before .before .before .before .rank-of .ensures) (behavior-late _ _ _ _ _ _ _ (c .before .before .before .before .before .before .before .behavior-cause .ensures) p),
       read-on _ _ _ _ _ _ (c .before .before .before .before .before .before .before .before .before .before .before .before .before .before .before .before .before .before .before .loop-test .taken) (c .end-at2 .ensures) (c .before .before .before .before .before .before .before .before .before .before .before .before .before .before .before .before .before .before .record-at .ensures) (cause (c .before .before .before .before .before .before .before)) _ (a .1) p ∙ c .before .before .before .before .before .before .before .before .before .before .before .before .before .before .before .before .before .before .before .before .loop .inv .2,
     )
 
@@ -298,7 +298,7 @@ read-behaviors-spec =
     end-at-requires
     refused-requires
     returns
-    kind-of-requires
+    rank-of-requires
     counted-requires
     transitions-after-requires
     enum-known-r

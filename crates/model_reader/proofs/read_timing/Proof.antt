@@ -12,23 +12,23 @@ use Rattle.records.specs.Refusals.{isNone, numberOf}
 use Rattle.model_format.proofs.Record.{the-type}
 use Rattle.model_format.specs.declared.Record.{Record}
 use Rattle.model_format.specs.declared.Record.the-variants.{HeadRecord, ThreadRecord, InputRecord, OutputRecord, LocalRecord, ConnectionRecord, ModeRecord, TransitionRecord, AtomRecord, AssignmentRecord, Cut, Unknown}
-use Rattle.model_format.specs.Format.{kindOf}
+use Rattle.model_format.specs.Format.{rankOf}
 use Rattle.model_format.specs.Model.{emptyModel}
 use Rattle.model_format.specs.Reading.{causeOf, nextReading, readModel}
-use Rattle.model_causes.specs.declared.Stand.{Stand}
-use Rattle.model_causes.specs.declared.Found.{Found}
-use Rattle.model_causes.specs.Causes.{timingOf, foundIn, timingCause}
+use Rattle.model_faults.specs.declared.Stand.{Stand}
+use Rattle.model_faults.specs.declared.Found.{Found}
+use Rattle.model_faults.specs.Causes.{timingOf, foundIn, timingCause}
 use Rattle.model_reader.specs.Laws.{standing, readOn, read-begin, begun-late, begun-end, stopped-at, read-on, read-refused, end-within, roomOf, nothing-found, timing-room, short-periods, timing-cause-is, place-within, head-added, thread-added, input-added, output-added, local-added, connection-added, switch-added}
 use borrow.Author.Needs.{needs}
 use Rattle.model_reader.proofs.read_timing.Statement.{statement}
 use Rattle.model_reader.proofs.read_timing.Tie as tie
 use Rattle.model_reader.proofs.read_timing.Reads as reads
 use Rattle.model_reader.proofs.read_timing.Lts as lts
-use Rattle.model_causes.proofs.found_in.Reads as found-in-reads
-use Rattle.model_causes.proofs.nothing.Reads as nothing-reads
-use Rattle.model_causes.proofs.timing_cause.Reads as timing-cause-reads
-use Rattle.model_causes.proofs.timing_of.Reads as timing-of-reads
-use Rattle.model_format.proofs.kind_of.Reads as kind-of-reads
+use Rattle.model_faults.proofs.found_in.Reads as found-in-reads
+use Rattle.model_faults.proofs.nothing.Reads as nothing-reads
+use Rattle.model_faults.proofs.timing_cause.Reads as timing-cause-reads
+use Rattle.model_faults.proofs.timing_of.Reads as timing-of-reads
+use Rattle.model_format.proofs.rank_of.Reads as rank-of-reads
 use Rattle.model_reader.proofs.begun.Reads as begun-reads
 use Rattle.model_reader.proofs.counted.Reads as counted-reads
 use Rattle.model_reader.proofs.end_at.Reads as end-at-reads
@@ -47,29 +47,29 @@ abbrev μ-loop : tie.MeasureT-loop
 μ-loop s t₀ n₀ at₀ t n at = length s - at
 
 abbrev claims : lts.Claims
-claims = (no-items-reads.Asked, no-items-reads.Learnt, record-at-reads.Asked, record-at-reads.Learnt, kind-of-reads.Asked, kind-of-reads.Learnt, begun-reads.Asked, begun-reads.Learnt, timing-of-reads.Asked, timing-of-reads.Learnt, found-in-reads.Asked, found-in-reads.Learnt, nothing-reads.Asked, nothing-reads.Learnt, timing-cause-reads.Asked, timing-cause-reads.Learnt, is-none-reads.Asked, is-none-reads.Learnt, end-at-reads.Asked, end-at-reads.Learnt, stopped-reads.Asked, stopped-reads.Learnt, place-of-reads.Asked, place-of-reads.Learnt, counted-reads.Asked, counted-reads.Learnt, headed-reads.Asked, headed-reads.Learnt, with-periods-reads.Asked, with-periods-reads.Learnt)
+claims = (no-items-reads.Asked, no-items-reads.Learnt, record-at-reads.Asked, record-at-reads.Learnt, rank-of-reads.Asked, rank-of-reads.Learnt, begun-reads.Asked, begun-reads.Learnt, timing-of-reads.Asked, timing-of-reads.Learnt, found-in-reads.Asked, found-in-reads.Learnt, nothing-reads.Asked, nothing-reads.Learnt, timing-cause-reads.Asked, timing-cause-reads.Learnt, is-none-reads.Asked, is-none-reads.Learnt, end-at-reads.Asked, end-at-reads.Learnt, stopped-reads.Asked, stopped-reads.Learnt, place-of-reads.Asked, place-of-reads.Learnt, counted-reads.Asked, counted-reads.Learnt, headed-reads.Asked, headed-reads.Learnt, with-periods-reads.Asked, with-periods-reads.Learnt)
 
 -- ---- where f is found, c is the cause, and the record passes
 found : (c : lts.Joined2 claims reads.Pre reads.Post Inv-loop μ-loop) → c .if2 .f ≡ foundIn (timingOf (c .before .before .before .before .before .loop .n) (c .before .before .before .before .before .loop .t)) (c .before .before .before .record-at .result)
 found c =
     ⊎-elim (λ w. w .3 ∙ w .2 .ensures ∙ ap (λ m. foundIn m (c .before .before .before .record-at .result)) (w .1 .ensures))
-    (λ w. w .2 ∙ w .1 .ensures ∙ nothing-found _ _ _ (c .before .before .kind-of .ensures) (w .0 .left)) (c .if2 .came)
+    (λ w. w .2 ∙ w .1 .ensures ∙ nothing-found _ _ _ (c .before .before .rank-of .ensures) (w .0 .left)) (c .if2 .came)
 
 cause : (c : lts.After-timing-cause claims reads.Pre reads.Post Inv-loop μ-loop) → c .timing-cause .result ≡ causeOf (standing (c .before .before .before .before .before .before .loop .n) (c .before .before .before .before .before .before .loop .t) (emptyModel .behavior)) (c .before .before .before .before .record-at .result)
-cause c = timing-cause-is _ (c .before .before .before .before .before .before .loop .t) _ _ _ _ (c .before .before .before .kind-of .ensures) (c .before .before .if1 .left) (found (c .before)) (c .timing-cause .ensures)
+cause c = timing-cause-is _ (c .before .before .before .before .before .before .loop .t) _ _ _ _ (c .before .before .before .rank-of .ensures) (c .before .before .if1 .left) (found (c .before)) (c .timing-cause .ensures)
 
 passes : (c : lts.Else3 claims reads.Pre reads.Post Inv-loop μ-loop) → isNone (timingCause (c .before .before .before .before .before .before .before .before .loop .n) (c .before .before .before .if2 .f) (c .before .before .before .before .before .before .record-at .result)) ≡ true
 passes c = ap isNone (sym (c .before .before .timing-cause .ensures)) ∙ sym (c .before .is-none .ensures) ∙ not-false _ (c .if3 .left)
 
-within : (c : lts.After-place-of claims reads.Pre reads.Post Inv-loop μ-loop) (v : Record) → c .before .before .before .before .before .before .before .record-at .result ≡ v → c .place-of .result < roomOf (kindOf v)
-within c v e = place-within _ _ _ v _ _ (c .place-of .ensures) (c .before .before .before .before .before .before .kind-of .ensures) (passes (c .before)) e
+within : (c : lts.After-place-of claims reads.Pre reads.Post Inv-loop μ-loop) (v : Record) → c .before .before .before .before .before .before .before .record-at .result ≡ v → c .place-of .result < roomOf (rankOf v)
+within c v e = place-within _ _ _ v _ _ (c .place-of .ensures) (c .before .before .before .before .before .before .rank-of .ensures) (passes (c .before)) e
 
 -- the arm for the kinds that are not here
 tag-late : (x : ℕ) → OneOf (7 ∷ 8 ∷ 9 ∷ 10 ∷ 11 ∷ []) x → 7 ≤ x
 tag-late x = ⊎-elim (λ e. omega arith) (⊎-elim (λ e. omega arith) (⊎-elim (λ e. omega arith) (⊎-elim (λ e. omega arith) (λ e. omega arith))))
 
-other-kind : (n : Stand) (f : Found) (r : Record) → 7 ≤ tagOf the-type r → kindOf r < 8 → isNone (timingCause n f r) ≡ true → ⊥
-unfolding timingCause kindOf numberOf
+other-kind : (n : Stand) (f : Found) (r : Record) → 7 ≤ tagOf the-type r → rankOf r < 8 → isNone (timingCause n f r) ≡ true → ⊥
+unfolding timingCause rankOf numberOf
 other-kind n f (HeadRecord x) h k l = absurd (omega arith)
 other-kind n f (ThreadRecord x) h k l = absurd (omega arith)
 other-kind n f (InputRecord o) h k l = absurd (omega arith)
@@ -87,7 +87,7 @@ other-kind n f Unknown h k l = let y : _≡_ {A = ℕ} 0 1 = cc in absurd (omega
 added : (c : lts.At-match-came claims reads.Pre reads.Post Inv-loop μ-loop) →
     standing (c .match .n) (c .match .t) (emptyModel .behavior) ≡ nextReading (standing (c .before .before .before .before .before .before .before .before .before .before .before .loop .n) (c .before .before .before .before .before .before .before .before .before .before .before .loop .t) (emptyModel .behavior)) (c .before .before .before .before .before .before .before .before .before .record-at .result)
 added c =
-    let e = c .before .before .before .before .before .before .before .before .kind-of .ensures in
+    let e = c .before .before .before .before .before .before .before .before .rank-of .ensures in
     let g = c .before .before .place-of .ensures in
     let h = passes (c .before .before .before) in
     let k = c .before .counted .ensures in
@@ -109,14 +109,14 @@ loop-holds c = read-begin _ _ _ (c .no-items .ensures) (c .before .before .pre)
 record-at-requires : tie.Need-record-at-requires Inv-loop μ-loop
 record-at-requires c κs = search needs
 
-kind-of-requires : tie.Need-kind-of-requires Inv-loop μ-loop
-kind-of-requires c κs = search needs
+rank-of-requires : tie.Need-rank-of-requires Inv-loop μ-loop
+rank-of-requires c κs = search needs
 
 begun-requires : tie.Need-begun-requires Inv-loop μ-loop
 begun-requires c κs = search needs
 
 returns : tie.Need-returns Inv-loop μ-loop
-returns c = begun-late _ _ _ _ _ (c .begun .ensures) (c .before .before .before .before .before .loop .inv) _ _ (c .before .before .before .record-at .ensures) (c .before .before .kind-of .ensures) (c .before .if1 .taken)
+returns c = begun-late _ _ _ _ _ (c .begun .ensures) (c .before .before .before .before .before .loop .inv) _ _ (c .before .before .before .record-at .ensures) (c .before .before .rank-of .ensures) (c .before .if1 .taken)
 
 timing-of-requires : tie.Need-timing-of-requires Inv-loop μ-loop
 timing-of-requires c κs = search needs
@@ -149,7 +149,7 @@ place-of-requires : tie.Need-place-of-requires Inv-loop μ-loop
 place-of-requires c κs = search needs
 
 counted-requires : tie.Need-counted-requires Inv-loop μ-loop
-counted-requires c κs = rw (c .before .before .before .before .before .before .kind-of .ensures) (timing-room _ _ _ (passes (c .before)))
+counted-requires c κs = rw (c .before .before .before .before .before .before .rank-of .ensures) (timing-room _ _ _ (passes (c .before)))
 
 enum-known-r : tie.Need-enum-known-r Inv-loop μ-loop
 enum-known-r c = search needs
@@ -161,47 +161,47 @@ enum-known-r-2 : tie.Need-enum-known-r-2 Inv-loop μ-loop
 enum-known-r-2 c = search needs
 
 mul-x : tie.Need-mul-x Inv-loop μ-loop
-unfolding roomOf kindOf
+unfolding roomOf rankOf
 mul-x c = let h = within (c .before .before .before .before) _ (c .before .r2 .given .1) in search needs
 
 element-set-from-x : tie.Need-element-set-from-x Inv-loop μ-loop
-unfolding roomOf kindOf
+unfolding roomOf rankOf
 element-set-from-x c = let h = within (c .before .before .before .before) _ (c .before .r2 .given .1) in search needs
 
 enum-known-r-3 : tie.Need-enum-known-r-3 Inv-loop μ-loop
 enum-known-r-3 c = search needs
 
 element-write-t : tie.Need-element-write-t Inv-loop μ-loop
-unfolding roomOf kindOf
+unfolding roomOf rankOf
 element-write-t c = let h = within (c .before .before .before .before) _ (c .before .r3 .given .1) in search needs
 
 enum-known-r-4 : tie.Need-enum-known-r-4 Inv-loop μ-loop
 enum-known-r-4 c = search needs
 
 element-write-t-2 : tie.Need-element-write-t-2 Inv-loop μ-loop
-unfolding roomOf kindOf
+unfolding roomOf rankOf
 element-write-t-2 c = let h = within (c .before .before .before .before) _ (c .before .r4 .given .1) in search needs
 
 enum-known-r-5 : tie.Need-enum-known-r-5 Inv-loop μ-loop
 enum-known-r-5 c = search needs
 
 mul-x-2 : tie.Need-mul-x-2 Inv-loop μ-loop
-unfolding roomOf kindOf
+unfolding roomOf rankOf
 mul-x-2 c = let h = within (c .before .before .before .before) _ (c .before .r5 .given .1) in search needs
 
 element-set-from-x-2 : tie.Need-element-set-from-x-2 Inv-loop μ-loop
-unfolding roomOf kindOf
+unfolding roomOf rankOf
 element-set-from-x-2 c = let h = within (c .before .before .before .before) _ (c .before .r5 .given .1) in search needs
 
 enum-known-r-6 : tie.Need-enum-known-r-6 Inv-loop μ-loop
 enum-known-r-6 c = search needs
 
 mul-x-3 : tie.Need-mul-x-3 Inv-loop μ-loop
-unfolding roomOf kindOf
+unfolding roomOf rankOf
 mul-x-3 c = let h = within (c .before .before .before .before) _ (c .before .r6 .given .1) in search needs
 
 element-set-from-x-3 : tie.Need-element-set-from-x-3 Inv-loop μ-loop
-unfolding roomOf kindOf
+unfolding roomOf rankOf
 element-set-from-x-3 c = let h = within (c .before .before .before .before) _ (c .before .r6 .given .1) in search needs
 
 enum-known-r-7 : tie.Need-enum-known-r-7 Inv-loop μ-loop
@@ -211,11 +211,11 @@ with-periods-requires : tie.Need-with-periods-requires Inv-loop μ-loop
 with-periods-requires c κs = short-periods _ _ _ (rw (c .before .r7 .given .1) at (passes (c .before .before .before .before .before)))
 
 mul-t42 : tie.Need-mul-t42 Inv-loop μ-loop
-unfolding roomOf kindOf
+unfolding roomOf rankOf
 mul-t42 c = let h = within (c .before .before .before .before .before) _ (c .before .before .r7 .given .1) in search needs
 
 element-set-from-t : tie.Need-element-set-from-t Inv-loop μ-loop
-unfolding roomOf kindOf
+unfolding roomOf rankOf
 element-set-from-t c = let h = within (c .before .before .before .before .before) _ (c .before .before .r7 .given .1) in search needs
 
 end-at-requires-2 : tie.Need-end-at-requires-2 Inv-loop μ-loop
@@ -244,7 +244,7 @@ read-timing-spec =
     no-items-requires
     loop-holds
     record-at-requires
-    kind-of-requires
+    rank-of-requires
     begun-requires
     returns
     timing-of-requires

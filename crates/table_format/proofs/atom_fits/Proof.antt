@@ -3,6 +3,9 @@ use Rattle.table_format.specs.Laws.{atom-compares, atom-multiple}
 use Rattle.table_format.proofs.atom_fits.Statement.{statement}
 use Rattle.table_format.proofs.atom_fits.Tie as tie
 
+cast-is-variable : tie.Need-cast-is-variable
+cast-is-variable c = search needs
+
 is-variable-requires : tie.Need-is-variable-requires
 is-variable-requires c κs = search needs
 
@@ -21,4 +24,4 @@ returns-2 c = atom-multiple _ _ _ (c .before .before .before .is-variable .ensur
 pub atom-fits-spec : {M : Type 1} → statement M
 atom-fits-spec =
     tie.close
-    (tie.spec is-variable-requires operand-fits-requires returns above-zero-requires returns-2)
+    (tie.spec cast-is-variable is-variable-requires operand-fits-requires returns above-zero-requires returns-2)

@@ -6,12 +6,12 @@ use Rattle.table_format.proofs.initial_fits.Tie as tie
 is-variable-requires : tie.Need-is-variable-requires
 is-variable-requires c κs = search needs
 
-cast-result : tie.Need-cast-result
-cast-result c = search needs
+cast-n : tie.Need-cast-n
+cast-n c = search needs
 
 returns : tie.Need-returns
 unfolding initialFits
 returns c = rw (c .is-variable .ensures)
 
 pub initial-fits-spec : {M : Type 1} → statement M
-initial-fits-spec = tie.close (tie.spec is-variable-requires cast-result returns)
+initial-fits-spec = tie.close (tie.spec cast-n is-variable-requires returns)

@@ -3,8 +3,14 @@ use Rattle.table_format.specs.Reading.{updateFits}
 use Rattle.table_format.proofs.update_fits.Statement.{statement}
 use Rattle.table_format.proofs.update_fits.Tie as tie
 
+cast-is-variable : tie.Need-cast-is-variable
+cast-is-variable c = search needs
+
 is-variable-requires : tie.Need-is-variable-requires
 is-variable-requires c κs = search needs
+
+cast-is-variable-2 : tie.Need-cast-is-variable-2
+cast-is-variable-2 c = search needs
 
 is-variable-requires-2 : tie.Need-is-variable-requires-2
 is-variable-requires-2 c κs = search needs
@@ -23,7 +29,9 @@ pub update-fits-spec : {M : Type 1} → statement M
 update-fits-spec =
     tie.close
     (tie.spec
+    cast-is-variable
     is-variable-requires
+    cast-is-variable-2
     is-variable-requires-2
     operand-fits-requires
     operand-fits-requires-2

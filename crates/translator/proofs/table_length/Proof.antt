@@ -1,3 +1,4 @@
+use Rattle.model_words.specs.Words.{modelIn}
 use Rattle.translator.specs.Tables.{length-told}
 use borrow.Author.Needs.{needs}
 use Rattle.translator.proofs.table_length.Statement.{statement}
@@ -7,10 +8,15 @@ slice-aggregate-put-table : tie.Need-slice-aggregate-put-table
 slice-aggregate-put-table c = search needs
 
 put-table-requires : tie.Need-put-table-requires
-put-table-requires c κs = search needs
+put-table-requires c κs = c .before .before .pre
 
 returns : tie.Need-returns
-returns c = length-told _ (c .before .before .before .pre) (c .before .put-table .ensures)
+returns c = length-told (modelIn (c .before .before .before .before .args .m .now)) (c .before .before .before .before .pre) (c .before .put-table .ensures)
 
 pub table-length-spec : {M : Type 1} → statement M
-table-length-spec = tie.close (tie.spec slice-aggregate-put-table put-table-requires returns)
+table-length-spec =
+    tie.close
+    (tie.spec
+    slice-aggregate-put-table
+    put-table-requires
+    returns)

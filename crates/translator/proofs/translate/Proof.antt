@@ -4,17 +4,23 @@ use borrow.Author.Needs.{needs}
 use Rattle.translator.proofs.translate.Statement.{statement}
 use Rattle.translator.proofs.translate.Tie as tie
 
-read-model-requires : tie.Need-read-model-requires
-read-model-requires c κs = search needs
+slice-aggregate-read-into : tie.Need-slice-aggregate-read-into
+slice-aggregate-read-into c = search needs
+
+read-into-requires : tie.Need-read-into-requires
+read-into-requires c κs = search needs
 
 is-none-requires : tie.Need-is-none-requires
 is-none-requires c κs = search needs
 
 returns : tie.Need-returns
-returns c = model-refused _ _ (c .before .before .before .read-model .result) _ (c .before .before .before .read-model .ensures) (c .before .is-none .ensures) (not-true _ (c .if1 .taken))
+returns c = model-refused (c .before .before .before .before .before .before .before .args .model .now) (c .before .before .before .before .before .before .before .args .output .now) _ _ (c .before .before .before .read-into .ensures) (c .before .is-none .ensures) (not-true _ (c .if1 .taken))
+
+slice-aggregate-put-table : tie.Need-slice-aggregate-put-table
+slice-aggregate-put-table c = search needs
 
 put-table-requires : tie.Need-put-table-requires
-put-table-requires c κs = model-good (c .before .before .before .before .before .before .before .before .before .args .model .now) (c .before .before .before .before .before .before .before .before .before .args .out .now) (c .before .before .before .before .before .before .read-model .result) _ (c .before .before .before .before .before .before .read-model .ensures) (c .before .before .before .before .is-none .ensures) (bytes-known (c .before .before .before .before .before .before .before .before .before .args .model .now) (c .before .before .before .before .before .before .before .before .shared-slice-known .given)) (not-false _ (c .before .before .before .if1 .left))
+put-table-requires c κs = model-good (c .before .before .before .before .before .before .before .before .before .before .args .model .now) (c .before .before .before .before .before .before .before .before .before .before .args .output .now) _ _ (c .before .before .before .before .before .before .read-into .ensures) (c .before .before .before .before .is-none .ensures) (bytes-known (c .before .before .before .before .before .before .before .before .before .before .args .model .now) (c .before .before .before .before .before .before .before .before .before .shared-slice-known .given)) (not-false _ (c .before .before .before .if1 .left))
 
 refused-requires : tie.Need-refused-requires
 refused-requires c κs = search needs
@@ -23,19 +29,25 @@ same-length : tie.Need-same-length
 same-length c = search needs
 
 returns-2 : tie.Need-returns-2
-returns-2 c = rw (c .refused .ensures) (table-made-at-once (c .before .before .before .before .before .before .before .before .before .before .before .before .before .args .model .now) (c .before .before .before .before .before .before .before .before .before .before .before .before .before .args .out .now) (c .before .before .before .before .before .before .before .before .before .before .read-model .result) _ (c .before .before .before .before .before .before .before .before .before .before .read-model .ensures) (c .before .before .before .before .before .before .before .before .is-none .ensures) (bytes-known (c .before .before .before .before .before .before .before .before .before .before .before .before .before .args .model .now) (c .before .before .before .before .before .before .before .before .before .before .before .before .shared-slice-known .given)) (not-false _ (c .before .before .before .before .before .before .before .if1 .left)) (c .before .before .before .before .before .if2 .taken) _ _ (c .before .before .before .put-table .ensures))
+returns-2 c = rw (c .refused .ensures) (table-made-at-once (c .before .before .before .before .before .before .before .before .before .before .before .before .before .before .args .model .now) (c .before .before .before .before .before .before .before .before .before .before .before .before .before .before .args .output .now) _ _ (c .before .before .before .before .before .before .before .before .before .before .read-into .ensures) (c .before .before .before .before .before .before .before .before .is-none .ensures) (bytes-known (c .before .before .before .before .before .before .before .before .before .before .before .before .before .before .args .model .now) (c .before .before .before .before .before .before .before .before .before .before .before .before .before .shared-slice-known .given)) (not-false _ (c .before .before .before .before .before .before .before .if1 .left)) (c .before .before .before .before .before .before .if2 .taken) _ _ (c .before .before .before .put-table .ensures))
+
+slice-aggregate-table-length : tie.Need-slice-aggregate-table-length
+slice-aggregate-table-length c = search needs
 
 table-length-requires : tie.Need-table-length-requires
-table-length-requires c κs = model-good (c .before .before .before .before .before .before .before .before .args .model .now) (c .before .before .before .before .before .before .before .before .args .out .now) (c .before .before .before .before .before .read-model .result) _ (c .before .before .before .before .before .read-model .ensures) (c .before .before .before .is-none .ensures) (bytes-known (c .before .before .before .before .before .before .before .before .args .model .now) (c .before .before .before .before .before .before .before .shared-slice-known .given)) (not-false _ (c .before .before .if1 .left))
+table-length-requires c κs = model-good (c .before .before .before .before .before .before .before .before .before .args .model .now) (c .before .before .before .before .before .before .before .before .before .args .output .now) _ _ (c .before .before .before .before .before .read-into .ensures) (c .before .before .before .is-none .ensures) (bytes-known (c .before .before .before .before .before .before .before .before .before .args .model .now) (c .before .before .before .before .before .before .before .before .shared-slice-known .given)) (not-false _ (c .before .before .if1 .left))
 
 refused-requires-2 : tie.Need-refused-requires-2
 refused-requires-2 c κs = search needs
 
 returns-3 : tie.Need-returns-3
-returns-3 c = rw (c .refused2 .ensures) (output-short _ _ (c .before .before .before .before .before .before .before .before .read-model .result) _ (c .before .before .before .before .before .before .before .before .read-model .ensures) (c .before .before .before .before .before .before .is-none .ensures) (not-false _ (c .before .before .before .before .before .if1 .left)) _ (c .before .before .table-length .ensures) (c .before .if3 .taken))
+returns-3 c = rw (c .refused2 .ensures) (output-short (c .before .before .before .before .before .before .before .before .before .before .before .before .args .model .now) (c .before .before .before .before .before .before .before .before .before .before .before .before .args .output .now) _ _ (c .before .before .before .before .before .before .before .before .read-into .ensures) (c .before .before .before .before .before .before .is-none .ensures) (not-false _ (c .before .before .before .before .before .if1 .left)) _ (c .before .before .table-length .ensures) (c .before .if3 .taken))
+
+slice-aggregate-put-table-2 : tie.Need-slice-aggregate-put-table-2
+slice-aggregate-put-table-2 c = search needs
 
 put-table-requires-2 : tie.Need-put-table-requires-2
-put-table-requires-2 c κs = model-good (c .before .before .before .before .before .before .before .before .before .before .before .args .model .now) (c .before .before .before .before .before .before .before .before .before .before .before .args .out .now) (c .before .before .before .before .before .before .before .before .read-model .result) _ (c .before .before .before .before .before .before .before .before .read-model .ensures) (c .before .before .before .before .before .before .is-none .ensures) (bytes-known (c .before .before .before .before .before .before .before .before .before .before .before .args .model .now) (c .before .before .before .before .before .before .before .before .before .before .shared-slice-known .given)) (not-false _ (c .before .before .before .before .before .if1 .left))
+put-table-requires-2 c κs = model-good (c .before .before .before .before .before .before .before .before .before .before .before .before .before .args .model .now) (c .before .before .before .before .before .before .before .before .before .before .before .before .before .args .output .now) _ _ (c .before .before .before .before .before .before .before .before .before .read-into .ensures) (c .before .before .before .before .before .before .before .is-none .ensures) (bytes-known (c .before .before .before .before .before .before .before .before .before .before .before .before .before .args .model .now) (c .before .before .before .before .before .before .before .before .before .before .before .before .shared-slice-known .given)) (not-false _ (c .before .before .before .before .before .before .if1 .left))
 
 refused-requires-3 : tie.Need-refused-requires-3
 refused-requires-3 c κs = search needs
@@ -44,22 +56,26 @@ same-length-2 : tie.Need-same-length-2
 same-length-2 c = search needs
 
 returns-4 : tie.Need-returns-4
-returns-4 c = rw (c .refused3 .ensures) (table-made (c .before .before .before .before .before .before .before .before .before .before .before .before .before .before .before .args .model .now) (c .before .before .before .before .before .before .before .before .before .before .before .before .before .before .before .args .out .now) (c .before .before .before .before .before .before .before .before .before .before .before .before .read-model .result) _ (c .before .before .before .before .before .before .before .before .before .before .before .before .read-model .ensures) (c .before .before .before .before .before .before .before .before .before .before .is-none .ensures) (bytes-known (c .before .before .before .before .before .before .before .before .before .before .before .before .before .before .before .args .model .now) (c .before .before .before .before .before .before .before .before .before .before .before .before .before .before .shared-slice-known .given)) (not-false _ (c .before .before .before .before .before .before .before .before .before .if1 .left)) _ (c .before .before .before .before .before .before .table-length .ensures) (c .before .before .before .before .before .if3 .left) _ _ (c .before .before .before .put-table2 .ensures))
+returns-4 c = rw (c .refused3 .ensures) (table-made (c .before .before .before .before .before .before .before .before .before .before .before .before .before .before .before .before .before .args .model .now) (c .before .before .before .before .before .before .before .before .before .before .before .before .before .before .before .before .before .args .output .now) _ _ (c .before .before .before .before .before .before .before .before .before .before .before .before .before .read-into .ensures) (c .before .before .before .before .before .before .before .before .before .before .before .is-none .ensures) (bytes-known (c .before .before .before .before .before .before .before .before .before .before .before .before .before .before .before .before .before .args .model .now) (c .before .before .before .before .before .before .before .before .before .before .before .before .before .before .before .before .shared-slice-known .given)) (not-false _ (c .before .before .before .before .before .before .before .before .before .before .if1 .left)) _ (c .before .before .before .before .before .before .before .table-length .ensures) (c .before .before .before .before .before .before .if3 .left) _ _ (c .before .before .before .put-table2 .ensures))
 
 pub translate-spec : {M : Type 1} → statement M
 translate-spec =
     tie.close
     (tie.spec
-    read-model-requires
+    slice-aggregate-read-into
+    read-into-requires
     is-none-requires
     returns
+    slice-aggregate-put-table
     put-table-requires
     refused-requires
     same-length
     returns-2
+    slice-aggregate-table-length
     table-length-requires
     refused-requires-2
     returns-3
+    slice-aggregate-put-table-2
     put-table-requires-2
     refused-requires-3
     same-length-2

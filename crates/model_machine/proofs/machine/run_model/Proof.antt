@@ -1,5 +1,5 @@
 use Rattle.model_machine.specs.Laws.{model-begins, model-ends, model-refuses, model-goes-on}
-use Rattle.model.specs.Machine.{machineOf, runModel}
+use Rattle.model_semantics.specs.Machine.{machineOf, runModel}
 use Rattle.records.specs.declared.Notation.the-variants as notations
 use Rattle.records.specs.Walk.{next-place}
 use Rattle.records.specs.Run.{runFrom}

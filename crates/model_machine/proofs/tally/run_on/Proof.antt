@@ -6,7 +6,7 @@ use Rattle.records.specs.declared.Notation.the-variants as notations
 use Rattle.records.specs.Format.{parts}
 use Rattle.records.specs.Run.{stagesFrom, tallyFrom}
 use Rattle.records.specs.Walk.{next-place}
-use Rattle.model.specs.Machine.{machineOf}
+use Rattle.model_semantics.specs.Machine.{machineOf}
 use Rattle.model_machine.specs.Runs.{tallyModel}
 use Rattle.model_machine.specs.Laws.{tally-begins, tally-ends, tally-takes, tally-refuses}
 use borrow.Author.Needs.{needs}

@@ -1,6 +1,6 @@
 use Rattle.model_machine.specs.Laws.{later-by}
 use Rattle.model_machine.specs.Quiet.{withSpents}
-use Rattle.model.specs.State.{withNow}
+use Rattle.model_semantics.specs.State.{withNow}
 use borrow.Author.Needs.{needs}
 use Rattle.model_machine.proofs.time.pass.Statement.{statement}
 use Rattle.model_machine.proofs.time.pass.Tie as tie

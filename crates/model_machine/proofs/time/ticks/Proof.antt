@@ -1,5 +1,5 @@
 use Rattle.model_machine.specs.Laws.{ticks-end, ticks-busy, ticks-late, ticks-on}
-use Rattle.model.specs.Machine as machine
+use Rattle.model_semantics.specs.Machine as machine
 use native.Mathlib.Omega.{arith}
 use mathlib.Core.Path.{_≡_, refl, _∙_}
 use borrow.Author.Needs.{needs}

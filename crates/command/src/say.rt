@@ -1,0 +1,70 @@
+// What the programs tell on standard error.
+
+use libc::STDERR_FILENO;
+
+// Of a long record as many bytes are told.
+const MOST_TOLD: usize = 64;
+
+pub fn say(text: &[u8]) {
+    io::write_all(STDERR_FILENO, text);
+}
+
+pub fn say_number(n: usize) {
+    io::print_decimal(STDERR_FILENO, n as u64);
+}
+
+// The name that argument i gives, or the given one where there is no such argument.
+pub fn say_name(i: usize, name: &[u8]) {
+    if os::arg_count() <= i {
+        say(name);
+        return;
+    }
+    let mut path = io::buffer();
+    let n = os::arg(i, &mut path);
+    say(&path[..n]);
+}
+
+fn say_byte(byte: u8) {
+    say(b" ");
+    io::print_hex(STDERR_FILENO, byte as u64, 2);
+}
+
+// The bytes of a record; of a long one the first, and two dots.
+fn say_bytes(part: &[u8]) {
+    let mut i = 0;
+    while i < part.len() {
+        if i == MOST_TOLD {
+            say(b" ..");
+            return;
+        }
+        say_byte(numbers::byte_at(part, i));
+        i += 1;
+    }
+}
+
+// One line where something is refused: its number and place, the file that holds it, and the bytes of the record.
+pub fn tell_refused(name: &[u8], number: usize, start: usize, end: usize, part: &[u8]) {
+    if number == 0 {
+        return;
+    }
+    say(b"refused ");
+    say_number(number);
+    say(b" ");
+    say_number(start);
+    say(b" ");
+    say_number(end);
+    say(b" ");
+    say_holder(name, number);
+    say(b":");
+    say_bytes(part);
+    say(b"\n");
+}
+
+// The part of 1 to 8 lies in the first file, the model or table, that of 9 to 13 in the script.
+fn say_holder(name: &[u8], number: usize) {
+    if number < 9 {
+        say_name(1, name);
+    } else {
+        say_name(2, b"script.bin");
+    }
+}

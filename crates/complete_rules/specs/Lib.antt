@@ -1,6 +1,0 @@
-pub mod Gathered
-pub mod Named
-pub mod Operands
-pub mod Guards
-pub mod Assigned
-pub mod Complete

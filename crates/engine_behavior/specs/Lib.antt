@@ -1,0 +1,4 @@
+pub mod OperandLaws
+pub mod OpenLaws
+pub mod AssignLaws
+pub mod AdvanceLaws

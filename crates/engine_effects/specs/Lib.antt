@@ -1,0 +1,5 @@
+pub mod Rooms
+pub mod Ports
+pub mod Sends
+pub mod Events
+pub mod Modes

@@ -1,0 +1,4 @@
+pub mod Prints
+pub mod Places
+pub mod PrintLaws
+pub mod Runs

@@ -1,0 +1,6 @@
+pub mod State
+pub mod Tests
+pub mod Effects
+pub mod EffectLaws
+pub mod Machine
+pub mod MachineLaws

@@ -1,0 +1,23 @@
+use Rattle.model_state.specs.StateLaws.{code-past, code-at}
+use mathlib.Core.Path.{_∙_}
+use borrow.Author.Needs.{needs}
+use Rattle.model_state.proofs.reading.code_of.Statement.{statement}
+use Rattle.model_state.proofs.reading.code_of.Tie as tie
+
+returns : tie.Need-returns
+returns c = code-past _ _ (c .if1 .taken)
+
+add-word-at : tie.Need-add-word-at
+add-word-at c = search needs
+
+word-at-requires : tie.Need-word-at-requires
+word-at-requires c κs = search needs
+
+byte-of-requires : tie.Need-byte-of-requires
+byte-of-requires c κs = search needs
+
+returns-2 : tie.Need-returns-2
+returns-2 c = c .byte-of .ensures ∙ code-at _ _ _ (c .before .before .if1 .left) (c .before .word-at .ensures)
+
+pub code-of-spec : {M : Type 1} → statement M
+code-of-spec = tie.close (tie.spec returns add-word-at word-at-requires byte-of-requires returns-2)

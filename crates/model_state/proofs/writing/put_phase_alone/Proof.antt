@@ -1,0 +1,20 @@
+use Rattle.model_state.specs.StateLaws.{put-phase, byte-back}
+use borrow.Author.Needs.{needs}
+use Rattle.model_state.proofs.writing.put_phase_alone.Statement.{statement}
+use Rattle.model_state.proofs.writing.put_phase_alone.Tie as tie
+
+u32-of-u8-requires : tie.Need-u32-of-u8-requires
+u32-of-u8-requires c κs = search needs
+
+put-word-requires : tie.Need-put-word-requires
+put-word-requires c κs = search needs
+
+same-length : tie.Need-same-length
+same-length c = search needs
+
+returns : tie.Need-returns
+returns c = put-phase (c .before .before .before .before .before .before .args .s .now) _ _ (c .before .before .before .before .before .before .pre) _ (c .before .before .put-word .ensures) (byte-back _ _ (c .before .before .before .u32-of-u8 .ensures .0) (c .before .before .before .u32-of-u8 .ensures .1))
+
+pub put-phase-alone-spec : {M : Type 1} → statement M
+put-phase-alone-spec =
+    tie.close (tie.spec u32-of-u8-requires put-word-requires same-length returns)

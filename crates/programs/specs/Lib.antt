@@ -1,4 +1,0 @@
-pub mod Programs
-pub mod Outcomes
-pub mod Parts
-pub mod Same

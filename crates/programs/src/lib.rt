@@ -1,1 +1,0 @@
-// What the programs print, from the bytes that they read.

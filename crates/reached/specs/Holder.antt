@@ -1,0 +1,116 @@
+-- A thread that runs is the one that its processor names.
+use mathlib.Core.Path.{_≡_, refl, sym, _∙_, ap}
+use mathlib.Core.Bool.{Bool, true, false, cond, _&&_, not, false≢true}
+use Prim.Native.Nat.{ℕ, _<_, _≤_}
+use native.Mathlib.Omega.{arith}
+use native.Mathlib.Decide.{ℕ-discrete, decLt}
+use lib.Dec.{eqb, ltb, leb}
+use lib.ListN.{length, replicate, getD-replicate}
+use borrow.Author.Tests.{eqb-true, lt-ltb, ltb-true}
+use Rattle.numbers.specs.Lists.{item, store}
+use Rattle.numbers.specs.ListLaws.{length-store, item-past, item-store-same, item-store-other}
+use Rattle.model_format.specs.declared.Timing.{Timing}
+use Rattle.model_format.specs.declared.Model.{Model}
+use Rattle.model_format.specs.Model.{maxThreads, threadAt, switchAt}
+use Rattle.model_semantics.specs.declared.State.{State}
+use Rattle.model_semantics.specs.State.{none, isActive, codeOf, cpuFor, withLive, withPorts, withNow, withEntered, withMode, withPhase, withCpu, withActive, withCode, withDispatchTime, withJob, withBehavior, withMissed}
+use Rattle.model_semantics.specs.Tests.{waitingMode, waitingDispatch, waitingExecution, execution, completed, runs, isDue, awaitsImmediate, startFault, canStart, canComplete}
+use Rattle.model_semantics.specs.Effects.{dispatch, start, restCode, advance, finish, complete, meetDeadline, miss, request, enter, leave, tick}
+use Rattle.model_semantics.specs.Machine.{startState}
+use Rattle.reached.specs.Reachable.{Reachable}
+use Rattle.reached.specs.Moves.{Move, activates, deactivates, dispatches, starts, completes, meets, misses, requests, enters, leaves, ticks-once, invariant}
+use Rattle.reached.specs.Kept.{end-cpu, end-code, spends}
+
+pub record Held (m : Timing) (s : State) : Type 0 where
+  pub sized : length (s .threads .code) ≡ maxThreads
+  pub holder : (t : ℕ) → runs (codeOf s t) ≡ true → cpuFor m s t ≡ t
+
+-- ---- codes and processor as they were
+same-held : {m : Timing} {s r : State} → r .threads .code ≡ s .threads .code → r .clock .cpu ≡ s .clock .cpu → Held m s → Held m r
+unfolding codeOf
+same-held e c h = record { sized = rw e (h .sized); holder = λ t q. c ∙ h .holder t (rw e at q) }
+
+-- ---- a code stored for thread t
+module _ (m : Timing) (s r : State) (t code : ℕ) (l : t < maxThreads) (e : r .threads .code ≡ store maxThreads (s .threads .code) t code) (h : Held m s) where
+  code-there : codeOf r t ≡ code
+  unfolding codeOf
+  code-there = rw e (let z = h .sized in item-store-same maxThreads (s .threads .code) t code 0 l (omega arith))
+
+  code-elsewhere : (u : ℕ) → (u ≡ t → ⊥) → codeOf r u ≡ codeOf s u
+  unfolding codeOf
+  code-elsewhere u n = rw e (item-store-other maxThreads (s .threads .code) t u code 0 n)
+
+  stored-held : (runs code ≡ true → cpuFor m r t ≡ t) → ((u : ℕ) → (u ≡ t → ⊥) → runs (codeOf s u) ≡ true → cpuFor m r u ≡ u) → Held m r
+  stored-held here there = record { sized = rw e (length-store maxThreads (s .threads .code) t code ∙ h .sized); holder = λ u q. go u q (ℕ-discrete u t) }
+    where
+      go : (u : ℕ) → runs (codeOf r u) ≡ true → Dec (u ≡ t) → cpuFor m r u ≡ u
+      go u q (yes k) = let c : codeOf r u ≡ code = ap (codeOf r) k ∙ code-there in here (rw c at q) ∙ sym k
+      go u q (no k) = there u k (rw (code-elsewhere u k) at q)
+
+-- ---- START finds the processor free
+start-free : (m : Timing) (s : State) (t n : ℕ) → canStart m s t n ≡ true → (t < m .threads) × (cpuFor m s t ≡ none)
+unfolding startFault
+start-free m s t n e =
+    let (a, b) = go (ltb t (m .threads)) (eqb (codeOf s t) waitingExecution && not (isDue m s t)) (eqb (cpuFor m s t) none) (awaitsImmediate m s t) (leb (threadAt m t .bcet .0) n && leb n (threadAt m t .wcet .0)) e in
+    (ltb-true t (m .threads) a, eqb-true (cpuFor m s t) none b)
+  where
+    go : (a b c w x : Bool) → eqb (cond (a && b) (cond c (cond w 3 (cond x 0 4)) 2) 1) 0 ≡ true → (a ≡ true) × (c ≡ true)
+    go false b c w x q = absurd (false≢true q)
+    go true false c w x q = absurd (false≢true q)
+    go true true false w x q = absurd (false≢true q)
+    go true true true w x q = (refl, refl)
+
+-- then no thread runs
+none-runs : (m : Timing) (s : State) (u : ℕ) → Held m s → s .clock .cpu ≡ none → runs (codeOf s u) ≡ true → ⊥
+unfolding codeOf
+none-runs m s u h c q = let k : u ≡ none = sym (h .holder u q) ∙ c in false≢true (rw k at q)
+
+-- ---- the end of a job
+end-held : (m : Timing) (s r : State) (t code : ℕ) → t < maxThreads → runs code ≡ false → r .threads .code ≡ store maxThreads (s .threads .code) t code →
+    r .clock .cpu ≡ cond (runs (codeOf s t)) none (s .clock .cpu) → Held m s → Held m r
+end-held m s r t code l f e c h = stored-held m s r t code l e h (λ q. absurd (false≢true (sym f ∙ q))) (λ u n q. c ∙ go (runs (codeOf s t)) refl u n q)
+  where
+    go : (b : Bool) → runs (codeOf s t) ≡ b → (u : ℕ) → (u ≡ t → ⊥) → runs (codeOf s u) ≡ true → cond b none (s .clock .cpu) ≡ u
+    go true k u n q = absurd (n (sym (h .holder u q) ∙ h .holder t k))
+    go false k u n q = h .holder u q
+
+rest-still : (b : Bool) → runs (cond b waitingDispatch waitingMode) ≡ false
+rest-still true = refl
+rest-still false = refl
+
+module _ (m : Model) (few : m .timing .threads ≤ maxThreads) where
+  move-held : (s r : State) → Held (m .timing) s → Move m s r → Held (m .timing) r
+  unfolding dispatch start advance finish complete meetDeadline miss request enter leave tick canComplete withLive withPorts withNow withEntered withMode withPhase withActive withCode withDispatchTime withBehavior withMissed withJob withCpu
+  move-held s r h (activates t l c) = stored-held (m .timing) s _ t waitingDispatch (omega arith) refl h (λ q. absurd (false≢true q)) (λ u n q. h .holder u q)
+  move-held s r h (deactivates t l c) = stored-held (m .timing) s _ t waitingMode (omega arith) refl h (λ q. absurd (false≢true q)) (λ u n q. h .holder u q)
+  move-held s r h (dispatches t l c) = stored-held (m .timing) s _ t waitingExecution (omega arith) refl h (λ q. absurd (false≢true q)) (λ u n q. h .holder u q)
+  move-held s r h (starts t n c) =
+      let (l, f) = start-free (m .timing) s t n c in
+      stored-held (m .timing) s _ t execution (omega arith) refl h (λ q. refl) (λ u k q. absurd (none-runs (m .timing) s u h f q))
+  move-held s r h (completes t l c) =
+      end-held (m .timing) (advance m s t) _ t completed (omega arith) refl (end-code (m .timing) (advance m s t) t completed) (end-cpu (m .timing) (advance m s t) t completed) (same-held refl refl h)
+  move-held s r h (meets t l c) =
+      stored-held (m .timing) s _ t (restCode s t) (omega arith) refl h (λ q. absurd (false≢true (sym (rest-still (isActive s t)) ∙ q))) (λ u n q. h .holder u q)
+  move-held s r h (misses t l c) = end-held (m .timing) s _ t (restCode s t) (omega arith) (rest-still (isActive s t)) (end-code (m .timing) s t (restCode s t)) (end-cpu (m .timing) s t (restCode s t)) h
+  move-held s r h (requests q l) = go (eqb (s .clock .phase) 0 && eqb (s .clock .mode) (switchAt (m .timing) q .from))
+    where
+      go : (b : Bool) → Held (m .timing) (cond b (withPhase s 1 q) s)
+      go true = same-held refl refl h
+      go false = h
+  move-held s r h (enters q l c) = same-held refl refl h
+  move-held s r h (leaves q l c) = same-held refl refl h
+  move-held s r h (ticks-once c l) = let k = spends s (m .timing .threads) in same-held (k .0) (k .1) h
+
+  start-code : (t : ℕ) → codeOf (startState (m .timing)) t ≡ 0
+  unfolding startState codeOf
+  start-code t = go (decLt t maxThreads)
+    where
+      go : Dec (t < maxThreads) → _≡_ {A = ℕ} (item maxThreads (replicate maxThreads 0) t 0) 0
+      go (yes l) = rw (lt-ltb t maxThreads l) (getD-replicate maxThreads t 0 0 l)
+      go (no l) = item-past maxThreads (replicate maxThreads 0) t 0 (omega arith)
+
+  start-held : Held (m .timing) (startState (m .timing))
+  start-held = record { sized = unfold startState in refl; holder = λ t q. absurd (false≢true (sym (ap runs (start-code t)) ∙ q)) }
+
+  pub held-reached : (s : State) → Reachable m s → Held (m .timing) s
+  held-reached = invariant m (Held (m .timing)) move-held start-held

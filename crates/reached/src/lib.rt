@@ -1,0 +1,1 @@
+// Facts of every state that a run of a model reaches.

@@ -1,4 +1,0 @@
-pub mod Wrote
-pub mod Lists
-pub mod Operands
-pub mod SameBytes

@@ -1,0 +1,181 @@
+-- The starred examples of document 01, as a group. Those that are runs are proved of the model's run and of the run of its table.
+use mathlib.Core.Path.{_≡_, refl}
+use mathlib.Core.List.{List, [], _∷_, _++_}
+use Prim.Native.Nat.{ℕ}
+use Prim.Native.Char.{code}
+use Prim.Native.String as strings
+use Prim.Native.String.{String}
+use lib.IntN.{negsuc}
+use Rattle.numbers.specs.Values.{u16To, u32To, value, natural, minus}
+use Rattle.records.specs.declared.Cause.the-variants.{None}
+use Rattle.table_format.specs.declared.Atom.{Atom}
+use Rattle.table_format.specs.Variables.{nowVar, phaseVar, pendingVar}
+use Rattle.spec_examples.specs.Evaluate.{steps, rules, modelCause, tableCause, modelLocal, tableLocal, firstH1, firstEnter, modelAt, tableAt}
+
+-- ---- notation
+abbrev ascii : String → List ℕ
+ascii strings.[] = []
+ascii (strings._∷_ c s) = code c ∷ ascii s
+
+-- a thread in mode 0
+abbrev thread : ℕ → ℕ → ℕ → ℕ → ℕ → List ℕ
+thread period deadline least most critical = 2 ∷ u32To period (u32To deadline (u32To least (u32To most (1 ∷ critical ∷ 0 ∷ []))))
+
+abbrev head : List ℕ
+head = 1 ∷ 1 ∷ 0 ∷ []
+
+-- "M: head 1, 0; thread Period 5, Deadline 4, Min 1, Max 5, mask 1, rest 0."
+abbrev pub M : List ℕ
+M = head ++ thread 5 4 1 5 0
+
+abbrev activate : List ℕ
+activate = 1 ∷ 0 ∷ []
+
+abbrev dispatch : List ℕ
+dispatch = 3 ∷ 0 ∷ []
+
+abbrev start : ℕ → List ℕ
+start n = 4 ∷ 0 ∷ u32To n []
+
+abbrev complete : List ℕ
+complete = 5 ∷ 0 ∷ []
+
+abbrev deadline : List ℕ
+deadline = 6 ∷ 0 ∷ []
+
+abbrev miss : List ℕ
+miss = 7 ∷ 0 ∷ []
+
+abbrev tick : ℕ → List ℕ
+tick n = 11 ∷ u16To n []
+
+-- both programs print the text for the model M and the script
+abbrev Both : List ℕ → List ℕ → String → Type 0
+Both model script text = (steps model script ≡ ascii text) × (rules model script ≡ ascii text)
+
+-- ---- *That run.
+run-of-seven : Both M (activate ++ dispatch ++ start 2 ++ tick 2 ++ complete ++ tick 2 ++ deadline) "1 0 1 0\n2 0 3 0\n3 0 4 0\n4 2 11 2\n5 2 5 0\n6 4 11 2\n7 4 6 0\nend 7 0 4\n"
+unfolding steps rules
+run-of-seven = (refl, refl)
+
+-- ---- *TICK 3 after START 2: 10, clock 0.
+tick-3-after-start-2 : Both M (activate ++ dispatch ++ start 2 ++ tick 3) "1 0 1 0\n2 0 3 0\n3 0 4 0\nend 3 10 0\n"
+unfolding steps rules
+tick-3-after-start-2 = (refl, refl)
+
+-- ---- *DISPATCH first: 10.
+dispatch-first : Both M dispatch "end 0 10 0\n"
+unfolding steps rules
+dispatch-first = (refl, refl)
+
+-- ---- *START 5, TICK 4: MISS taken, COMPLETE 10.
+start-5-miss : Both M (activate ++ dispatch ++ start 5 ++ tick 4 ++ miss) "1 0 1 0\n2 0 3 0\n3 0 4 0\n4 4 11 4\n5 4 7 0\nend 5 0 4\n"
+unfolding steps rules
+start-5-miss = (refl, refl)
+
+start-5-complete : Both M (activate ++ dispatch ++ start 5 ++ tick 4 ++ complete) "1 0 1 0\n2 0 3 0\n3 0 4 0\n4 4 11 4\nend 4 10 4\n"
+unfolding steps rules
+start-5-complete = (refl, refl)
+
+-- ---- *START 4, TICK 4: MISS 10, COMPLETE taken.
+start-4-miss : Both M (activate ++ dispatch ++ start 4 ++ tick 4 ++ miss) "1 0 1 0\n2 0 3 0\n3 0 4 0\n4 4 11 4\nend 4 10 4\n"
+unfolding steps rules
+start-4-miss = (refl, refl)
+
+start-4-complete : Both M (activate ++ dispatch ++ start 4 ++ tick 4 ++ complete) "1 0 1 0\n2 0 3 0\n3 0 4 0\n4 4 11 4\n5 4 5 0\nend 5 0 4\n"
+unfolding steps rules
+start-4-complete = (refl, refl)
+
+-- ---- *START 6: 10.
+start-6 : Both M (activate ++ dispatch ++ start 6) "1 0 1 0\n2 0 3 0\nend 2 10 0\n"
+unfolding steps rules
+start-6 = (refl, refl)
+
+-- ---- *Empty model: 2; empty script: 0 taken.
+empty-model : Both [] (activate ++ dispatch) "end 0 2 0\n"
+unfolding steps rules
+empty-model = (refl, refl)
+
+empty-script : Both M [] "end 0 0 0\n"
+unfolding steps rules
+empty-script = (refl, refl)
+
+-- ---- *Locals 1 and 2 exchanged by two copies: 2 and 1.
+-- a copy from one local to another: the second operand is unused
+abbrev copy : ℕ → ℕ → List ℕ
+copy to from = 10 ∷ 2 ∷ to ∷ 0 ∷ 2 ∷ u32To from (0 ∷ u32To 0 [])
+
+abbrev exchange : List ℕ
+exchange = M ++ (5 ∷ 0 ∷ u32To 1 []) ++ (5 ∷ 0 ∷ u32To 2 []) ++ (8 ∷ 0 ∷ 0 ∷ 0 ∷ []) ++ copy 0 1 ++ copy 1 0
+
+abbrev oneJob : List ℕ
+oneJob = activate ++ dispatch ++ start 1 ++ tick 1 ++ complete
+
+-- neither the model nor its table is refused
+abbrev Accepted : List ℕ → Type 0
+Accepted model = (modelCause model ≡ None) × (tableCause model ≡ None)
+
+locals-accepted : Accepted exchange
+unfolding modelCause tableCause
+locals-accepted = (refl, refl)
+
+locals-before : (modelLocal exchange [] 0 ≡ natural 1) × (modelLocal exchange [] 1 ≡ natural 2) × (tableLocal exchange [] 0 ≡ natural 1) × (tableLocal exchange [] 1 ≡ natural 2)
+unfolding modelLocal tableLocal
+locals-before = (refl, refl, refl, refl)
+
+locals-exchanged : (modelLocal exchange oneJob 0 ≡ natural 2) × (modelLocal exchange oneJob 1 ≡ natural 1) × (tableLocal exchange oneJob 0 ≡ natural 2) × (tableLocal exchange oneJob 1 ≡ natural 1)
+unfolding modelLocal tableLocal
+locals-exchanged = (refl, refl, refl, refl)
+
+-- ---- *0 − (−2,147,483,648) = −2,147,483,648.
+zero-minus-least : minus (natural 0) (value (negsuc 2147483647)) ≡ value (negsuc 2147483647)
+unfolding minus
+zero-minus-least = refl
+
+-- in a run: local 0, 1 at first, is assigned 0 less the least constant
+abbrev negate : List ℕ
+negate = M ++ (5 ∷ 0 ∷ u32To 1 []) ++ (8 ∷ 0 ∷ 0 ∷ 0 ∷ []) ++ (10 ∷ 2 ∷ 0 ∷ 2 ∷ 0 ∷ u32To 0 (0 ∷ u32To 2147483648 []))
+
+negate-accepted : Accepted negate
+unfolding modelCause tableCause
+negate-accepted = (refl, refl)
+
+negated-before : (modelLocal negate [] 0 ≡ natural 1) × (tableLocal negate [] 0 ≡ natural 1)
+unfolding modelLocal tableLocal
+negated-before = (refl, refl)
+
+negated : (modelLocal negate oneJob 0 ≡ value (negsuc 2147483647)) × (tableLocal negate oneJob 0 ≡ value (negsuc 2147483647))
+unfolding modelLocal tableLocal
+negated = (refl, refl)
+
+-- ---- *Critical 4 and 6: H1 12; none: 1.
+abbrev stay : List ℕ
+stay = 7 ∷ 0 ∷ 0 ∷ []
+
+abbrev fourAndSix : ℕ → List ℕ
+fourAndSix critical = head ++ thread 4 4 1 1 critical ++ thread 6 6 1 1 critical ++ stay
+
+-- an atom of a variable and a constant
+abbrev atom : ℕ → ℕ → ℕ → Atom
+atom op j n = record { op = op; variable = j; right = record { tag = 0; value = natural n } }
+
+-- the clauses of ENTER: Phase 1, Pending this, Now a multiple
+abbrev enterWith : ℕ → List (List Atom)
+enterWith h = (atom 0 phaseVar 1 ∷ []) ∷ (atom 0 pendingVar 0 ∷ []) ∷ (atom 6 nowVar h ∷ []) ∷ []
+
+critical-4-and-6 : Accepted (fourAndSix 1) × (firstH1 (fourAndSix 1) ≡ 12) × (firstEnter (fourAndSix 1) ≡ enterWith 12)
+unfolding modelCause tableCause firstH1 firstEnter
+critical-4-and-6 = ((refl, refl), refl, refl)
+
+critical-none : Accepted (fourAndSix 0) × (firstH1 (fourAndSix 0) ≡ 1) × (firstEnter (fourAndSix 0) ≡ enterWith 1)
+unfolding modelCause tableCause firstH1 firstEnter
+critical-none = ((refl, refl), refl, refl)
+
+-- ---- *Head alone at 999,999,999: TICK 1 taken, TICK 2: 11.
+head-alone-tick-1 : (modelAt head 999999999 (tick 1) ≡ ascii "1 1000000000 11 1\nend 1 0 1000000000\n") × (tableAt head 999999999 (tick 1) ≡ ascii "1 1000000000 11 1\nend 1 0 1000000000\n")
+unfolding modelAt tableAt
+head-alone-tick-1 = (refl, refl)
+
+head-alone-tick-2 : (modelAt head 999999999 (tick 2) ≡ ascii "end 0 11 999999999\n") × (tableAt head 999999999 (tick 2) ≡ ascii "end 0 11 999999999\n")
+unfolding modelAt tableAt
+head-alone-tick-2 = (refl, refl)

@@ -1,0 +1,4 @@
+pub mod Index
+pub mod Guards
+pub mod IndexLaws
+pub mod Listed

@@ -1,0 +1,4 @@
+pub mod At
+pub mod Bits
+pub mod Places
+pub mod Clauses

@@ -1,0 +1,80 @@
+use Prim.Native.Nat.{_-_, _≤_}
+use native.Mathlib.Omega.{arith}
+use mathlib.Core.Path.{ap, refl}
+use lib.ListN.{length}
+use Rattle.records.specs.declared.Listed.{Listed}
+use Rattle.records.specs.declared.Notation.the-variants.{Script}
+use Rattle.records.specs.Events.{listedAt}
+use Rattle.records.specs.Walk.{next-place}
+use borrow.Author.Needs.{needs}
+use Rattle.test_tables.proofs.print_trace.Statement.{statement}
+use Rattle.test_tables.proofs.print_trace.Tie as tie
+
+abbrev Inv-loop : tie.InvT-loop
+Inv-loop table script variables₀ at₀ variables at = at ≤ length script
+
+abbrev μ-loop : tie.MeasureT-loop
+μ-loop table script variables₀ at₀ variables at = length script - at
+
+start-variables-requires : tie.Need-start-variables-requires Inv-loop μ-loop
+start-variables-requires c κs = search needs
+
+slice-aggregate-print : tie.Need-slice-aggregate-print Inv-loop μ-loop
+slice-aggregate-print c = search needs
+
+print-requires : tie.Need-print-requires Inv-loop μ-loop
+print-requires c κs = search needs
+
+print-variables-requires : tie.Need-print-variables-requires Inv-loop μ-loop
+print-variables-requires c κs = search needs
+
+loop-holds : tie.Need-loop-holds Inv-loop μ-loop
+loop-holds c = search needs
+
+event-at-requires : tie.Need-event-at-requires Inv-loop μ-loop
+event-at-requires c κs = search needs
+
+step-requires : tie.Need-step-requires Inv-loop μ-loop
+step-requires c κs = search needs
+
+print-answer-requires : tie.Need-print-answer-requires Inv-loop μ-loop
+print-answer-requires c κs = search needs
+
+print-variables-requires-2 : tie.Need-print-variables-requires-2 Inv-loop μ-loop
+print-variables-requires-2 c κs = search needs
+
+loop-less : tie.Need-loop-less Inv-loop μ-loop
+unfolding listedAt
+loop-less c =
+    let n = next-place Script (c .before .before .before .before .before .before .before .before .before .before .before .before .before .before .args .script .now) (c .before .before .before .before .before .before .before .loop .at) _ (c .before .before .before .before .before .before .loop-test .taken) refl in
+    let e = ap (λ (l : Listed). l .end) (c .before .before .before .before .before .event-at .ensures) in
+    omega arith
+
+loop-again : tie.Need-loop-again Inv-loop μ-loop
+unfolding listedAt
+loop-again c =
+    let n = next-place Script (c .before .before .before .before .before .before .before .before .before .before .before .before .before .before .args .script .now) (c .before .before .before .before .before .before .before .loop .at) _ (c .before .before .before .before .before .before .loop-test .taken) refl in
+    let e = ap (λ (l : Listed). l .end) (c .before .before .before .before .before .event-at .ensures) in
+    omega arith
+
+returns : tie.Need-returns Inv-loop μ-loop
+returns c = search needs
+
+pub print-trace-spec : {M : Type 1} → statement M
+print-trace-spec =
+    tie.close
+    (tie.spec
+    Inv-loop
+    μ-loop
+    start-variables-requires
+    slice-aggregate-print
+    print-requires
+    print-variables-requires
+    loop-holds
+    event-at-requires
+    step-requires
+    print-answer-requires
+    print-variables-requires-2
+    loop-less
+    loop-again
+    returns)

@@ -1,8 +1,0 @@
-pub mod Shown
-pub mod Parts
-pub mod Rules
-pub mod Translate
-pub mod GoodParts
-pub mod GoodRules
-pub mod WellFormed
-pub mod TableLength

@@ -1,0 +1,5 @@
+pub mod Named
+pub mod Operands
+pub mod Guards
+pub mod Assigned
+pub mod Complete
