@@ -19,6 +19,10 @@ enum { MARK = 0xa5 };
 static uint8_t model[65536], script[65536], table[FK_LONGEST_MADE_TABLE], output[FK_LONGEST_MADE_TABLE];
 static size_t models, scripts, tables;
 
+/* The table's index, and the model as read, each with places behind. */
+static size_t list[65536], lists;
+static uint32_t words[FK_MODEL_WORDS + 1];
+
 static size_t read_file(const char *name, uint8_t *bytes, size_t room)
 {
     FILE *file = fopen(name, "rb");
@@ -46,8 +50,15 @@ static void no_slices(void)
     MUST(fk_run_table(NULL, 0, NULL, 0, NULL, 0) == 0);
     MUST(fk_event_length(NULL, 0) == 0);
     MUST(fk_table_start(NULL, 0, NULL, 0) == 8);
-    MUST(fk_table_step(NULL, 0, NULL, 0, NULL, 0) == 8);
+    MUST(fk_table_index(NULL, 0, NULL, 0) < fk_table_index(table, tables, NULL, 0));
+    MUST(fk_table_step(NULL, 0, NULL, 0, NULL, 0, NULL, 0) == 8);
+    MUST(fk_table_enabled(NULL, 0, NULL, 0, NULL, 0, NULL, 0, NULL, 0) == 8);
     MUST(fk_model_after(NULL, 0, NULL, 0, NULL, 0, NULL, 0) == 2);
+    MUST(fk_model_read(NULL, 0, NULL, 0, NULL, 0) == 8);
+    MUST(fk_model_start(NULL, 0, NULL, 0) == 8);
+    MUST(fk_model_step(NULL, 0, NULL, 0, NULL, 0) == 8);
+    MUST(fk_model_variables(NULL, 0, NULL, 0, NULL, 0) == 8);
+    MUST(fk_model_enabled(NULL, 0, NULL, 0, NULL, 0, NULL, 0) == 8);
 }
 
 static void told_places(void)
@@ -94,7 +105,8 @@ static void lent_variables(void)
     memset(variables, MARK, sizeof variables);
     MUST(fk_table_start(table, tables, variables, FK_VARIABLES - 1) == 8);
     MUST(fk_table_start(table, tables - 1, variables, FK_VARIABLES + 1) == 1);
-    MUST(fk_table_step(table, tables, variables, FK_VARIABLES - 1, script, 2) == 8);
+    MUST(fk_table_step(table, tables, NULL, 0, variables, FK_VARIABLES - 1, script, 2) == 8);
+    MUST(fk_table_step(table, tables, list, lists, variables, FK_VARIABLES - 1, script, 2) == 8);
     MUST(fk_model_after(model, models, script, scripts, NULL, 0, variables, FK_VARIABLES - 1) == 8);
     MUST(fk_model_after(model, models - 1, script, scripts, NULL, 0, variables, FK_VARIABLES) == 1);
     MUST(marked(bytes, 0, sizeof variables));
@@ -104,15 +116,167 @@ static void lent_variables(void)
     int32_t before[FK_VARIABLES + 1];
     memcpy(before, variables, sizeof before);
     const uint8_t no_ticks[] = {0x0b, 0, 0};
-    MUST(fk_table_step(table, tables, variables, FK_VARIABLES + 1, no_ticks, 3) == 9);
-    MUST(fk_table_step(table, tables, variables, FK_VARIABLES + 1, script, 1) == 9);
+    MUST(fk_table_step(table, tables, NULL, 0, variables, FK_VARIABLES + 1, no_ticks, 3) == 9);
+    MUST(fk_table_step(table, tables, list, lists, variables, FK_VARIABLES + 1, script, 1) == 9);
+    MUST(fk_table_step(table, tables, list, lists, variables, FK_VARIABLES + 1, NULL, 0) == 9);
     MUST(memcmp(before, variables, sizeof before) == 0);
     size_t first = fk_event_length(script, scripts);
-    MUST(fk_table_step(table, tables, variables, FK_VARIABLES + 1, script, first) == 0);
+    MUST(fk_table_step(table, tables, list, lists, variables, FK_VARIABLES + 1, script, first) == 0);
     MUST(memcmp(before, variables, sizeof before) != 0 && before[FK_VARIABLES] == variables[FK_VARIABLES]);
+    MUST(fk_table_step(table, tables, NULL, 0, before, FK_VARIABLES, script, first) == 0);
+    MUST(memcmp(before, variables, sizeof before) == 0);
     MUST(fk_model_after(model, models, NULL, 0, script, first, before, FK_VARIABLES) == 0);
     MUST(memcmp(before, variables, sizeof before) == 0);
     MUST(fk_event_length(script, first - 1) == first - 1);
+}
+
+/* All of the script by an index made into so many places: what the table does when it is walked. */
+static void steps_by_an_index(size_t room)
+{
+    static size_t index[65536];
+    memset(index, MARK, sizeof index);
+    MUST(fk_table_index(table, tables, index, room) == lists);
+    size_t written = room < lists ? room : lists;
+    MUST(marked((uint8_t *)index, written * sizeof *index, sizeof index));
+    int32_t by_index[FK_VARIABLES], walked[FK_VARIABLES];
+    fk_table_start(table, tables, by_index, FK_VARIABLES);
+    fk_table_start(table, tables, walked, FK_VARIABLES);
+    for (size_t at = 0; at < scripts;) {
+        size_t length = fk_event_length(script + at, scripts - at);
+        MUST(fk_table_step(table, tables, index, room, by_index, FK_VARIABLES, script + at, length) == 0);
+        MUST(fk_table_step(table, tables, NULL, 0, walked, FK_VARIABLES, script + at, length) == 0);
+        MUST(memcmp(by_index, walked, sizeof walked) == 0);
+        at += length;
+    }
+}
+
+/* An index that is not the table's: there is an answer, and a refusal leaves the variables. */
+static void steps_by_any_numbers(void)
+{
+    static size_t index[1000];
+    int32_t start[FK_VARIABLES], variables[FK_VARIABLES];
+    fk_table_start(table, tables, start, FK_VARIABLES);
+    for (size_t number = 0; number < 1000; number++) {
+        for (size_t i = 0; i < 1000; i++)
+            index[i] = number % 3 == 0 ? number * i : number % 3 == 1 ? (size_t)-1 / (i + number + 1) : list[(i * number) % lists];
+        memcpy(variables, start, sizeof start);
+        uint32_t answer = fk_table_step(table, tables, index, number, variables, FK_VARIABLES, script, fk_event_length(script, scripts));
+        MUST(answer == 0 || answer == 10 || answer == 12);
+        MUST(answer == 0 || memcmp(variables, start, sizeof start) == 0);
+    }
+}
+
+static void room_for_a_model(void)
+{
+    size_t told[3] = {99, 99, 99};
+    uint8_t *bytes = (uint8_t *)words;
+    MUST(fk_model_words() == FK_MODEL_WORDS && fk_state_words() == FK_STATE_WORDS);
+    memset(words, MARK, sizeof words);
+    MUST(fk_model_read(model, models, words, FK_MODEL_WORDS - 1, told, 3) == 8);
+    MUST(told[0] == models && told[1] == models && told[2] == 99);
+    MUST(fk_model_read(model, models - 1, words, 0, told, 3) == 8);
+    MUST(marked(bytes, 0, sizeof words));
+    MUST(fk_model_read(model, models - 1, words, FK_MODEL_WORDS + 1, told, 3) == 1);
+    MUST(told[0] < told[1] && told[1] == models - 1);
+    MUST(fk_model_read(model, models, words, FK_MODEL_WORDS + 1, told, 3) == 0);
+    MUST(told[0] == 0 && told[1] == 0 && told[2] == 99);
+    MUST(marked(bytes, 4 * FK_MODEL_WORDS, sizeof words));
+}
+
+/* The script on a state, which goes the way that the table goes. */
+static void lent_state(void)
+{
+    uint32_t state[FK_STATE_WORDS + 1], before[FK_STATE_WORDS + 1];
+    uint8_t *bytes = (uint8_t *)state;
+    memset(state, MARK, sizeof state);
+    MUST(fk_model_start(words, FK_MODEL_WORDS, state, FK_STATE_WORDS - 1) == 8);
+    MUST(fk_model_step(words, FK_MODEL_WORDS, state, FK_STATE_WORDS - 1, script, 2) == 8);
+    MUST(marked(bytes, 0, sizeof state));
+    MUST(fk_model_start(words, FK_MODEL_WORDS, state, FK_STATE_WORDS + 1) == 0);
+    for (size_t at = 0; at < scripts;) {
+        size_t length = fk_event_length(script + at, scripts - at);
+        memcpy(before, state, sizeof state);
+        const uint8_t unknown[] = {0x0c, 0};
+        MUST(fk_model_step(words, FK_MODEL_WORDS, state, FK_STATE_WORDS + 1, unknown, 2) == 9);
+        MUST(fk_model_step(words, FK_MODEL_WORDS, state, FK_STATE_WORDS + 1, NULL, 0) == 9);
+        MUST(memcmp(before, state, sizeof state) == 0);
+        MUST(fk_model_step(words, FK_MODEL_WORDS, state, FK_STATE_WORDS + 1, script + at, length) == 0);
+        MUST(memcmp(before, state, sizeof state) != 0 && marked(bytes, 4 * FK_STATE_WORDS, sizeof state));
+        at += length;
+    }
+    /* From the same state the same event leads to the same state. */
+    MUST(fk_model_start(words, FK_MODEL_WORDS, before, FK_STATE_WORDS) == 0);
+    for (size_t at = 0; at < scripts; at += fk_event_length(script + at, scripts - at))
+        fk_model_step(words, FK_MODEL_WORDS, before, FK_STATE_WORDS, script + at, fk_event_length(script + at, scripts - at));
+    MUST(memcmp(before, state, sizeof state) == 0);
+}
+
+static void shown_variables(void)
+{
+    enum { DUE = 64, END = 80, THREADS = 16 };
+    uint32_t state[FK_STATE_WORDS];
+    int32_t shown[FK_VARIABLES + 1], after[FK_VARIABLES];
+    fk_model_start(words, FK_MODEL_WORDS, state, FK_STATE_WORDS);
+    memset(shown, MARK, sizeof shown);
+    MUST(fk_model_variables(words, FK_MODEL_WORDS, state, FK_STATE_WORDS, shown, FK_VARIABLES - 1) == 8);
+    MUST(marked((uint8_t *)shown, 0, sizeof shown));
+    for (size_t at = 0; at < scripts;) {
+        size_t length = fk_event_length(script + at, scripts - at);
+        fk_model_step(words, FK_MODEL_WORDS, state, FK_STATE_WORDS, script + at, length);
+        MUST(fk_model_variables(words, FK_MODEL_WORDS, state, FK_STATE_WORDS, shown, FK_VARIABLES + 1) == 0);
+        MUST(marked((uint8_t *)shown, sizeof shown - 4, sizeof shown));
+        MUST(fk_model_after(model, models, script, at, script + at, length, after, FK_VARIABLES) == 0);
+        MUST(memcmp(shown, after, DUE * sizeof *after) == 0);
+        MUST(memcmp(shown + END + THREADS, after + END + THREADS, (FK_VARIABLES - END - THREADS) * sizeof *after) == 0);
+        at += length;
+    }
+}
+
+/* A list of events, asked for with no room, too little, just enough and more; the same of model and table. */
+static size_t list_of_both(const uint32_t *state, const int32_t *variables)
+{
+    uint32_t of_model[4 * 160 + 1], of_table[4 * 160 + 1];
+    size_t told[3] = {99, 99, 99}, other[3] = {99, 99, 99};
+    uint32_t none = fk_model_enabled(words, FK_MODEL_WORDS, state, FK_STATE_WORDS, NULL, 0, told, 3);
+    MUST(none == (told[0] == 0 ? 0 : 8) && told[1] <= 1 && told[2] == 99);
+    size_t count = 4 * told[0];
+    memset(of_model, MARK, sizeof of_model);
+    memset(of_table, MARK, sizeof of_table);
+    if (count > 0) {
+        MUST(fk_model_enabled(words, FK_MODEL_WORDS, state, FK_STATE_WORDS, of_model, count - 1, NULL, 0) == 8);
+        MUST(fk_table_enabled(table, tables, list, lists, variables, FK_VARIABLES, of_table, count - 1, other, 1) == 8);
+        MUST(other[0] == told[0] && other[1] == 99);
+    }
+    MUST(marked((uint8_t *)of_model, 0, sizeof of_model) && marked((uint8_t *)of_table, 0, sizeof of_table));
+    MUST(fk_model_enabled(words, FK_MODEL_WORDS, state, FK_STATE_WORDS, of_model, count, NULL, 0) == 0);
+    MUST(fk_table_enabled(table, tables, list, lists, variables, FK_VARIABLES, of_table, count + 1, other, 3) == 0);
+    MUST(memcmp(told, other, sizeof told) == 0 && memcmp(of_model, of_table, sizeof of_model) == 0);
+    MUST(marked((uint8_t *)of_table, 4 * count, sizeof of_table));
+    memset(of_table, MARK, sizeof of_table);
+    MUST(fk_table_enabled(table, tables, NULL, 0, variables, FK_VARIABLES, of_table, count, NULL, 0) == 0);
+    MUST(memcmp(of_model, of_table, sizeof of_model) == 0);
+    return told[0];
+}
+
+static void what_is_enabled(void)
+{
+    uint32_t state[FK_STATE_WORDS];
+    int32_t variables[FK_VARIABLES];
+    size_t told[2] = {99, 99}, most = 0;
+    fk_model_start(words, FK_MODEL_WORDS, state, FK_STATE_WORDS);
+    fk_table_start(table, tables, variables, FK_VARIABLES);
+    MUST(fk_model_enabled(words, FK_MODEL_WORDS, state, FK_STATE_WORDS - 1, NULL, 0, told, 2) == 8);
+    MUST(told[0] == 0 && told[1] == 0);
+    MUST(fk_table_enabled(table, tables, list, lists, variables, FK_VARIABLES - 1, NULL, 0, told, 2) == 8);
+    MUST(told[0] == 0 && told[1] == 0);
+    for (size_t at = 0; at < scripts;) {
+        size_t length = fk_event_length(script + at, scripts - at), count = list_of_both(state, variables);
+        most = count > most ? count : most;
+        fk_model_step(words, FK_MODEL_WORDS, state, FK_STATE_WORDS, script + at, length);
+        fk_table_step(table, tables, list, lists, variables, FK_VARIABLES, script + at, length);
+        at += length;
+    }
+    MUST(most > 1);
 }
 
 int main(int count, char **names)
@@ -123,11 +287,22 @@ int main(int count, char **names)
     size_t told[3];
     MUST(fk_translate(model, models, table, sizeof table, told, 3) == 0);
     tables = told[2];
+    lists = fk_table_index(table, tables, list, sizeof list / sizeof *list);
+    MUST(lists < sizeof list / sizeof *list);
     no_slices();
     told_places();
     room_for_a_table();
     room_for_a_listing();
     lent_variables();
+    for (size_t room = 0; room < 12; room++)
+        steps_by_an_index(room);
+    for (size_t less = 0; less < 4; less++)
+        steps_by_an_index(lists + 1 - less);
+    steps_by_any_numbers();
+    room_for_a_model();
+    lent_state();
+    shown_variables();
+    what_is_enabled();
     size_t end[4];
     MUST(fk_run_table(table, tables, script, scripts, end, 4) == 0 && end[2] > 0);
     puts("every promise held");

@@ -67,10 +67,25 @@ size_t fk_event_length(const uint8_t *script, size_t script_count);
  * places; refused, the variables are untouched, and so are places behind them always. */
 uint32_t fk_table_start(const uint8_t *table, size_t table_count, int32_t *variables, size_t variables_count);
 
+/* An index lists the rules of a table, so that a step need not walk it. Result: how many numbers list all rules. As many rules as the index has
+ * room for are listed, and a step by it walks the rest; what lies behind is untouched. Make it once, keep it beside the table, give both to
+ * each step. An index of any content does no harm: what does not fit the table is passed over, and rules that it leaves out are not found. */
+size_t fk_table_index(const uint8_t *table, size_t table_count, size_t *index, size_t index_count);
+
 /* One event on the variables, which go one event further. Result: 0, or 9 to 13, or 8 as above; refused, the variables are untouched. The
- * event is the bytes of one record, no more. The table is not read for faults again: give one that fk_read_table has accepted. (Other
- * bytes do no harm: their rules are run as far as they can be read.) */
-uint32_t fk_table_step(const uint8_t *table, size_t table_count, int32_t *variables, size_t variables_count, const uint8_t *event, size_t event_count);
+ * event is the bytes of one record, no more. The index is the table's own, of any length; without one (NULL, 0) the table is walked, with the
+ * same result. The table is not read for faults again: give one that fk_read_table has accepted. (Other bytes do no harm: their rules are
+ * run as far as they can be read.) */
+uint32_t fk_table_step(const uint8_t *table, size_t table_count, const size_t *index, size_t index_count, int32_t *variables,
+                       size_t variables_count, const uint8_t *event, size_t event_count);
+
+/* What is enabled with these variables: four numbers for each event, its kind, its id, and the shortest and longest length of a START (0 for
+ * other kinds), in the order of kind, then id. Result: 0, or 8 where the output has fewer than four places an event or there are fewer
+ * than FK_VARIABLES variables. Told: how many events; 1 where a TICK may pass, else 0. Both are told where the output alone is too short, so ask
+ * with none for the count; with too few variables both are 0. Refused, the output is untouched, and so are places behind the list always.
+ * Each enabled rule is listed: a table that no model made may list a kind and id twice, and then refuses that event with 12. */
+uint32_t fk_table_enabled(const uint8_t *table, size_t table_count, const size_t *index, size_t index_count, const int32_t *variables,
+                          size_t variables_count, uint32_t *output, size_t output_count, size_t *told, size_t told_count);
 
 /* One event of a model, after a whole script whose refused events are passed over. Result: the model's refusal, or 8 as above, the
  * variables then untouched; else the answer to the event, 0 or 9 to 11, and each variable has the value that it stands for in the state
@@ -78,6 +93,37 @@ uint32_t fk_table_step(const uint8_t *table, size_t table_count, int32_t *variab
  * after the script. */
 uint32_t fk_model_after(const uint8_t *model, size_t model_count, const uint8_t *script, size_t script_count, const uint8_t *event, size_t event_count,
                         int32_t *variables, size_t variables_count);
+
+/* A model stepped event by event: it is read once into numbers that the caller keeps, and its state is numbers of the caller too, to be copied,
+ * compared and gone back to at will; equal numbers are equal states. Numbers of any content do no harm: they stand for some model or state,
+ * and those that are too few are followed by zeros. The numbers of a model and of a state: */
+#define FK_MODEL_WORDS 3833
+#define FK_STATE_WORDS 278
+size_t fk_model_words(void);
+size_t fk_state_words(void);
+
+/* Reads a model into numbers. Result: 0, or the first refusal (1 to 7), or 8 where there are fewer than FK_MODEL_WORDS places, which are
+ * then untouched (the part is the empty one at the model's end). A refused model leaves numbers that stand for an empty one. Places behind
+ * FK_MODEL_WORDS are untouched always. Told: start, end. */
+uint32_t fk_model_read(const uint8_t *model, size_t model_count, uint32_t *words, size_t words_count, size_t *told, size_t told_count);
+
+/* The state before any event. Result: 0, or 8 where there are fewer than FK_STATE_WORDS places, which are then untouched, as are places
+ * behind them always. */
+uint32_t fk_model_start(const uint32_t *words, size_t words_count, uint32_t *state, size_t state_count);
+
+/* One event on the state, which goes one event further. Result: 0, or 9 to 11, or 8 as above; refused, the state is untouched. */
+uint32_t fk_model_step(const uint32_t *words, size_t words_count, uint32_t *state, size_t state_count, const uint8_t *event, size_t event_count);
+
+/* The variables of the model's table as the state has them: those that fk_model_after shows, and besides Due of threads in code 2, 3 and 4,
+ * and End of those in code 3. Result: 0, or 8 where there are fewer than FK_VARIABLES places; these are then untouched, and so are places
+ * behind them always. */
+uint32_t fk_model_variables(const uint32_t *words, size_t words_count, const uint32_t *state, size_t state_count, int32_t *variables,
+                            size_t variables_count);
+
+/* What is enabled in a state, as fk_table_enabled tells it; 8 too where there are fewer than FK_STATE_WORDS numbers of state, and then both told
+ * are 0. A model and its table list the same events after the same script: that is proved. */
+uint32_t fk_model_enabled(const uint32_t *words, size_t words_count, const uint32_t *state, size_t state_count, uint32_t *output,
+                          size_t output_count, size_t *told, size_t told_count);
 
 #ifdef __cplusplus
 }

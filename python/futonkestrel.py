@@ -8,6 +8,9 @@ bytes are accepted, or refused with a number and the part that it concerns.
     table = model.table()
     variables = table.start()
     table.step(variables, activate(0))
+    state = model.start()
+    for offer in model.enabled(state).events:
+        print(offer)
 
 python/build makes the shared object; the variable FUTONKESTREL_SO names another.
 """
@@ -17,13 +20,19 @@ import os
 from collections.abc import Callable, Iterator
 from dataclasses import dataclass
 from pathlib import Path
+from typing import Self
 
 __all__ = [
+    "Enabled",
     "LONGEST_MADE_TABLE",
     "MEANINGS",
+    "MODEL_WORDS",
     "Model",
+    "Offer",
     "Refusal",
     "Run",
+    "STATE_WORDS",
+    "State",
     "Table",
     "VARIABLES",
     "Variables",
@@ -46,6 +55,9 @@ __all__ = [
 VARIABLES = 288
 # No table made from a model is longer.
 LONGEST_MADE_TABLE = 394_304
+# How many numbers a model takes once it is read, and a state of it.
+MODEL_WORDS = 3833
+STATE_WORDS = 278
 
 # What each refusal means, and what to do about it.
 MEANINGS: dict[int, tuple[str, str]] = {
@@ -112,8 +124,10 @@ def _load() -> ctypes.CDLL:
     size, number = ctypes.c_size_t, ctypes.c_uint32
     given = [ctypes.c_char_p, size]
     written = [ctypes.POINTER(ctypes.c_uint8), size]
-    told = [ctypes.POINTER(size), size]
+    # Places for numbers, given or written.
+    told = index = [ctypes.POINTER(size), size]
     variables = [ctypes.POINTER(ctypes.c_int32), size]
+    words = [ctypes.POINTER(ctypes.c_uint32), size]
     for name, result, arguments in [
         ("fk_read_model", number, given + told),
         ("fk_read_table", number, given + told),
@@ -124,8 +138,17 @@ def _load() -> ctypes.CDLL:
         ("fk_run_table", number, given + given + told),
         ("fk_event_length", size, given),
         ("fk_table_start", number, given + variables),
-        ("fk_table_step", number, given + variables + given),
+        ("fk_table_index", size, given + index),
+        ("fk_table_step", number, given + index + variables + given),
+        ("fk_table_enabled", number, given + index + variables + words + told),
         ("fk_model_after", number, given + given + given + variables),
+        ("fk_model_words", size, []),
+        ("fk_state_words", size, []),
+        ("fk_model_read", number, given + words + told),
+        ("fk_model_start", number, words + words),
+        ("fk_model_step", number, words + words + given),
+        ("fk_model_variables", number, words + words + variables),
+        ("fk_model_enabled", number, words + words + words + told),
     ]:
         function = getattr(library, name)
         function.restype = result
@@ -162,13 +185,64 @@ class Run:
     clock: int
 
 
-class Variables:
-    """The state of a table. Variable 0 is the clock."""
+@dataclass(frozen=True)
+class Offer:
+    """An enabled event."""
+
+    kind: int
+    # The thread, or the mode transition of the kinds from 8 on.
+    id: int
+    # The shortest and the longest length of a START; 0 for other kinds.
+    low: int
+    high: int
+
+    def event(self, length: int | None = None) -> bytes:
+        """The event; a START has this length, or its shortest."""
+        if self.kind == _START:
+            return start(self.id, self.low if length is None else length)
+        return bytes([self.kind, self.id])
+
+
+@dataclass(frozen=True)
+class Enabled:
+    """What can happen next."""
+
+    # The enabled events by kind, then by id.
+    events: tuple[Offer, ...]
+    # Whether a TICK may pass.
+    tick: bool
+
+
+class _Numbers:
+    """Numbers that the library changes in place."""
 
     __slots__ = ("_values",)
+    _sort: type = ctypes.c_uint32 * 0
 
     def __init__(self) -> None:
-        self._values = (ctypes.c_int32 * VARIABLES)()
+        self._values = self._sort()
+
+    def __bytes__(self) -> bytes:
+        """Equal for equal states: a key for those that were seen."""
+        return bytes(self._values)
+
+    def __eq__(self, other: object) -> bool:
+        return type(self) is type(other) and bytes(self) == bytes(other)
+
+    # They change from step to step: keep bytes(...) in sets.
+    __hash__ = None  # type: ignore[assignment]
+
+    def copy(self) -> Self:
+        copied = type(self)()
+        ctypes.memmove(copied._values, self._values, ctypes.sizeof(self._values))
+        return copied
+
+
+class Variables(_Numbers):
+    """The state of a table. Variable 0 is the clock."""
+
+    __slots__ = ()
+    _sort = ctypes.c_int32 * VARIABLES
 
     def __getitem__(self, variable: int) -> int:
         return self._values[variable]
@@ -179,27 +253,39 @@ class Variables:
     def __len__(self) -> int:
         return VARIABLES
 
-    def __bytes__(self) -> bytes:
-        """Equal for equal states: a key for those that were seen."""
-        return bytes(self._values)
 
-    def __eq__(self, other: object) -> bool:
-        return isinstance(other, Variables) and bytes(self) == bytes(other)
+class State(_Numbers):
+    """The state of a model. Model.variables shows what it holds."""
 
-    # It changes from step to step: keep bytes(variables) in sets.
-    __hash__ = None  # type: ignore[assignment]
-
-    def copy(self) -> "Variables":
-        copied = Variables()
-        ctypes.memmove(copied._values, self._values, ctypes.sizeof(self._values))
-        return copied
+    __slots__ = ()
+    _sort = ctypes.c_uint32 * STATE_WORDS
 
 
 _Places = ctypes.Array[ctypes.c_size_t]
+_Words = ctypes.Array[ctypes.c_uint32]
+
+# The kind of event that chooses a length, and the numbers listed for an event.
+_START = 0x04
+_PER_EVENT = 4
 
 
 def _places(count: int) -> _Places:
     return (ctypes.c_size_t * count)()
+
+
+def _words(count: int) -> _Words:
+    return (ctypes.c_uint32 * count)()
+
+
+def _enabled(listed: Callable[[_Words, _Places], int]) -> Enabled:
+    """Asks with room for the usual, and again where more is told."""
+    output, told = _words(32 * _PER_EVENT), _places(2)
+    if listed(output, told):
+        output = _words(told[0] * _PER_EVENT)
+        listed(output, told)
+    numbers = output[: told[0] * _PER_EVENT]
+    fields = [numbers[place::_PER_EVENT] for place in range(_PER_EVENT)]
+    return Enabled(tuple(map(Offer, *fields)), told[1] == 1)
 
 
 def _run(number: int, told: _Places) -> Run:
@@ -216,16 +302,23 @@ def _listing(function: Callable[..., int], item: bytes, script: bytes) -> str:
     return bytes(output).decode("ascii")
 
 
+def _raise_unless_taken(number: int, event: bytes) -> None:
+    if number:
+        raise Refusal(number, 0, len(event))
+
+
 class Model:
-    """An accepted model."""
+    """An accepted model, to be run as a whole, or event by event on states that the
+    caller keeps."""
 
     def __init__(self, data: bytes) -> None:
         """Raises Refusal where the model is refused."""
-        told = _places(2)
-        number = _library.fk_read_model(data, len(data), told, len(told))
+        words, told = _words(MODEL_WORDS), _places(2)
+        number = _library.fk_model_read(data, len(data), words, len(words), told, len(told))
         if number:
             raise Refusal(number, *told)
         self.data = data
+        self._words = words
 
     def table(self) -> "Table":
         """The table made from it, which takes the same events."""
@@ -248,6 +341,41 @@ class Model:
     def listing(self, script: bytes) -> str:
         """The lines of such a run."""
         return _listing(_library.fk_model_listing, self.data, script)
+
+    def start(self) -> State:
+        """The state before any event."""
+        state = State()
+        _library.fk_model_start(self._words, MODEL_WORDS, state._values, STATE_WORDS)
+        return state
+
+    def answer(self, state: State, event: bytes) -> int:
+        """Gives one event: 0, or the number of its refusal, which leaves the state as
+        it was."""
+        return _library.fk_model_step(
+            self._words, MODEL_WORDS, state._values, STATE_WORDS, event, len(event)
+        )
+
+    def step(self, state: State, event: bytes) -> None:
+        """The same, raising Refusal; its part is the event."""
+        _raise_unless_taken(self.answer(state, event), event)
+
+    def variables(self, state: State) -> Variables:
+        """What the table's variables stand for in a state: Due of threads with a job in
+        hand, End of those that run, and 0 there of all others."""
+        variables = Variables()
+        _library.fk_model_variables(
+            self._words, MODEL_WORDS, state._values, STATE_WORDS, variables._values, VARIABLES
+        )
+        return variables
+
+    def enabled(self, state: State) -> Enabled:
+        """What is enabled; the table offers the same."""
+        given = (self._words, MODEL_WORDS, state._values, STATE_WORDS)
+        return _enabled(
+            lambda output, told: _library.fk_model_enabled(
+                *given, output, len(output), told, len(told)
+            )
+        )
 
     def after(self, script: bytes, event: bytes = b"") -> tuple[int, Variables]:
         """Runs a script, going on after refused events, then gives an event to the
@@ -277,6 +405,9 @@ class Table:
         if number:
             raise Refusal(number, *told)
         self.data = data
+        # Made once, so that no step walks the table.
+        self._index = _places(_library.fk_table_index(data, len(data), None, 0))
+        _library.fk_table_index(data, len(data), self._index, len(self._index))
 
     def start(self) -> Variables:
         """The variables before any event."""
@@ -288,14 +419,29 @@ class Table:
         """Gives one event: 0, or the number of its refusal, which leaves the variables
         as they were."""
         return _library.fk_table_step(
-            self.data, len(self.data), variables._values, VARIABLES, event, len(event)
+            self.data,
+            len(self.data),
+            self._index,
+            len(self._index),
+            variables._values,
+            VARIABLES,
+            event,
+            len(event),
         )
 
     def step(self, variables: Variables, event: bytes) -> None:
         """The same, raising Refusal; its part is the event."""
-        number = self.answer(variables, event)
-        if number:
-            raise Refusal(number, 0, len(event))
+        _raise_unless_taken(self.answer(variables, event), event)
+
+    def enabled(self, variables: Variables) -> Enabled:
+        """What is enabled. A table that no model made may offer a kind and id more than
+        once; such an event is refused with 12."""
+        given = (self.data, len(self.data), self._index, len(self._index))
+        return _enabled(
+            lambda output, told: _library.fk_table_enabled(
+                *given, variables._values, VARIABLES, output, len(output), told, len(told)
+            )
+        )
 
     def run(self, script: bytes) -> Run:
         """Runs a script from the start up to the first refused event."""

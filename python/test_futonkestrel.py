@@ -49,6 +49,75 @@ class Examples(unittest.TestCase):
         self.assertEqual(variables[0], 62)
 
 
+class SideBySide(unittest.TestCase):
+    """A model on a state and its table on variables."""
+
+    def test_the_same_is_enabled_and_shown(self) -> None:
+        for name in ["lesson", "m"]:
+            model = fk.Model(example(f"{name}/model.bin"))
+            table = model.table()
+            state, variables = model.start(), table.start()
+            for event in fk.events(example(f"{name}/script.bin")):
+                enabled = model.enabled(state)
+                self.assertEqual(enabled, table.enabled(variables))
+                kinds = {(offer.kind, offer.id) for offer in enabled.events}
+                is_tick = event[0] == 0x0B
+                self.assertTrue(enabled.tick if is_tick else (event[0], event[1]) in kinds)
+                model.step(state, event)
+                table.step(variables, event)
+                shown = model.variables(state)
+                for number in range(fk.VARIABLES):
+                    if number not in range(64, 96) or shown[number]:
+                        self.assertEqual(shown[number], variables[number], number)
+
+    def test_due_and_end_of_a_job(self) -> None:
+        model, script = fk.Model(example("m/model.bin")), example("m/script.bin")
+        state, shown = model.start(), []
+        for event in fk.events(script):
+            model.step(state, event)
+            variables = model.variables(state)
+            shown.append((variables[64], variables[80]))
+        self.assertEqual(shown, [(0, 0), (4, 0), (4, 2), (4, 2), (4, 0), (4, 0), (0, 0)])
+
+    def test_states_are_kept_and_gone_back_to(self) -> None:
+        model = fk.Model(example("m/model.bin"))
+        state = model.start()
+        kept = state.copy()
+        self.assertEqual(model.answer(state, fk.dispatch(0)), 10)
+        self.assertEqual(model.answer(state, b""), 9)
+        with self.assertRaises(fk.Refusal) as caught:
+            model.step(state, fk.start(0, 6))
+        self.assertEqual((caught.exception.number, caught.exception.end), (10, 6))
+        self.assertEqual(state, kept)
+        model.step(state, fk.activate(0))
+        self.assertNotEqual(bytes(state), bytes(kept))
+        model.step(kept, fk.activate(0))
+        self.assertEqual(state, kept)
+        self.assertNotEqual(model.start(), model.variables(model.start()))
+
+    def test_offers(self) -> None:
+        model = fk.Model(example("m/model.bin"))
+        state = model.start()
+        self.assertEqual(model.enabled(state), fk.Enabled((fk.Offer(1, 0, 0, 0),), False))
+        model.step(state, fk.activate(0))
+        model.step(state, fk.dispatch(0))
+        [offer] = model.enabled(state).events
+        self.assertEqual(offer, fk.Offer(4, 0, 1, 5))
+        self.assertEqual((offer.event(), offer.event(3)), (fk.start(0, 1), fk.start(0, 3)))
+        model.step(state, offer.event(5))
+        self.assertEqual(model.enabled(state), fk.Enabled((), True))
+
+    def test_many_rules_are_enabled(self) -> None:
+        # Rules without clauses always hold; of two for one event it is refused.
+        rules = [bytes([0x21, 0x08, number]) + bytes(8) for number in range(100)]
+        table = fk.Table(b"".join(reversed(rules)) + rules[0])
+        variables = table.start()
+        numbers = [offer.id for offer in table.enabled(variables).events]
+        self.assertEqual(numbers, [0, *range(100)])
+        self.assertEqual(table.answer(variables, fk.request(0)), 12)
+        self.assertEqual(table.answer(variables, fk.request(1)), 0)
+
+
 class Refusals(unittest.TestCase):
     def test_of_models_and_tables(self) -> None:
         for sort, data, number, part in [
@@ -87,14 +156,15 @@ class Library(unittest.TestCase):
     def test_every_function_of_the_header_has_types(self) -> None:
         header = (ROOT / "c/futonkestrel.h").read_text()
         functions = re.findall(r"^\w+ (fk_\w+)\(([^;]*)\);", header, re.MULTILINE)
-        self.assertGreater(len(functions), 8)
+        self.assertGreater(len(functions), 16)
         for name, arguments in functions:
             function = getattr(fk._library, name)
             self.assertIsNotNone(function.argtypes, name)
-            self.assertEqual(len(function.argtypes), len(arguments.split(",")), name)
+            wanted = [] if arguments == "void" else arguments.split(",")
+            self.assertEqual(len(function.argtypes), len(wanted), name)
 
     def test_every_function_of_the_module_has_types(self) -> None:
-        sorts = [fk.Model, fk.Table, fk.Refusal, fk.Variables]
+        sorts = [fk.Model, fk.Table, fk.Refusal, fk.Variables, fk.State]
         functions = inspect.getmembers(fk, inspect.isfunction)
         for sort in sorts:
             functions += inspect.getmembers(sort, inspect.isfunction)
@@ -112,6 +182,10 @@ class Library(unittest.TestCase):
         constants = dict(re.findall(r"^#define FK_(\w+) (\d+)$", header, re.MULTILINE))
         self.assertEqual(int(constants["VARIABLES"]), fk.VARIABLES)
         self.assertEqual(int(constants["LONGEST_MADE_TABLE"]), fk.LONGEST_MADE_TABLE)
+        self.assertEqual(int(constants["MODEL_WORDS"]), fk.MODEL_WORDS)
+        self.assertEqual(int(constants["STATE_WORDS"]), fk.STATE_WORDS)
+        self.assertEqual(fk._library.fk_model_words(), fk.MODEL_WORDS)
+        self.assertEqual(fk._library.fk_state_words(), fk.STATE_WORDS)
 
     def test_variables(self) -> None:
         variables = fk.Variables()
@@ -138,7 +212,7 @@ class Wandering(unittest.TestCase):
     def test_a_miss_is_found_and_replayed(self) -> None:
         for name in ["lesson", "m"]:
             model = fk.Model(example(f"{name}/model.bin"))
-            script = wander.wander(model.table(), 10_000, random.Random(1))
+            script = wander.wander(model, 10_000, random.Random(1))
             self.assertIsNotNone(script)
             lines = model.listing(script).splitlines()
             self.assertEqual(lines[-2].split()[2], "7")

@@ -9,19 +9,22 @@ from pathlib import Path
 import futonkestrel as fk
 
 MISSED, THREADS = 112, 16  # the variables of all threads that count misses
-KINDS = [fk.activate, fk.deactivate, fk.dispatch, fk.complete, fk.deadline, fk.miss, fk.request, fk.enter, fk.leave]
 
 
-def wander(table: fk.Table, steps: int, chance: random.Random) -> bytes | None:
-    variables, script = table.start(), b""
-    fixed = [kind(item) for kind in KINDS for item in range(THREADS)] + [fk.tick(1)]
+def wander(model: fk.Model, steps: int, chance: random.Random) -> bytes | None:
+    state, script = model.start(), b""
     for _ in range(steps):
-        starts = [fk.start(thread, chance.randint(1, 20)) for thread in range(THREADS)]
-        before = bytes(variables)
-        for event in chance.sample(fixed + starts, len(fixed + starts)):
-            if table.answer(variables, event) == 0 and bytes(variables) != before:
-                script += event
-                break
+        enabled = model.enabled(state)
+        events = [offer.event(chance.randint(offer.low, offer.high)) for offer in enabled.events]
+        if enabled.tick:
+            events.append(fk.tick(1))
+        event = chance.choice(events)
+        before = bytes(state)
+        model.step(state, event)
+        # A REQUEST that is taken without effect leads nowhere.
+        if bytes(state) != before:
+            script += event
+        variables = model.variables(state)
         if any(variables[MISSED + thread] for thread in range(THREADS)):
             return script
     return None
@@ -30,7 +33,7 @@ def wander(table: fk.Table, steps: int, chance: random.Random) -> bytes | None:
 if __name__ == "__main__":
     model, out, *figures = sys.argv[1:]
     steps, seed = (list(map(int, figures)) + [10_000, 1][len(figures) :])
-    found = wander(fk.Model(Path(model).read_bytes()).table(), steps, random.Random(seed))
+    found = wander(fk.Model(Path(model).read_bytes()), steps, random.Random(seed))
     if found is None:
         sys.exit(f"no deadline is missed within {steps} steps")
     Path(out).write_bytes(found)

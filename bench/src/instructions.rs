@@ -84,7 +84,7 @@ pub fn report(text: &str) -> Result<(), String> {
     let lines = String::from_utf8_lossy(&counted.stdout).into_owned();
     let lines: Vec<&str> = lines.lines().collect();
     print!(
-        "{:<36} {:>12} {:>12} {:>8}",
+        "{:<40} {:>12} {:>12} {:>8}",
         "instructions of one unit", "ours", "plain", "ratio"
     );
     println!(" {:>12} {:>8}  profiles", "limit", "of it");
@@ -114,7 +114,7 @@ fn print_line(counts: &[Count], first: usize) {
         .collect();
     let (ours, plain) = (sides[0], sides[1]);
     print!(
-        "{:<36} {ours:>12.1} {plain:>12.1} {:>8.3}",
+        "{:<40} {ours:>12.1} {plain:>12.1} {:>8.3}",
         counts[0].name,
         plain / ours
     );

@@ -10,11 +10,9 @@ use plain::table::variable::{due, NOW};
 use crate::limit::{self, Event, Lines, Machine, Model, Scratch, State, Table, TAKEN};
 use crate::measure::Work;
 use crate::scripts::Script;
+use crate::stepped_work::without_idle_dues;
 use crate::subjects::Pair;
-use crate::work::{done_bytes, done_run, done_steps, with, Unit};
-
-/// The most threads of a model.
-const THREADS: usize = 16;
+use crate::work::{done_bytes, done_run, done_steps, with, Unit, THREADS};
 
 fn decoded_model(pair: &Pair) -> Model {
     Model::decode(&plain::model::read(&pair.model).expect("accepted"))
@@ -57,6 +55,18 @@ pub fn table_steps(pair: &Pair, script: &Rc<Script>) -> Work {
         let (taken, answer) = limit::run(black_box(script.first(size)), step, |_| {});
         assert_eq!(answer, TAKEN, "all events are taken");
         done_steps(taken as u64, &variables)
+    })
+}
+
+/// The state is the caller's, and keeps the instant to which time may leap.
+pub fn model_steps(pair: &Pair, script: &Rc<Script>) -> Work {
+    let input = (decoded_model(pair), script.clone());
+    with(input, |(model, script), size| {
+        let mut state = State::start(black_box(model));
+        let step = |event: &Event| state.step(black_box(model), event);
+        let (taken, answer) = limit::run(black_box(script.first(size)), step, |_| {});
+        assert_eq!(answer, TAKEN, "all events are taken");
+        done_steps(taken as u64, &without_idle_dues(&state.show(model)))
     })
 }
 

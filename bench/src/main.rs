@@ -14,6 +14,7 @@ mod measure;
 mod models;
 mod scripts;
 mod speeds;
+mod stepped_work;
 mod subjects;
 mod work;
 

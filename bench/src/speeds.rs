@@ -42,7 +42,7 @@ pub fn measure(name: &str) {
 /// Prints the speeds of all measurements whose name has a text.
 pub fn report(text: &str) -> Result<(), String> {
     println!(
-        "{:<36} {:>11} {:>11} {:>7} {:>5}  {:<5}  {:>13}  {:>11} {:>6}  {:<5}  {:>11}",
+        "{:<40} {:>11} {:>11} {:>7} {:>5}  {:<5}  {:>13}  {:>11} {:>6}  {:<5}  {:>11}",
         "measurement",
         "ours/s",
         "plain/s",
@@ -142,7 +142,7 @@ impl Speeds {
         let [our_part, plain_part] = self.reading;
         let ratios = format!("{least:.3} {greatest:.3}");
         format!(
-            "{name:<36} {:>11.0} {:>11.0} {:>7.3} {goal:>5}  {word:<5}  {ratios:>13}  {}  \
+            "{name:<40} {:>11.0} {:>11.0} {:>7.3} {goal:>5}  {word:<5}  {ratios:>13}  {}  \
              {our_part:>4.1}% {plain_part:>4.1}%  {}",
             self.ours,
             self.plain,

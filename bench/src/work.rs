@@ -13,13 +13,17 @@ use plain::table::variable::NOW;
 use crate::limit_work;
 use crate::measure::{Done, Measurement, Work};
 use crate::scripts::Script;
+use crate::stepped_work;
 use crate::subjects::{Amounts, Pair, Subject};
 
 /// Speeds are to be at least so many times those of the plain model.
-const MODEL_GOAL: Option<f64> = Some(0.5);
-const TABLE_GOAL: Option<f64> = Some(1.0);
+pub const MODEL_GOAL: Option<f64> = Some(0.5);
+pub const TABLE_GOAL: Option<f64> = Some(1.0);
 const TRANSLATION_GOAL: Option<f64> = Some(0.5);
 const NO_GOAL: Option<f64> = None;
+
+/// The most threads of a model.
+pub const THREADS: usize = 16;
 
 /// The names that have a text; only one where it is the whole name.
 pub fn names(text: &str) -> Vec<String> {
@@ -66,7 +70,7 @@ const SUBJECTS: [(&str, Make); 4] = [
 /// Makes a measurement of that name.
 type Measure = fn(&Subject, String) -> Measurement;
 
-const MEASUREMENTS: [(&str, Measure); 12] = [
+const MEASUREMENTS: [(&str, Measure); 16] = [
     ("model events", |subject, name| {
         model_run(name, &subject.quick, subject.events(), Unit::Event)
     }),
@@ -88,6 +92,18 @@ const MEASUREMENTS: [(&str, Measure); 12] = [
     ("table steps", |subject, name| {
         table_steps(name, &subject.quick, subject.events())
     }),
+    ("table steps by an index", |subject, name| {
+        stepped_work::table_steps_by_index(name, &subject.quick, subject.events())
+    }),
+    ("model steps on lent state", |subject, name| {
+        stepped_work::model_steps(name, &subject.quick, subject.events())
+    }),
+    ("model enabled", |subject, name| {
+        stepped_work::model_enabled(name, &subject.quick, subject.events())
+    }),
+    ("table enabled", |subject, name| {
+        stepped_work::table_enabled(name, &subject.quick, subject.events())
+    }),
     ("translations", |subject, name| {
         translation(name, &subject.quick)
     }),
@@ -98,7 +114,7 @@ const MEASUREMENTS: [(&str, Measure); 12] = [
         table_listing(name, &subject.quick, subject.events())
     }),
     ("models read", |subject, name| {
-        model_reading(name, &subject.quick)
+        model_reader(name, &subject.quick)
     }),
     ("tables read", |subject, name| {
         table_reading(name, &subject.quick)
@@ -156,7 +172,8 @@ fn table_run(name: String, pair: &Pair, script: &Rc<Script>, unit: Unit) -> Meas
     }
 }
 
-/// The table is read before; the caller keeps the variables.
+/// The table is read before; the caller keeps the variables, and no index: each
+/// step walks the table.
 fn table_steps(name: String, pair: &Pair, script: &Rc<Script>) -> Measurement {
     let mut start = [0; futonkestrel::VARIABLES];
     assert_eq!(raw::table_start(&pair.table, &mut start), 0);
@@ -165,14 +182,23 @@ fn table_steps(name: String, pair: &Pair, script: &Rc<Script>) -> Measurement {
         let mut variables = start;
         let mut taken = 0;
         for event in futonkestrel::events(black_box(script.first(size))) {
-            let answer = raw::table_step(black_box(table), &mut variables, event);
+            let answer = raw::table_step(black_box(table), &[], &mut variables, event);
             assert_eq!(answer, 0, "all events are taken");
             taken += 1;
         }
         done_steps(taken, &variables)
     });
+    let plain = plain_table_steps(pair, script);
+    Measurement {
+        limit: Some(limit_work::table_steps(pair, script)),
+        ..measurement(name, pair, NO_GOAL, script.events(), ours, plain)
+    }
+}
+
+/// The plain model's steps of a table that is read before.
+pub fn plain_table_steps(pair: &Pair, script: &Rc<Script>) -> Work {
     let read = plain::table::read(&pair.table).expect("accepted");
-    let plain = with((read, script.clone()), |(table, script), size| {
+    with((read, script.clone()), |(table, script), size| {
         let mut variables = plain::table::start_state(black_box(table));
         let script = black_box(script.first(size));
         let mut taken = 0;
@@ -185,11 +211,7 @@ fn table_steps(name: String, pair: &Pair, script: &Rc<Script>) -> Measurement {
             at = end;
         }
         done_steps(taken, &variables)
-    });
-    Measurement {
-        limit: Some(limit_work::table_steps(pair, script)),
-        ..measurement(name, pair, TABLE_GOAL, script.events(), ours, plain)
-    }
+    })
 }
 
 /// The output has room for any table.
@@ -260,7 +282,7 @@ fn table_listing(name: String, pair: &Pair, script: &Rc<Script>) -> Measurement 
     }
 }
 
-fn model_reading(name: String, pair: &Pair) -> Measurement {
+fn model_reader(name: String, pair: &Pair) -> Measurement {
     let model = pair.model.clone();
     let ours = with(model.clone(), |model, size| {
         let read = |_| futonkestrel::read_model(black_box(model)).is_ok();
@@ -286,7 +308,7 @@ fn table_reading(name: String, pair: &Pair) -> Measurement {
     measurement(name, pair, NO_GOAL, usize::MAX, ours, plain)
 }
 
-fn measurement(
+pub fn measurement(
     name: String,
     pair: &Pair,
     goal: Option<f64>,

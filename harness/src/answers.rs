@@ -4,6 +4,8 @@ use std::fmt::{self, Display, Formatter};
 
 pub use futonkestrel::{Variables, VARIABLES};
 
+use crate::lending::Lending;
+
 /// A refusal's number, 0 for none, and its part.
 #[derive(Clone, Copy, Debug, Default, PartialEq, Eq)]
 pub struct Told {
@@ -23,6 +25,36 @@ pub struct Said {
     pub run: Run,
     /// The same listing into outputs of several lengths.
     pub listings: Vec<Listing>,
+    /// What is enabled at the start and after each step.
+    pub offers: Vec<Offers>,
+    /// The variables as a lent state of a model shows them, there too.
+    pub shown: Vec<Variables>,
+}
+
+/// What is enabled: kind, id, shortest and longest length of each event; and
+/// whether a TICK may pass.
+#[derive(Clone, Debug, PartialEq, Eq)]
+pub struct Offers {
+    pub events: Vec<[u32; 4]>,
+    pub tick: bool,
+}
+
+/// The same as the library lists it: into no room, perhaps into one place too
+/// few, and into more than enough, each with what is told and a place behind.
+#[derive(Clone, Debug, PartialEq, Eq)]
+pub struct Listed {
+    pub rooms: Vec<(Lending<u32>, [usize; 3])>,
+}
+
+impl Listed {
+    /// The list in the last room, as far as it goes.
+    pub fn events(&self) -> Vec<[u32; 4]> {
+        let (whole, [count, ..]) = self.rooms.last().expect("there is a room");
+        let numbers = whole.after.chunks_exact(4).take(*count);
+        numbers
+            .map(|numbers| numbers.try_into().expect("four"))
+            .collect()
+    }
 }
 
 /// One event of a script.

@@ -26,6 +26,20 @@ pub struct Case {
     pub lent_to_table: Vec<Lent>,
     /// Whether calls are tried with outputs of further lengths.
     pub more_rooms: bool,
+    /// Numbers of the model as read, and of its state at the end, that are others.
+    pub spoils: Vec<Spoil>,
+    /// Room for an index that lists few rules.
+    pub short_index: usize,
+    /// An index that no table has.
+    pub any_index: Vec<usize>,
+}
+
+/// A number of a model or of a state that is another; the place is cut to those
+/// that there are.
+pub struct Spoil {
+    pub of_model: bool,
+    pub place: usize,
+    pub number: u32,
 }
 
 /// Variables to be lent, and an event for them.
@@ -56,6 +70,9 @@ impl Case {
             lent_to_made,
             lent_to_table,
             more_rooms: random.chance(25),
+            spoils: spoils(random),
+            short_index: random.one_of(&[1, 2, 3, 4, 5, 6, 10, 17, 40]),
+            any_index: any_index(random),
         }
     }
 }
@@ -128,6 +145,50 @@ fn any_variables(random: &mut Random) -> Variables {
         i32::MIN,
     ]);
     variables
+}
+
+/// Mostly of the state, now and then of the model.
+fn spoils(random: &mut Random) -> Vec<Spoil> {
+    let few = random.one_of(&[1, 2, 4, 20, 300]);
+    let models = random.one_of(&[0, 0, 2, 30]);
+    (0..few)
+        .map(|_| Spoil {
+            of_model: random.chance(models),
+            // Counts and clock stand in front.
+            place: match random.below(3) {
+                0 => random.below(9),
+                1 => random.below(130),
+                _ => random.below(10_000),
+            },
+            number: match random.below(4) {
+                0 => random.below(6) as u32,
+                1 => random.one_of(&[255, 256, 999_999_999, 1_000_000_000, 1_000_000_001]),
+                2 => random.value() as u32,
+                _ => random.one_of(&[u32::MAX, 1 << 31, 65_536, 1_000_000]),
+            },
+        })
+        .collect()
+}
+
+/// Numbers of all sizes; the first two, which may count and point, often small.
+fn any_index(random: &mut Random) -> Vec<usize> {
+    let count = random.one_of(&[1, 2, 3, 4, 7, 30]);
+    let mut index: Vec<usize> = (0..count)
+        .map(|_| match random.below(5) {
+            0 => random.below(400),
+            1 => random.below(400) << 16,
+            2 => (random.below(400) << 16) + (random.below(11) << 8) + random.below(3),
+            3 => (random.below(300) << 32) + random.below(5),
+            _ => usize::MAX - random.below(3),
+        })
+        .collect();
+    if random.chance(70) {
+        index[0] = random.below(20);
+    }
+    if count > 1 && random.chance(70) {
+        index[1] = random.below(400);
+    }
+    index
 }
 
 /// Kind and id of each rule, as far as the records are whole.

@@ -3,9 +3,10 @@
 
 use plain::table;
 
-use crate::answers::{After, Listing, Said, Translation};
+use crate::answers::{After, Listed, Listing, Said, Translation, Variables};
 use crate::case::{Case, Lent};
 use crate::compare::{self, Check};
+use crate::stepped::{self, StateWalk};
 use crate::tally::Tally;
 use crate::{found, wanted};
 
@@ -22,9 +23,9 @@ pub fn check(case: &Case, tally: &mut Tally) -> Vec<Difference> {
         differences: Vec::new(),
     };
     checker.tally.cases += 1;
-    let of_model = checker.model(case);
+    let (of_model, on_state) = checker.model(case);
     if let Some(made) = checker.translation(case) {
-        checker.made_table(case, &made, &of_model);
+        checker.made_table(case, &made, &of_model, &on_state);
     }
     checker.table(case);
     checker.differences
@@ -43,8 +44,9 @@ impl Checker<'_> {
         }
     }
 
-    /// The model and its script. The result is what the library says.
-    fn model(&mut self, case: &Case) -> Said {
+    /// The model and its script. The result is what the library says, of the
+    /// whole script and event by event.
+    fn model(&mut self, case: &Case) -> (Said, StateWalk) {
         let wanted = wanted::of_model(&case.model, &case.script, case.more_rooms);
         let found = found::of_model(&case.model, &case.script, &rooms(&wanted));
         self.tally.note_model(case, &wanted);
@@ -68,6 +70,30 @@ impl Checker<'_> {
             compare::listing(&wanted.listings, &found.listings),
         );
         self.note("listing_room", compare::listing_room(&found.listings));
+        (found, self.on_state(case, &wanted))
+    }
+
+    /// The model on a state that is lent, through the whole script; then on
+    /// numbers of any content.
+    fn on_state(&mut self, case: &Case, wanted: &Said) -> StateWalk {
+        let found = stepped::on_state(&case.model, &case.script, case.more_rooms);
+        self.note("state_reading", compare::reading(&wanted.read, &found.read));
+        let steps = (&wanted.steps, &found.steps);
+        self.note("state_answers", compare::answers(steps.0, steps.1));
+        let shown = compare::shown(&wanted.shown, &found.shown);
+        self.note("state_variables", shown);
+        let kept = compare::lendings(&found.lendings);
+        let room = kept.and_then(|()| compare::short(&found.short));
+        self.note("state_room", room);
+        self.tally.note_offers_of_model(&wanted.offers);
+        let enabled = compare::enabled(&wanted.offers, &found.offers);
+        self.note("model_enabled", enabled);
+        self.note("enabled_room", compare::enabled_room(&found.offers));
+        if found.read.number == 0 {
+            let event = futonkestrel::events(&case.script).next();
+            let any = stepped::any_state(&found, &case.spoils, event.unwrap_or_default());
+            self.note("any_state", compare::any_state(&any));
+        }
         found
     }
 
@@ -101,7 +127,7 @@ impl Checker<'_> {
 
     /// The table that the library made, against the plain model and against the
     /// model's run.
-    fn made_table(&mut self, case: &Case, made: &[u8], of_model: &Said) {
+    fn made_table(&mut self, case: &Case, made: &[u8], of_model: &Said, on_state: &StateWalk) {
         let wanted = if case.more_rooms {
             wanted::of_rules(made, &case.model, &case.script, true)
         } else {
@@ -109,7 +135,10 @@ impl Checker<'_> {
         };
         let found = found::of_table(made, &case.script, &rooms(&wanted));
         self.table_comparisons(&wanted, &found);
-        self.lent_steps(made, &case.lent_to_made);
+        let offers = self.by_index(case, made, &case.script, &wanted, &found);
+        let alike = compare::enabled_alike(&on_state.offers, &offers);
+        self.note("enabled_alike", alike);
+        self.lent_steps(case, made, &case.lent_to_made);
         let agree = compare::demand_three(&case.model, &case.script, of_model, &found);
         self.note("demand_three", agree);
     }
@@ -120,7 +149,45 @@ impl Checker<'_> {
         let found = found::of_table(&case.table, &case.table_script, &rooms(&wanted));
         self.tally.note_table(case, &wanted);
         self.table_comparisons(&wanted, &found);
-        self.lent_steps(&case.table, &case.lent_to_table);
+        self.tally.note_offers_of_table(&wanted.offers);
+        self.by_index(case, &case.table, &case.table_script, &wanted, &found);
+        self.lent_steps(case, &case.table, &case.lent_to_table);
+    }
+
+    /// A table by its index, whole and short, through the whole script. The result
+    /// is what it offers along the way.
+    fn by_index(
+        &mut self,
+        case: &Case,
+        table: &[u8],
+        script: &[u8],
+        wanted: &Said,
+        found: &Said,
+    ) -> Vec<Listed> {
+        let size = stepped::index_size(table);
+        let indexes = stepped::indexes(table, &[size + 3, case.short_index, size, 0]);
+        self.note("index_room", compare::index_room(&indexes));
+        let (whole, short) = (&indexes[2].1, &indexes[1].1);
+        for index in [whole, short] {
+            let steps = match wanted.read.number {
+                0 => found::table_steps(table, index, &found.start.variables, script),
+                _ => Vec::new(),
+            };
+            let (wanted, found) = (&wanted.steps, &steps);
+            self.note("indexed_answers", compare::answers(wanted, found));
+            self.note("indexed_variables", compare::variables(wanted, found));
+        }
+        let offers: Vec<Listed> = stages(found)
+            .zip([whole, short, &Vec::new()].iter().cycle())
+            .map(|(variables, index)| {
+                stepped::table_offers(table, index, variables, case.more_rooms)
+            })
+            .take(wanted.offers.len())
+            .collect();
+        let enabled = compare::enabled(&wanted.offers, &offers);
+        self.note("table_enabled", enabled);
+        self.note("enabled_room", compare::enabled_room(&offers));
+        offers
     }
 
     fn table_comparisons(&mut self, wanted: &Said, found: &Said) {
@@ -142,9 +209,10 @@ impl Checker<'_> {
         self.note("listing_room", compare::listing_room(&found.listings));
     }
 
-    /// Single steps on variables that no run need have led to.
-    fn lent_steps(&mut self, bytes: &[u8], lent: &[Lent]) {
-        let found = |lent: &Lent| found::lent_step(bytes, &lent.variables, &lent.event);
+    /// Single steps on variables that no run need have led to, and what is enabled
+    /// there.
+    fn lent_steps(&mut self, case: &Case, bytes: &[u8], lent: &[Lent]) {
+        let found = |lent: &Lent| found::lent_step(bytes, &[], &lent.variables, &lent.event);
         let found: Vec<After> = lent.iter().map(found).collect();
         match table::read(bytes) {
             Ok(table) => {
@@ -152,6 +220,13 @@ impl Checker<'_> {
                 let wanted: Vec<After> = lent.iter().map(wanted).collect();
                 self.tally.note_lent_steps(&wanted);
                 self.note("lent_steps", compare::lent_steps(&wanted, &found));
+                let index = stepped::index_into(bytes, stepped::index_size(bytes));
+                let offers = |lent: &Lent| wanted::table_offers(&table, &lent.variables);
+                let wanted: Vec<_> = lent.iter().map(offers).collect();
+                let offers =
+                    |lent: &Lent| stepped::table_offers(bytes, &index, &lent.variables, false);
+                let found: Vec<_> = lent.iter().map(offers).collect();
+                self.note("table_enabled", compare::enabled(&wanted, &found));
             }
             Err(_) => {
                 for (lent, found) in lent.iter().zip(&found) {
@@ -159,7 +234,34 @@ impl Checker<'_> {
                 }
             }
         }
+        self.any_indexes(case, bytes, lent);
     }
+
+    /// Steps by indexes that are not the table's: of the case's other table, cut,
+    /// and numbers of no table.
+    fn any_indexes(&mut self, case: &Case, bytes: &[u8], lent: &[Lent]) {
+        let other = match &case.made {
+            Some(made) if bytes == case.table => made,
+            _ => &case.table,
+        };
+        let others = stepped::index_into(other, stepped::index_size(other).min(400));
+        let mut own = stepped::index_into(bytes, stepped::index_size(bytes));
+        own.truncate(case.short_index);
+        let indexes = [&others, &own, &case.any_index];
+        for (lent, index) in lent.iter().zip(indexes) {
+            let found = found::lent_step(bytes, index, &lent.variables, &lent.event);
+            let offers = stepped::table_offers(bytes, index, &lent.variables, true);
+            let check = compare::any_step(&lent.variables, &found)
+                .and_then(|()| compare::enabled_room(std::slice::from_ref(&offers)));
+            self.note("any_index", check);
+        }
+    }
+}
+
+/// The variables at the start and after each step.
+fn stages(said: &Said) -> impl Iterator<Item = &Variables> {
+    let after = said.steps.iter().map(|step| &step.after.variables);
+    std::iter::once(&said.start.variables).chain(after)
 }
 
 /// The outputs that the wanted listings have.

@@ -6,9 +6,11 @@ use std::fmt::{Debug, Display};
 use plain::script::{DISPATCH, START};
 
 use crate::answers::{
-    After, Listing, Run, Said, Step, Told, Translation, Variables, BEHIND, BYTE, DUE, END, FIGURE,
-    NOW, STATE, THREADS, VARIABLES,
+    After, Listed, Listing, Offers, Run, Said, Step, Told, Translation, Variables, BEHIND, BYTE,
+    DUE, END, FIGURE, NOW, STATE, THREADS, VARIABLES,
 };
+use crate::lending::{Lending, Number};
+use crate::stepped::AnyState;
 
 pub type Check = Result<(), String>;
 
@@ -72,6 +74,124 @@ pub fn any_step(before: &Variables, found: &After) -> Check {
         behind: [FIGURE; BEHIND],
     };
     same_variables("after a step on no table", &left, found)
+}
+
+/// The states of a model as they are shown, at the start and after each event.
+pub fn shown(wanted: &[Variables], found: &[After]) -> Check {
+    equal("count of states shown", &wanted.len(), &found.len())?;
+    for (number, (wanted, found)) in wanted.iter().zip(found).enumerate() {
+        let wanted = After {
+            answer: 0,
+            variables: *wanted,
+            behind: [FIGURE; BEHIND],
+        };
+        let what = format_args!("answer when state {number} is shown");
+        equal(what, &wanted.answer, &found.answer)?;
+        same_variables(format_args!("of state {number}"), &wanted, found)?;
+    }
+    Ok(())
+}
+
+/// A call that is refused leaves the numbers that it was lent; no call writes
+/// behind those that it has to do with.
+pub fn lendings<T: Number>(found: &[Lending<T>]) -> Check {
+    found.iter().enumerate().try_for_each(|(number, found)| {
+        if found.answer != 0 {
+            let what = format_args!("numbers after call {number}, refused");
+            equal(what, &found.before, &found.after)?;
+        }
+        let marked = found.behind.iter().all(|number| *number == T::MARK);
+        let what = format_args!("numbers behind those of call {number} are as they were");
+        equal(what, &true, &marked)
+    })
+}
+
+/// Too few numbers are refused with 8 and left.
+pub fn short<T: Number>(found: &[Lending<T>]) -> Check {
+    found.iter().enumerate().try_for_each(|(number, found)| {
+        let what = format_args!("answer to call {number} with too few numbers");
+        equal(what, &8, &found.answer)
+    })?;
+    lendings(found)
+}
+
+/// What is enabled at the start and after each event.
+pub fn enabled(wanted: &[Offers], found: &[Listed]) -> Check {
+    equal("count of lists", &wanted.len(), &found.len())?;
+    for (number, (wanted, found)) in wanted.iter().zip(found).enumerate() {
+        let (_, [count, tick, _]) = found.rooms.last().expect("there is a room");
+        let told = [wanted.events.len(), usize::from(wanted.tick)];
+        let what = format_args!("events counted and TICK in state {number}");
+        equal(what, &told, &[*count, *tick])?;
+        let what = format_args!("enabled in state {number}");
+        equal(what, &wanted.events, &found.events())?;
+    }
+    Ok(())
+}
+
+/// A list is written where there is room for all of it, and nothing else; what is
+/// told is the same in any room.
+pub fn enabled_room(found: &[Listed]) -> Check {
+    found.iter().try_for_each(|found| {
+        let told = found.rooms[0].1;
+        for (lending, other) in &found.rooms {
+            equal("told of a list into other rooms", &told, other)?;
+            equal("place behind those told", &usize::MAX, &other[2])?;
+            let needed = told[0].saturating_mul(4);
+            let room = lending.after.len();
+            let what = format_args!("answer to a list of {needed} numbers into {room}");
+            let answer = if room < needed { 8 } else { 0 };
+            equal(what, &answer, &lending.answer)?;
+            let written = if answer == 0 { needed } else { 0 };
+            let behind = &lending.after[written..];
+            let what = format_args!("places of {room} behind {written} are as they were");
+            equal(what, &true, &behind.iter().all(|word| *word == u32::MARK))?;
+        }
+        Ok(())
+    })
+}
+
+/// A model and its table list the same, on the library alone.
+pub fn enabled_alike(of_model: &[Listed], of_table: &[Listed]) -> Check {
+    equal("count of lists", &of_model.len(), &of_table.len())?;
+    for (number, (model, table)) in of_model.iter().zip(of_table).enumerate() {
+        let list = |listed: &Listed| (listed.rooms[0].1, listed.events());
+        let what = format_args!("enabled in state {number} by model and table");
+        equal(what, &list(model), &list(table))?;
+    }
+    Ok(())
+}
+
+/// An index is written as far as it has room and no further, and its whole length
+/// is told whatever the room.
+pub fn index_room(found: &[(usize, Vec<usize>)]) -> Check {
+    found.iter().try_for_each(|(count, index)| {
+        let room = index.len();
+        equal("length told of an index", &found[0].0, count)?;
+        let behind = &index[room.min(*count)..];
+        let marked = behind.iter().all(|number| *number == usize::MARK);
+        let what = format_args!("places of {room} behind an index are as they were");
+        equal(what, &true, &marked)
+    })
+}
+
+/// Numbers of any content: there are answers, refusals leave the numbers, and
+/// what is offered is taken.
+pub fn any_state(found: &AnyState) -> Check {
+    lendings(&found.lendings)?;
+    let answer = found.lendings[0].answer;
+    if !matches!(answer, 0 | 9..=11) {
+        return Err(format!("a step was answered {answer}"));
+    }
+    equal("answer when any state is shown", &0, &found.shown.answer)?;
+    let behind = &[FIGURE; BEHIND];
+    equal("figures behind the variables", behind, &found.shown.behind)?;
+    enabled_room(std::slice::from_ref(&found.offers))?;
+    let refused = found.taken.iter().position(|&answer| answer != 0);
+    equal("place of an event offered and refused", &None, &refused)?;
+    let told = found.offers.rooms[0].1[1];
+    let passes = usize::from(found.tick == 0);
+    equal("TICK told and answered in any state", &told, &passes)
 }
 
 /// A run up to the first refusal: number, part, events taken, clock.

@@ -6,8 +6,8 @@ use crate::answers::{
     After, Listing, Run, Said, Step, Told, Translation, Variables, BEHIND, BYTE, FIGURE, VARIABLES,
 };
 
-/// All that the library says of a model and a script. Listings go into outputs
-/// of the rooms given.
+/// All that the library says of a model and a script as a whole. Listings go into
+/// outputs of the rooms given. [`crate::stepped`] has what is said event by event.
 pub fn of_model(model: &[u8], script: &[u8], rooms: &[usize]) -> Said {
     let read = told(|told| raw::read_model(model, told));
     Said {
@@ -20,23 +20,27 @@ pub fn of_model(model: &[u8], script: &[u8], rooms: &[usize]) -> Said {
         },
         run: run(|told| raw::run_model(model, script, told)),
         listings: listings(rooms, |output| raw::model_listing(model, script, output)),
+        offers: Vec::new(),
+        shown: Vec::new(),
     }
 }
 
 /// All that the library says of a table and a script.
 pub fn of_table(table: &[u8], script: &[u8], rooms: &[usize]) -> Said {
     let read = told(|told| raw::read_table(table, told));
-    let start = lend(&[FIGURE; VARIABLES], |lent| raw::table_start(table, lent));
+    let start = lend_variables(&[FIGURE; VARIABLES], |lent| raw::table_start(table, lent));
     Said {
         read,
         steps: if read.number == 0 {
-            table_steps(table, &start.variables, script)
+            table_steps(table, &[], &start.variables, script)
         } else {
             Vec::new()
         },
         start,
         run: run(|told| raw::run_table(table, script, told)),
         listings: listings(rooms, |output| raw::table_listing(table, script, output)),
+        offers: Vec::new(),
+        shown: Vec::new(),
     }
 }
 
@@ -57,9 +61,9 @@ pub fn part_lengths(script: &[u8]) -> Vec<usize> {
     events(script).map(<[u8]>::len).collect()
 }
 
-/// One event of its own, on variables of its own.
-pub fn lent_step(table: &[u8], variables: &Variables, event: &[u8]) -> After {
-    lend(variables, |lent| raw::table_step(table, lent, event))
+/// One event of its own, on variables of its own, by an index.
+pub fn lent_step(table: &[u8], index: &[usize], variables: &Variables, event: &[u8]) -> After {
+    lend_variables(variables, |lent| raw::table_step(table, index, lent, event))
 }
 
 fn told(call: impl Fn(&mut [usize]) -> u32) -> Told {
@@ -81,7 +85,7 @@ fn run(call: impl Fn(&mut [usize]) -> u32) -> Run {
 }
 
 /// Lends variables, and some figures behind them, to a call.
-fn lend(variables: &Variables, call: impl Fn(&mut [i32]) -> u32) -> After {
+pub fn lend_variables(variables: &Variables, call: impl Fn(&mut [i32]) -> u32) -> After {
     let mut lent = [FIGURE; VARIABLES + BEHIND];
     lent[..VARIABLES].copy_from_slice(variables);
     let answer = call(&mut lent);
@@ -95,7 +99,7 @@ fn lend(variables: &Variables, call: impl Fn(&mut [i32]) -> u32) -> After {
 
 /// The state after one event that comes after a script.
 fn model_after(model: &[u8], script: &[u8], event: &[u8]) -> After {
-    lend(&[FIGURE; VARIABLES], |lent| {
+    lend_variables(&[FIGURE; VARIABLES], |lent| {
         raw::model_after(model, script, event, lent)
     })
 }
@@ -112,11 +116,12 @@ fn model_steps(model: &[u8], script: &[u8]) -> Vec<Step> {
         .collect()
 }
 
-fn table_steps(table: &[u8], start: &Variables, script: &[u8]) -> Vec<Step> {
+/// A table stepped by an index; with an empty one it is walked.
+pub fn table_steps(table: &[u8], index: &[usize], start: &Variables, script: &[u8]) -> Vec<Step> {
     let mut variables = *start;
     steps(script)
         .map(|(number, start, event)| {
-            let after = lent_step(table, &variables, event);
+            let after = lent_step(table, index, &variables, event);
             variables = after.variables;
             Step {
                 number,
@@ -129,7 +134,7 @@ fn table_steps(table: &[u8], start: &Variables, script: &[u8]) -> Vec<Step> {
 }
 
 /// The events of a script with their numbers and where they start.
-fn steps(script: &[u8]) -> impl Iterator<Item = (usize, usize, &[u8])> {
+pub fn steps(script: &[u8]) -> impl Iterator<Item = (usize, usize, &[u8])> {
     let mut position = 0;
     events(script).enumerate().map(move |(number, event)| {
         let start = position;

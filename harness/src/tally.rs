@@ -4,7 +4,7 @@ use std::collections::BTreeMap;
 use std::fmt::{self, Display, Formatter};
 
 use crate::answers::{
-    After, Said, Step, Translation, BEHAVIOR_STATE, FIRST_VALUE, MISSED, NOW, THREADS,
+    After, Offers, Said, Step, Translation, BEHAVIOR_STATE, FIRST_VALUE, MISSED, NOW, THREADS,
 };
 use crate::case::Case;
 use crate::records::{model_body, split};
@@ -29,6 +29,12 @@ pub struct Tally {
     /// Events taken by models after which a port, buffer or local has another
     /// value.
     pub moved: [u64; 12],
+    /// Events offered by models, and by tables that no model made; of TICK the
+    /// states where it may pass.
+    pub offered_by_models: [u64; 12],
+    pub offered_by_tables: [u64; 12],
+    /// Events that such a table offers more than once in a state.
+    pub offered_twice: u64,
     /// Runs of at least ten events without a refusal.
     pub whole_runs: u64,
     pub behavior_changes: u64,
@@ -87,6 +93,19 @@ impl Tally {
         );
     }
 
+    pub fn note_offers_of_model(&mut self, wanted: &[Offers]) {
+        note_offers(wanted, &mut self.offered_by_models);
+    }
+
+    pub fn note_offers_of_table(&mut self, wanted: &[Offers]) {
+        note_offers(wanted, &mut self.offered_by_tables);
+        for offers in wanted {
+            let pairs = offers.events.windows(2);
+            let equal = pairs.filter(|pair| pair[0][..2] == pair[1][..2]);
+            self.offered_twice += equal.count() as u64;
+        }
+    }
+
     pub fn note_translations(&mut self, wanted: &[Translation]) {
         for translation in wanted {
             self.translations[translation.told.number as usize] += 1;
@@ -121,6 +140,9 @@ impl Tally {
         add_each(&mut self.taken_by_models, &other.taken_by_models);
         add_each(&mut self.taken_by_tables, &other.taken_by_tables);
         add_each(&mut self.moved, &other.moved);
+        add_each(&mut self.offered_by_models, &other.offered_by_models);
+        add_each(&mut self.offered_by_tables, &other.offered_by_tables);
+        self.offered_twice += other.offered_twice;
         self.shown += other.shown;
         self.whole_runs += other.whole_runs;
         self.behavior_changes += other.behavior_changes;
@@ -142,6 +164,15 @@ fn note_events(script: &[u8], steps: &[Step], answers: &mut [u64], taken: &mut [
         if step.after.answer == 0 {
             taken[usize::from(script[step.start])] += 1;
         }
+    }
+}
+
+fn note_offers(wanted: &[Offers], counts: &mut [u64; 12]) {
+    for offers in wanted {
+        for offer in &offers.events {
+            counts[offer[0] as usize] += 1;
+        }
+        counts[11] += u64::from(offers.tick);
     }
 }
 
@@ -173,14 +204,16 @@ impl Display for Tally {
             ("taken by models", &self.taken_by_models),
             ("of these moved a value", &self.moved),
             ("taken by tables", &self.taken_by_tables),
+            ("offered by models", &self.offered_by_models),
+            ("offered by tables", &self.offered_by_tables),
         ] {
             writeln!(formatter, "{what}: {}", kinds(counts))?;
         }
         writeln!(
             formatter,
             "states of models looked at: {}; whole runs of ten events or more: {}; \
-             changes of a behaviour state: {}",
-            self.shown, self.whole_runs, self.behavior_changes
+             changes of a behaviour state: {}; events offered twice: {}",
+            self.shown, self.whole_runs, self.behavior_changes, self.offered_twice
         )?;
         writeln!(
             formatter,

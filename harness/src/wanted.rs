@@ -4,11 +4,11 @@ use plain::model::{self, Model, State};
 use plain::refusal::{Refusal, EVENT};
 use plain::script::{self, Event, TICK};
 use plain::table::{self, Table};
-use plain::{listing, show, translate};
+use plain::{listing, offers, show, translate};
 
 use crate::answers::{
-    After, Listing, Run, Said, Step, Told, Translation, Variables, BEHIND, BYTE, DUE, END, FIGURE,
-    NOW, THREADS, VARIABLES,
+    After, Listing, Offers, Run, Said, Step, Told, Translation, Variables, BEHIND, BYTE, DUE, END,
+    FIGURE, NOW, THREADS, VARIABLES,
 };
 
 /// All that is to be said of a model and a script. The listing goes into an
@@ -20,14 +20,21 @@ pub fn of_model(bytes: &[u8], script: &[u8], more_rooms: bool) -> Said {
         Ok(model) => {
             let start = model::start_state(&model);
             let step = |state: &State, event: &Event| model::step(&model, state, event);
-            let shown = |state: &State| show_without_times(&model, state);
+            let look = |state: &State| Look {
+                variables: show_without_times(&model, state),
+                shown: Some(show::show_jobs(&model, state)),
+                offers: offered(offers::of_model(&model, state)),
+            };
+            let seen = seen(script, start.clone(), step, look);
             Said {
                 read: Told::default(),
                 // It is shown by an empty event, which is refused.
-                start: after(EVENT, shown(&start)),
-                steps: steps(script, start.clone(), step, shown),
+                start: after(EVENT, look(&start).variables),
+                steps: seen.steps,
                 run: run(script, start, step, |state| state.now.0 as usize),
                 listings,
+                offers: seen.offers,
+                shown: seen.shown,
             }
         }
     }
@@ -43,15 +50,22 @@ pub fn of_table(bytes: &[u8], script: &[u8], more_rooms: bool) -> Said {
         Ok(table) => {
             let start = table::start_state(&table);
             let step = |state: &Variables, event: &Event| table::step(&table, state, event);
-            let steps = steps(script, start, step, |state| *state);
+            let look = |state: &Variables| Look {
+                variables: *state,
+                shown: None,
+                offers: table_offers(&table, state),
+            };
+            let seen = seen(script, start, step, look);
             let run = run(script, start, step, |state| state[NOW] as usize);
-            let listings = into_rooms(lines(script, &steps, &run).as_bytes(), more_rooms);
+            let listings = into_rooms(lines(script, &seen.steps, &run).as_bytes(), more_rooms);
             Said {
                 read: Told::default(),
                 start: after(0, start),
-                steps,
+                steps: seen.steps,
                 run,
                 listings,
+                offers: seen.offers,
+                shown: seen.shown,
             }
         }
     }
@@ -123,6 +137,8 @@ fn refused(refusal: Refusal, listings: Vec<Listing>) -> Said {
             ..Run::default()
         },
         listings,
+        offers: Vec::new(),
+        shown: Vec::new(),
     }
 }
 
@@ -135,22 +151,60 @@ fn show_without_times(model: &Model, state: &State) -> Variables {
     variables
 }
 
-fn steps<S>(
+/// What a table offers with some variables.
+pub fn table_offers(table: &Table, variables: &Variables) -> Offers {
+    offered(offers::of_table(table, variables))
+}
+
+fn offered(enabled: offers::Enabled) -> Offers {
+    let numbers = |offer: &offers::Offer| {
+        let (kind, id) = (offer.kind.into(), offer.id.into());
+        [kind, id, offer.low, offer.high]
+    };
+    Offers {
+        events: enabled.events.iter().map(numbers).collect(),
+        tick: enabled.tick,
+    }
+}
+
+/// A state, looked at.
+struct Look {
+    variables: Variables,
+    /// As a lent state of a model shows them.
+    shown: Option<Variables>,
+    offers: Offers,
+}
+
+/// What is seen along a script; offers and what is shown at the start too.
+#[derive(Default)]
+struct Seen {
+    steps: Vec<Step>,
+    shown: Vec<Variables>,
+    offers: Vec<Offers>,
+}
+
+fn seen<S>(
     script: &[u8],
     mut state: S,
     step: impl Fn(&S, &Event) -> Result<S, u8>,
-    shown: impl Fn(&S) -> Variables,
-) -> Vec<Step> {
-    let mut steps = Vec::new();
+    look: impl Fn(&S) -> Look,
+) -> Seen {
+    let mut seen = Seen::default();
+    let start = look(&state);
+    seen.shown.extend(start.shown);
+    seen.offers.push(start.offers);
     script::run_on(script, &mut state, step, |answer, state| {
-        steps.push(Step {
-            number: steps.len(),
+        let look = look(state);
+        seen.shown.extend(look.shown);
+        seen.offers.push(look.offers);
+        seen.steps.push(Step {
+            number: seen.steps.len(),
             start: answer.start,
             end: answer.end,
-            after: after(answer.number, shown(state)),
+            after: after(answer.number, look.variables),
         });
     });
-    steps
+    seen
 }
 
 fn run<S>(

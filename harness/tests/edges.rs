@@ -2,8 +2,9 @@
 //! each wider field at the ends of ranges, each record dropped, doubled or
 //! moved, each cut. Library and plain model read all of them alike.
 
+use harness::answers::{Listed, Said};
 use harness::records::{fields, model_body, split, table_body, Record};
-use harness::{compare, found, wanted};
+use harness::{compare, found, stepped, wanted};
 
 /// A model with all kinds of records, small enough to change it everywhere.
 fn model() -> Vec<u8> {
@@ -144,7 +145,12 @@ type Counts = [usize; 8];
 fn agree_on_model(counts: &mut Counts, bytes: &[u8]) {
     let wanted = wanted::of_model(bytes, &[], false);
     let found = found::of_model(bytes, &[], &[]);
-    compare::reading(&wanted.read, &found.read).unwrap_or_else(|how| panic!("{how}: {bytes:02x?}"));
+    let on_state = stepped::on_state(bytes, &[], false);
+    compare::reading(&wanted.read, &found.read)
+        .and_then(|()| compare::reading(&wanted.read, &on_state.read))
+        .and_then(|()| compare::shown(&wanted.shown, &on_state.shown))
+        .and_then(|()| compare::enabled(&wanted.offers, &on_state.offers))
+        .unwrap_or_else(|how| panic!("{how}: {bytes:02x?}"));
     counts[wanted.read.number as usize] += 1;
     if wanted.read.number == 0 {
         let room = futonkestrel::ROOM_FOR_TABLE;
@@ -166,12 +172,37 @@ fn agree_on_table(counts: &mut Counts, bytes: &[u8]) {
         .and_then(|()| compare::variables(&wanted.steps, &found.steps))
         .unwrap_or_else(|how| panic!("{how}: {bytes:02x?}"));
     counts[wanted.read.number as usize] += 1;
+    if wanted.read.number == 0 {
+        agree_by_index(bytes, &wanted, &found);
+    }
+}
+
+/// An accepted table by its index, and what it offers.
+fn agree_by_index(bytes: &[u8], wanted: &Said, found: &Said) {
+    let start = &found.start.variables;
+    let after = found.steps.iter().map(|step| &step.after.variables);
+    for room in [stepped::index_size(bytes), 4] {
+        let index = stepped::index_into(bytes, room);
+        let steps = found::table_steps(bytes, &index, start, SCRIPT);
+        let offers = |variables| stepped::table_offers(bytes, &index, variables, false);
+        let stages = std::iter::once(start).chain(after.clone());
+        let offers: Vec<Listed> = stages.map(offers).collect();
+        compare::answers(&wanted.steps, &steps)
+            .and_then(|()| compare::variables(&wanted.steps, &steps))
+            .and_then(|()| compare::enabled(&wanted.offers, &offers))
+            .unwrap_or_else(|how| panic!("{how}, room {room}: {bytes:02x?}"));
+    }
 }
 
 fn agree_on_script(script: &[u8]) {
     let model = model();
     let wanted = wanted::of_model(&model, script, false);
     let found = found::of_model(&model, script, &[]);
+    let on_state = stepped::on_state(&model, script, false);
+    compare::answers(&wanted.steps, &on_state.steps)
+        .and_then(|()| compare::shown(&wanted.shown, &on_state.shown))
+        .and_then(|()| compare::enabled(&wanted.offers, &on_state.offers))
+        .unwrap_or_else(|how| panic!("{how} on a lent state: {script:02x?}"));
     let parts = found::part_lengths(script);
     compare::event_parts(&wanted.steps, &parts)
         .and_then(|()| compare::answers(&wanted.steps, &found.steps))

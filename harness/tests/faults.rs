@@ -11,11 +11,17 @@ use std::process::{Command, Output};
 use harness::runner::{self, Plan};
 
 /// The comparisons that a fault of the plain model cannot fail. The tests in
-/// touched.rs fail them.
-const SHOWN_ELSEWHERE: [&str; 4] = [
+/// touched.rs and touched_steps.rs fail them.
+const SHOWN_ELSEWHERE: [&str; 10] = [
+    "any_index",
+    "any_state",
     "any_step",
     "demand_three",
+    "enabled_alike",
+    "enabled_room",
+    "index_room",
     "listing_room",
+    "state_room",
     "translation_room",
 ];
 

@@ -102,6 +102,19 @@ fn runs_go_far(tally: &Tally) {
         &tally.moved,
         &[(3, 1_000), (4, 400), (5, 5_000), (6, 1_500)],
     );
+    for kind in 1..=11 {
+        at_least(
+            "offered by models",
+            &tally.offered_by_models,
+            &[(kind, 600)],
+        );
+        at_least(
+            "offered by tables",
+            &tally.offered_by_tables,
+            &[(kind, 10_000)],
+        );
+    }
+    assert!(tally.offered_twice > 20_000, "{}", tally.offered_twice);
     assert!(tally.shown > 100_000, "{}", tally.shown);
     assert!(tally.whole_runs > 4_000, "{}", tally.whole_runs);
     assert!(tally.behavior_changes > 1_500, "{}", tally.behavior_changes);
@@ -111,7 +124,7 @@ fn runs_go_far(tally: &Tally) {
 }
 
 fn every_comparison_is_made(tally: &Tally) {
-    assert_eq!(tally.comparisons.len(), 20, "{:?}", tally.comparisons);
+    assert_eq!(tally.comparisons.len(), 33, "{:?}", tally.comparisons);
     for (comparison, &count) in &tally.comparisons {
         assert!(count >= CASES / 2, "{comparison} made {count} times");
     }

@@ -1,6 +1,9 @@
 //! The last clock, reached tick by tick.
 
-use futonkestrel::{model_after, run_model, run_table, translate_to_vec, Refusal, Run, VARIABLES};
+use futonkestrel::{
+    events, model_after, run_model, run_table, translate_to_vec, Model, Refusal, Run, Table,
+    VARIABLES,
+};
 
 /// The head alone: no thread, nothing that time waits for.
 const HEAD: &[u8] = &[0x01, 1, 0];
@@ -51,4 +54,30 @@ fn a_model_does_not_pass_the_last_clock() {
     let mut variables = [0; VARIABLES];
     let answer = model_after(HEAD, &script, &tick(1), &mut variables);
     assert_eq!((answer, variables[0]), (11, 1_000_000_000));
+}
+
+/// Event by event: a TICK may pass up to the last clock, and not from there on.
+#[test]
+fn time_may_pass_up_to_the_last_clock() {
+    let bytes = translate_to_vec(HEAD).expect("the head alone is a model");
+    let (model, table) = (Model::read(HEAD), Table::read(&bytes));
+    let (model, table) = (model.expect("accepted"), table.expect("accepted"));
+    let (mut state, mut variables) = (model.start(), table.start());
+    let script = one_too_many();
+    for event in events(&script[..script.len() - 3]) {
+        assert_eq!(model.step(&mut state, event), Ok(()));
+        assert_eq!(table.step(&mut variables, event), Ok(()));
+    }
+    for (clock, ticks, answer) in [
+        (999_999_999, 2, Err(11)),
+        (999_999_999, 1, Ok(())),
+        (1_000_000_000, 1, Err(11)),
+    ] {
+        let may_pass = clock < 1_000_000_000;
+        assert_eq!((variables[0], model.variables(&state)[0]), (clock, clock));
+        assert_eq!(model.enabled(&state).tick, may_pass);
+        assert_eq!(table.enabled(&variables).tick, may_pass);
+        assert_eq!(model.step(&mut state, &tick(ticks)), answer);
+        assert_eq!(table.step(&mut variables, &tick(ticks)), answer);
+    }
 }

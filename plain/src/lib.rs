@@ -16,6 +16,7 @@
 //! * [`translate`]: the table made from a model
 //! * [`listing`]: the lines that the programs `steps` and `rules` print
 //! * [`show`]: a state of the model written as the table's variables
+//! * [`offers`]: what is enabled, of a model and of a table
 //!
 //! Reading is total: any bytes at all give either an accepted model, table or
 //! event, or a refusal.
@@ -23,6 +24,7 @@
 pub mod bytes;
 pub mod listing;
 pub mod model;
+pub mod offers;
 pub mod refusal;
 pub mod script;
 pub mod show;

@@ -1,6 +1,6 @@
 //! A state of the model written as the table's variables, for comparison.
 
-use crate::model::{due, Model, State, EXECUTION};
+use crate::model::{due, Model, State, COMPLETED, EXECUTION, WAITING_EXECUTION};
 use crate::table::variable::{self, CPU, ENTERED_AT, MODE, NOW, PENDING, PHASE};
 use crate::table::Variables;
 
@@ -49,6 +49,18 @@ fn show_thread(variables: &mut Variables, model: &Model, state: &State, thread: 
         let end = state.now.0 as i64 + own.length.0 as i64 - own.spent.0 as i64;
         variables[variable::end(thread)] = end as i32;
     }
+}
+
+/// The same for one who has the state without the run that led to it: Due is
+/// shown of threads with a job in hand alone, and is 0 of all others.
+pub fn show_jobs(model: &Model, state: &State) -> Variables {
+    let mut variables = show(model, state);
+    for (number, own) in state.threads.iter().enumerate() {
+        if !matches!(own.code, WAITING_EXECUTION | EXECUTION | COMPLETED) {
+            variables[variable::due(number)] = 0;
+        }
+    }
+    variables
 }
 
 /// The variables of a table with each End left out that is not that of a

@@ -8,17 +8,44 @@
 //! * [`translate`], [`translate_to_vec`]: the table made from a model
 //! * [`run_model`], [`run_table`]: a script up to its first refused event
 //! * [`model_listing`], [`table_listing`]: the lines of such a run
-//! * [`Table`]: one event after another on variables of one's own, in any order
+//! * [`Model`], [`Table`]: one event after another on a [`State`] or [`Variables`]
+//!   of one's own, in any order, and what is [`Enabled`] there
 //! * [`refusals`]: what each refusal means, in words
 //! * [`raw`]: the same functions with outputs of any length
+//!
+//! A checker keeps the states that it has met, goes back to any of them and tries
+//! what is enabled there. Model and table offer the same events and take them
+//! alike, which is proved; here they are walked side by side:
+//!
+//! ```
+//! use futonkestrel::{translate_to_vec, Model, Table};
+//!
+//! # let bytes = [1, 1, 0, 2, 5, 0, 0, 0, 4, 0, 0, 0, 1, 0, 0, 0, 5, 0, 0, 0, 1, 0, 0];
+//! let made = translate_to_vec(&bytes)?;
+//! let (model, table) = (Model::read(&bytes)?, Table::read(&made)?);
+//! let (mut state, mut variables) = (model.start(), table.start());
+//! for _ in 0..3 {
+//!     let enabled = model.enabled(&state);
+//!     assert_eq!(enabled, table.enabled(&variables));
+//!     let event = enabled.events[0].shortest();
+//!     assert_eq!(model.step(&mut state, &event), Ok(()));
+//!     assert_eq!(table.step(&mut variables, &event), Ok(()));
+//! }
+//! // The one thread was activated and dispatched, and runs: time may pass.
+//! assert!(model.enabled(&state).tick);
+//! assert_eq!(model.variables(&state), variables);
+//! # Ok::<(), futonkestrel::Refusal>(())
+//! ```
 
 use std::error::Error;
 use std::fmt;
 
 pub mod raw;
 pub mod refusals;
+mod stepping;
 
 use refusals::Holder;
+pub use stepping::{Enabled, Model, Offer, State, Table, MODEL_WORDS, STATE_WORDS};
 
 /// A refusal by its number in document 01, and the part that it returns, from
 /// offset `start` up to but not with `end`, in what [`Refusal::holder`] names.
@@ -210,50 +237,5 @@ impl<'a> Iterator for Events<'a> {
         let (event, rest) = self.rest.split_at(event_length(self.rest));
         self.rest = rest;
         (!event.is_empty()).then_some(event)
-    }
-}
-
-/// An accepted table, to be run event by event on variables that the caller
-/// keeps. So a checker can go back to any state and try another order of events.
-#[derive(Clone, Copy, Debug)]
-pub struct Table<'a> {
-    bytes: &'a [u8],
-}
-
-impl<'a> Table<'a> {
-    /// Reads a table.
-    pub fn read(bytes: &'a [u8]) -> Result<Table<'a>, Refusal> {
-        read_table(bytes).map(|()| Table { bytes })
-    }
-
-    /// The bytes that were read.
-    pub fn bytes(&self) -> &'a [u8] {
-        self.bytes
-    }
-
-    /// The variables before any event.
-    pub fn start(&self) -> Variables {
-        let mut variables = [0; VARIABLES];
-        raw::table_start(self.bytes, &mut variables);
-        variables
-    }
-
-    /// Gives one event to the table. A refused event, told by its number from 9
-    /// to 13, leaves the variables as they were.
-    pub fn step(&self, variables: &mut Variables, event: &[u8]) -> Result<(), u32> {
-        match raw::table_step(self.bytes, variables, event) {
-            0 => Ok(()),
-            number => Err(number),
-        }
-    }
-
-    /// Runs a script from the start up to the first refused event.
-    pub fn run(&self, script: &[u8]) -> Run {
-        run_table(self.bytes, script)
-    }
-
-    /// The lines of such a run.
-    pub fn listing(&self, script: &[u8]) -> Vec<u8> {
-        table_listing(self.bytes, script)
     }
 }

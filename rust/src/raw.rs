@@ -65,9 +65,17 @@ extern "C" {
         variables: *mut i32,
         variables_length: usize,
     ) -> u32;
+    fn fk_table_index(
+        table: *const u8,
+        table_length: usize,
+        index: *mut usize,
+        index_length: usize,
+    ) -> usize;
     fn fk_table_step(
         table: *const u8,
         table_length: usize,
+        index: *const usize,
+        index_length: usize,
         variables: *mut i32,
         variables_length: usize,
         event: *const u8,
@@ -82,6 +90,60 @@ extern "C" {
         event_length: usize,
         variables: *mut i32,
         variables_length: usize,
+    ) -> u32;
+    fn fk_table_enabled(
+        table: *const u8,
+        table_length: usize,
+        index: *const usize,
+        index_length: usize,
+        variables: *const i32,
+        variables_length: usize,
+        output: *mut u32,
+        output_length: usize,
+        told: *mut usize,
+        told_length: usize,
+    ) -> u32;
+    fn fk_model_words() -> usize;
+    fn fk_state_words() -> usize;
+    fn fk_model_read(
+        model: *const u8,
+        model_length: usize,
+        words: *mut u32,
+        words_length: usize,
+        told: *mut usize,
+        told_length: usize,
+    ) -> u32;
+    fn fk_model_start(
+        words: *const u32,
+        words_length: usize,
+        state: *mut u32,
+        state_length: usize,
+    ) -> u32;
+    fn fk_model_step(
+        words: *const u32,
+        words_length: usize,
+        state: *mut u32,
+        state_length: usize,
+        event: *const u8,
+        event_length: usize,
+    ) -> u32;
+    fn fk_model_variables(
+        words: *const u32,
+        words_length: usize,
+        state: *const u32,
+        state_length: usize,
+        variables: *mut i32,
+        variables_length: usize,
+    ) -> u32;
+    fn fk_model_enabled(
+        words: *const u32,
+        words_length: usize,
+        state: *const u32,
+        state_length: usize,
+        output: *mut u32,
+        output_length: usize,
+        told: *mut usize,
+        told_length: usize,
     ) -> u32;
 }
 
@@ -205,20 +267,59 @@ pub fn table_start(table: &[u8], variables: &mut [i32]) -> u32 {
     }
 }
 
+/// Lists the rules of a table in `index` as far as it has room; places behind
+/// stay as they were. The result is how many places list all rules.
+pub fn table_index(table: &[u8], index: &mut [usize]) -> usize {
+    // SAFETY: pointers and counts are those of slices.
+    unsafe { fk_table_index(table.as_ptr(), table.len(), index.as_mut_ptr(), index.len()) }
+}
+
 /// Gives one event to a table whose variables are lent. The result is the
 /// answer, 0 or 9 to 13, or 8 for fewer than 288 variables; any but 0 leaves the
-/// variables as they were. The table is not read for faults again: records that
-/// are no accepted table have their rules taken as they stand.
-pub fn table_step(table: &[u8], variables: &mut [i32], event: &[u8]) -> u32 {
+/// variables as they were. The index is one that [`table_index`] made of the
+/// table, into any room; with an empty one the table is walked. The table is not
+/// read for faults again: records that are no accepted table have their rules
+/// taken as they stand, and an index of other content lists what fits the table.
+pub fn table_step(table: &[u8], index: &[usize], variables: &mut [i32], event: &[u8]) -> u32 {
     // SAFETY: pointers and counts are those of slices.
     unsafe {
         fk_table_step(
             table.as_ptr(),
             table.len(),
+            index.as_ptr(),
+            index.len(),
             variables.as_mut_ptr(),
             variables.len(),
             event.as_ptr(),
             event.len(),
+        )
+    }
+}
+
+/// Lists what is enabled: kind, id, shortest and longest length of each event,
+/// in the order of kind, then id. The result is 0, or 8 for fewer than 288
+/// variables or too short an `output`, which then stays as it was; told are the
+/// count of events, and 1 where a TICK may pass, else 0.
+pub fn table_enabled(
+    table: &[u8],
+    index: &[usize],
+    variables: &[i32],
+    output: &mut [u32],
+    told: &mut [usize],
+) -> u32 {
+    // SAFETY: pointers and counts are those of slices.
+    unsafe {
+        fk_table_enabled(
+            table.as_ptr(),
+            table.len(),
+            index.as_ptr(),
+            index.len(),
+            variables.as_ptr(),
+            variables.len(),
+            output.as_mut_ptr(),
+            output.len(),
+            told.as_mut_ptr(),
+            told.len(),
         )
     }
 }
@@ -240,6 +341,94 @@ pub fn model_after(model: &[u8], script: &[u8], event: &[u8], variables: &mut [i
             event.len(),
             variables.as_mut_ptr(),
             variables.len(),
+        )
+    }
+}
+
+/// How many numbers a model takes that is read by [`model_read`].
+pub fn model_words() -> usize {
+    // SAFETY: nothing is handed over.
+    unsafe { fk_model_words() }
+}
+
+/// How many numbers a state takes.
+pub fn state_words() -> usize {
+    // SAFETY: nothing is handed over.
+    unsafe { fk_state_words() }
+}
+
+/// Reads a model into `words`. The result is 0 to 7, or 8 for fewer words than a
+/// model takes, which then stay as they were; told are start and end of the part
+/// refused. A refused model leaves words that stand for an empty one.
+pub fn model_read(model: &[u8], words: &mut [u32], told: &mut [usize]) -> u32 {
+    // SAFETY: pointers and counts are those of slices.
+    unsafe {
+        fk_model_read(
+            model.as_ptr(),
+            model.len(),
+            words.as_mut_ptr(),
+            words.len(),
+            told.as_mut_ptr(),
+            told.len(),
+        )
+    }
+}
+
+/// Sets a state as a model starts. The result is 0, or 8 for fewer numbers than
+/// a state takes, which then stay as they were.
+pub fn model_start(words: &[u32], state: &mut [u32]) -> u32 {
+    // SAFETY: pointers and counts are those of slices.
+    unsafe { fk_model_start(words.as_ptr(), words.len(), state.as_mut_ptr(), state.len()) }
+}
+
+/// Gives one event to a model whose state is lent. The result is the answer, 0
+/// or 9 to 11, or 8 for fewer numbers than a state takes; any but 0 leaves the
+/// state as it was.
+pub fn model_step(words: &[u32], state: &mut [u32], event: &[u8]) -> u32 {
+    // SAFETY: pointers and counts are those of slices.
+    unsafe {
+        fk_model_step(
+            words.as_ptr(),
+            words.len(),
+            state.as_mut_ptr(),
+            state.len(),
+            event.as_ptr(),
+            event.len(),
+        )
+    }
+}
+
+/// Sets the first 288 variables to what they stand for in a state, Due for
+/// threads with a job in hand and End for the one that runs among them. The
+/// result is 0, or 8 for fewer variables, which then stay as they were.
+pub fn model_variables(words: &[u32], state: &[u32], variables: &mut [i32]) -> u32 {
+    // SAFETY: pointers and counts are those of slices.
+    unsafe {
+        fk_model_variables(
+            words.as_ptr(),
+            words.len(),
+            state.as_ptr(),
+            state.len(),
+            variables.as_mut_ptr(),
+            variables.len(),
+        )
+    }
+}
+
+/// Lists what is enabled in a state, as [`table_enabled`]; the result is 8 for a
+/// state that is too short as well.
+pub fn model_enabled(words: &[u32], state: &[u32], output: &mut [u32], told: &mut [usize]) -> u32 {
+    // SAFETY: pointers and counts are those of slices.
+    unsafe {
+        fk_model_enabled(
+            words.as_ptr(),
+            words.len(),
+            state.as_ptr(),
+            state.len(),
+            output.as_mut_ptr(),
+            output.len(),
+            told.as_mut_ptr(),
+            told.len(),
         )
     }
 }

@@ -3,8 +3,10 @@
 
 mod common;
 
-use common::{table_of_m, ACTIVE, BYTE, FIGURE, LISTING, M, NOW, PLACE, SCRIPT, STATE};
-use futonkestrel::{raw, VARIABLES};
+use common::{
+    table_of_m, ACTIVE, BYTE, DUE, END, FIGURE, LISTING, M, NOW, PLACE, SCRIPT, STATE, WORD,
+};
+use futonkestrel::{events, raw, MODEL_WORDS, STATE_WORDS, VARIABLES};
 
 /// A call with `told` slices of 0 to 5 places gives the same result each time,
 /// tells what fits of `wanted`, and leaves every other place alone.
@@ -239,7 +241,7 @@ fn table_step_takes_or_refuses_an_event() {
     let step = |event: &[u8]| {
         on_variables(|variables| {
             raw::table_start(&table, variables);
-            raw::table_step(&table, variables, event)
+            raw::table_step(&table, &[], variables, event)
         })
     };
     let (_, start) = on_variables(|variables| raw::table_start(&table, variables));
@@ -257,7 +259,7 @@ fn table_step_takes_or_refuses_an_event() {
     ] {
         assert_eq!(step(event), (number, start.clone()), "{event:?}");
     }
-    refuses_too_few(|variables| raw::table_step(&table, variables, &[0x01, 0]));
+    refuses_too_few(|variables| raw::table_step(&table, &[], variables, &[0x01, 0]));
 }
 
 #[test]
@@ -267,7 +269,7 @@ fn table_step_meets_the_last_clock_and_two_updates() {
         let mut variables = [0; VARIABLES];
         variables[NOW] = clock;
         (
-            raw::table_step(&[], &mut variables, &[0x0B, 2, 0]),
+            raw::table_step(&[], &[], &mut variables, &[0x0B, 2, 0]),
             variables[NOW],
         )
     };
@@ -277,7 +279,7 @@ fn table_step_meets_the_last_clock_and_two_updates() {
     let rule = [0x21, 0x01, 0, 0, 0, 0, 0, 0, 0, 0, 0];
     let update = [0x24, 255, 255, 0, 1, 0, 0, 0, 7, 0, 0, 0, 0, 0, 0, 0, 0];
     let answer = |table: &[u8]| {
-        let (result, variables) = on_variables(|v| raw::table_step(table, v, &[0x01, 0]));
+        let (result, variables) = on_variables(|v| raw::table_step(table, &[], v, &[0x01, 0]));
         (result, untouched(&variables))
     };
     assert_eq!(answer(&[&rule[..], &update].concat()), (0, false));
@@ -291,7 +293,7 @@ fn table_step_on_bytes_that_are_no_table() {
     let table = table_of_m();
     for cut in 0..table.len() {
         let (result, variables) =
-            on_variables(|v| raw::table_step(&table[..cut], v, &[0x0B, 1, 0]));
+            on_variables(|v| raw::table_step(&table[..cut], &[], v, &[0x0B, 1, 0]));
         assert!(matches!(result, 0 | 9..=13), "{result}");
         assert!(result == 0 || untouched(&variables));
     }
@@ -322,5 +324,369 @@ fn a_refused_model_shows_nothing() {
             on_variables(|variables| raw::model_after(model, SCRIPT, &[], variables));
         assert_eq!(result, number);
         assert!(untouched(&variables));
+    }
+}
+
+/// The index of a table, made into so much room.
+fn index_into(table: &[u8], room: usize) -> Vec<usize> {
+    let mut index = vec![0; room];
+    raw::table_index(table, &mut index);
+    index
+}
+
+fn whole_index(table: &[u8]) -> Vec<usize> {
+    index_into(table, raw::table_index(table, &mut []))
+}
+
+#[test]
+fn table_index_lists_what_fits() {
+    let table = table_of_m();
+    let whole = raw::table_index(&table, &mut []);
+    for room in 0..whole + 4 {
+        let mut index = vec![PLACE; whole + 7];
+        assert_eq!(raw::table_index(&table, &mut index[..room]), whole);
+        let behind = &index[room.min(whole)..];
+        assert!(behind.iter().all(|&place| place == PLACE), "room {room}");
+    }
+    // A table without rules, and bytes that are no table, have an index too.
+    assert!(raw::table_index(&[], &mut []) < whole);
+    assert_eq!(
+        raw::table_index(M, &mut []),
+        raw::table_index(&[], &mut [PLACE; 9])
+    );
+}
+
+/// However much of the table an index lists, steps by it are those of the table.
+#[test]
+fn table_step_by_an_index_of_any_room() {
+    let table = table_of_m();
+    let script = [SCRIPT, &[0x0B, 1, 0, 0x03, 0, 0x03, 0, 0x0B, 4, 0]].concat();
+    let run = |index: &[usize]| {
+        let mut variables = vec![0; VARIABLES];
+        raw::table_start(&table, &mut variables);
+        let step = |event| {
+            (
+                raw::table_step(&table, index, &mut variables, event),
+                variables.clone(),
+            )
+        };
+        events(&script).map(step).collect::<Vec<(u32, Vec<i32>)>>()
+    };
+    let walked = run(&[]);
+    let answers: Vec<u32> = walked.iter().map(|(answer, _)| *answer).collect();
+    assert_eq!(answers, [0, 0, 0, 0, 0, 0, 0, 0, 0, 10, 10]);
+    for room in 0..=whole_index(&table).len() + 3 {
+        assert!(run(&index_into(&table, room)) == walked, "room {room}");
+    }
+}
+
+/// An index is not trusted: it lists what fits the table.
+#[test]
+fn table_step_by_an_index_of_any_content() {
+    let table = table_of_m();
+    let other = [&[0x21, 1, 0, 0, 0, 0, 0, 0, 0, 0, 0][..], &table].concat();
+    let whole = whole_index(&table);
+    let mut indexes = vec![whole_index(&other), vec![usize::MAX; 9], vec![0; 40]];
+    for place in 0..whole.len() {
+        for number in [
+            0,
+            1,
+            7,
+            65_536,
+            usize::MAX,
+            whole[place] + 1,
+            whole[place] << 16,
+        ] {
+            let mut index = whole.clone();
+            index[place] = number;
+            indexes.push(index);
+        }
+        indexes.push(whole[..place].to_vec());
+    }
+    for index in indexes {
+        for event in [&[0x01, 0][..], &[0x0B, 2, 0], &[0x04, 0, 2, 0, 0, 0], &[]] {
+            let (answer, variables) = on_variables(|v| raw::table_step(&table, &index, v, event));
+            assert!(matches!(answer, 0 | 9..=13), "{answer}");
+            assert!(answer == 0 || untouched(&variables));
+        }
+        refuses_too_few(|variables| raw::table_step(&table, &index, variables, &[0x01, 0]));
+    }
+}
+
+#[test]
+fn words_of_models_and_states() {
+    assert_eq!(raw::model_words(), MODEL_WORDS);
+    assert_eq!(raw::state_words(), STATE_WORDS);
+}
+
+#[test]
+fn model_read_tells_the_part() {
+    let read = |model: &[u8], told: &mut [usize]| {
+        let mut words = vec![WORD; MODEL_WORDS + 3];
+        let number = raw::model_read(model, &mut words, told);
+        assert_eq!(words[MODEL_WORDS..], [WORD; 3]);
+        number
+    };
+    tells(&[0, 0], 0, |told| read(M, told));
+    tells(&[0, 0], 2, |told| read(&[], told));
+    tells(&[3, 22], 1, |told| read(&M[..22], told));
+    tells(&[0, 3], 4, |told| read(&[0x01, 9, 0], told));
+}
+
+#[test]
+fn model_read_wants_room() {
+    for (model, length) in [(M, 0), (M, 1), (M, MODEL_WORDS - 1), (&M[..9], 5), (&[], 0)] {
+        let end = model.len();
+        tells(&[end, end], 8, |told| {
+            let mut words = vec![WORD; MODEL_WORDS];
+            let number = raw::model_read(model, &mut words[..length], told);
+            assert!(words.iter().all(|&word| word == WORD));
+            number
+        });
+    }
+}
+
+fn words_of_m() -> Vec<u32> {
+    let mut words = vec![0; MODEL_WORDS];
+    assert_eq!(raw::model_read(M, &mut words, &mut []), 0);
+    words
+}
+
+/// A call on a state with some numbers behind it leaves those alone.
+fn on_state(state: &[u32], call: impl Fn(&mut [u32]) -> u32) -> (u32, Vec<u32>) {
+    let mut lent = [state, &[WORD; 3]].concat();
+    let answer = call(&mut lent);
+    assert_eq!(lent.split_off(STATE_WORDS), [WORD; 3]);
+    (answer, lent)
+}
+
+/// A call on too few numbers is refused with 8 and writes nothing.
+fn refuses_short_state(call: impl Fn(&mut [u32]) -> u32) {
+    for length in [0, 1, 6, STATE_WORDS - 1] {
+        let mut state = vec![WORD; STATE_WORDS];
+        assert_eq!(call(&mut state[..length]), 8, "{length} numbers");
+        assert_eq!(state, [WORD; STATE_WORDS]);
+    }
+}
+
+fn start_of(words: &[u32]) -> Vec<u32> {
+    let (answer, state) = on_state(&[WORD; STATE_WORDS], |state| raw::model_start(words, state));
+    assert_eq!(answer, 0);
+    state
+}
+
+#[test]
+fn model_start_sets_a_state() {
+    let words = words_of_m();
+    let state = start_of(&words);
+    assert_ne!(state, [WORD; STATE_WORDS]);
+    assert_eq!(state, start_of(&[&words[..], &[WORD]].concat()));
+    refuses_short_state(|state| raw::model_start(&words, state));
+    // Words that no model was read into stand for some model.
+    for words in [
+        &[][..],
+        &words[..20],
+        &[u32::MAX; MODEL_WORDS],
+        &[WORD; 900],
+    ] {
+        start_of(words);
+        refuses_short_state(|state| raw::model_start(words, state));
+    }
+}
+
+#[test]
+fn model_step_takes_or_refuses_an_event() {
+    let words = words_of_m();
+    let start = start_of(&words);
+    let step = |event: &[u8]| on_state(&start, |state| raw::model_step(&words, state, event));
+    let (answer, state) = step(&[0x01, 0]);
+    assert!(answer == 0 && state != start);
+    for (event, number) in [
+        (&[][..], 9),
+        (&[0x01], 9),
+        (&[0x0C, 0], 9),
+        (&[0x0B, 0, 0], 9),
+        (&[0x04, 0, 1, 0, 0], 9),
+        (&[0x03, 0], 10),
+        (&[0x01, 1], 10),
+        (&[0x0B, 1, 0], 10),
+    ] {
+        assert_eq!(step(event), (number, start.clone()), "{event:?}");
+    }
+    refuses_short_state(|state| raw::model_step(&words, state, &[0x01, 0]));
+    refuses_short_state(|state| raw::model_step(&words, state, &[]));
+}
+
+#[test]
+fn model_step_on_numbers_of_any_content() {
+    for words in [
+        &words_of_m()[..],
+        &[],
+        &[u32::MAX; MODEL_WORDS],
+        &[WORD; 900],
+    ] {
+        for state in [
+            [u32::MAX; STATE_WORDS],
+            [WORD; STATE_WORDS],
+            [3; STATE_WORDS],
+        ] {
+            for event in [&[0x01, 0][..], &[0x05, 0], &[0x09, 7], &[0x0B, 255, 255]] {
+                let (answer, after) = on_state(&state, |lent| raw::model_step(words, lent, event));
+                assert!(matches!(answer, 0 | 10 | 11), "{answer}");
+                assert!(answer == 0 || after == state);
+            }
+        }
+    }
+}
+
+/// The state of M after a script.
+fn state_after(words: &[u32], script: &[u8]) -> Vec<u32> {
+    let mut state = start_of(words);
+    for event in events(script) {
+        raw::model_step(words, &mut state, event);
+    }
+    state
+}
+
+#[test]
+fn model_variables_shows_the_state() {
+    let words = words_of_m();
+    // Bytes of the script, then Due and End as they are shown after these.
+    for (taken, due, end) in [(0, 0, 0), (4, 4, 0), (10, 4, 2), (15, 4, 0), (20, 0, 0)] {
+        let state = state_after(&words, &SCRIPT[..taken]);
+        let (answer, variables) =
+            on_variables(|variables| raw::model_variables(&words, &state, variables));
+        let (_, mut wanted) =
+            on_variables(|variables| raw::model_after(M, &SCRIPT[..taken], &[], variables));
+        (wanted[DUE], wanted[END]) = (due, end);
+        assert_eq!((answer, variables), (0, wanted), "after {taken} bytes");
+        refuses_too_few(|variables| raw::model_variables(&words, &state, variables));
+    }
+}
+
+/// A list with outputs of several lengths: four numbers an event or nothing, and
+/// the same told each time.
+fn offers(wanted: &[[u32; 4]], tick: bool, list: impl Fn(&mut [u32], &mut [usize]) -> u32) {
+    let numbers = wanted.concat();
+    let told = [wanted.len(), usize::from(tick)];
+    for room in 0..numbers.len() + 6 {
+        let number = if room < numbers.len() { 8 } else { 0 };
+        tells(&told, number, |told| {
+            let mut output = vec![WORD; numbers.len() + 9];
+            let number = list(&mut output[..room], told);
+            let written = if number == 0 { numbers.len() } else { 0 };
+            assert_eq!(output[..written], numbers[..written], "room {room}");
+            assert!(output[written..].iter().all(|&word| word == WORD));
+            number
+        });
+    }
+}
+
+#[test]
+fn model_and_table_list_what_is_enabled() {
+    let (words, table) = (words_of_m(), table_of_m());
+    let index = whole_index(&table);
+    let mut variables = vec![0; VARIABLES];
+    raw::table_start(&table, &mut variables);
+    let mut taken = 0;
+    for (event, wanted, tick) in [
+        (&[][..], &[[1, 0, 0, 0]][..], false),
+        (&[0x01, 0], &[[3, 0, 0, 0]], false),
+        (&[0x03, 0], &[[4, 0, 1, 5]], false),
+        (&SCRIPT[4..10], &[], true),
+        (&[0x0B, 2, 0], &[[5, 0, 0, 0]], false),
+        (&[0x05, 0], &[], true),
+    ] {
+        taken += event.len();
+        raw::table_step(&table, &index, &mut variables, event);
+        let state = state_after(&words, &SCRIPT[..taken]);
+        offers(wanted, tick, |output, told| {
+            raw::model_enabled(&words, &state, output, told)
+        });
+        for index in [&index[..], &[], &index_into(&table, 6)] {
+            offers(wanted, tick, |output, told| {
+                raw::table_enabled(&table, index, &variables, output, told)
+            });
+        }
+    }
+}
+
+#[test]
+fn a_table_that_no_model_made_lists_every_enabled_rule() {
+    let rule = |kind: u8, id: u8, low: u8, high: u8| [0x21, kind, id, low, 0, 0, 0, high, 0, 0, 0];
+    // The last has an empty clause, which never holds.
+    let rules = [
+        rule(0x08, 0, 0, 0),
+        rule(0x04, 9, 3, 7),
+        rule(0x04, 9, 1, 2),
+        rule(0x01, 255, 0, 0),
+        rule(0x01, 2, 0, 0),
+    ];
+    let table = [&rules.concat()[..], &[0x22]].concat();
+    let wanted = [[1, 255, 0, 0], [4, 9, 3, 7], [4, 9, 1, 2], [8, 0, 0, 0]];
+    let variables = [0; VARIABLES];
+    for index in [whole_index(&table), index_into(&table, 5), Vec::new()] {
+        offers(&wanted, false, |output, told| {
+            raw::table_enabled(&table, &index, &variables, output, told)
+        });
+    }
+    let requests = rules[0].repeat(2);
+    offers(&[[8, 0, 0, 0]; 2], true, |output, told| {
+        raw::table_enabled(&requests, &[], &variables, output, told)
+    });
+    let mut late = variables;
+    late[NOW] = 1_000_000_000;
+    offers(&[[8, 0, 0, 0]; 2], false, |output, told| {
+        raw::table_enabled(&requests, &[], &late, output, told)
+    });
+}
+
+/// The table is not read for faults: kinds that no event has are left out, yet
+/// their rules stop a TICK, and lengths are START's alone.
+#[test]
+fn table_enabled_on_bytes_that_are_no_table() {
+    let rule = |kind: u8| [0x21, kind, 3, 5, 0, 0, 0, 6, 0, 0, 0];
+    let variables = [0; VARIABLES];
+    for (kinds, wanted, tick) in [
+        (&[0x08][..], &[[8, 3, 0, 0]][..], true),
+        (&[0x0B], &[], false),
+        (&[0xFF, 0x08, 0x00], &[[8, 3, 0, 0]], false),
+        (&[0x0A, 0x04, 0x0C], &[[4, 3, 5, 6], [10, 3, 0, 0]], false),
+    ] {
+        let table: Vec<u8> = kinds.iter().flat_map(|&kind| rule(kind)).collect();
+        for index in [whole_index(&table), Vec::new()] {
+            offers(wanted, tick, |output, told| {
+                raw::table_enabled(&table, &index, &variables, output, told)
+            });
+        }
+    }
+    let table = table_of_m();
+    for cut in 0..table.len() {
+        let mut told = [PLACE; 2];
+        let number = raw::table_enabled(&table[..cut], &[], &variables, &mut [], &mut told);
+        assert_eq!(number, if told[0] == 0 { 0 } else { 8 });
+        assert!(told[1] <= 1);
+    }
+}
+
+/// With too little to look at nothing is listed, and nothing told but 0.
+#[test]
+fn nothing_is_enabled_in_a_short_state() {
+    let (words, table) = (words_of_m(), table_of_m());
+    for length in [0, 1, 200, STATE_WORDS - 1, VARIABLES - 1] {
+        let state = vec![0; length.min(STATE_WORDS - 1)];
+        let variables = vec![0; length];
+        tells(&[0, 0], 8, |told| {
+            let mut output = [WORD; 40];
+            let number = raw::model_enabled(&words, &state, &mut output, told);
+            assert_eq!(output, [WORD; 40]);
+            number
+        });
+        tells(&[0, 0], 8, |told| {
+            let mut output = [WORD; 40];
+            let number = raw::table_enabled(&table, &[], &variables, &mut output, told);
+            assert_eq!(output, [WORD; 40]);
+            number
+        });
     }
 }

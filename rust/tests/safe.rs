@@ -6,8 +6,8 @@ use common::{table_of_m, BYTE, DUE, LISTING, M, NOW, SCRIPT, STATE};
 use futonkestrel::refusals::{meaning_of, Holder, MEANINGS};
 use futonkestrel::{
     event_length, events, model_after, model_listing, model_listing_into, read_model, read_table,
-    run_model, run_table, table_listing, table_listing_into, translate, translate_to_vec, Refusal,
-    Run, Table, VARIABLES,
+    run_model, run_table, table_listing, table_listing_into, translate, translate_to_vec, Enabled,
+    Model, Offer, Refusal, Run, Table, VARIABLES,
 };
 
 fn refused<T>(number: u32, start: usize, end: usize) -> Result<T, Refusal> {
@@ -139,6 +139,78 @@ fn the_model_shows_what_the_table_has() {
         }
     }
     assert_eq!(model_after(&M[..4], &[], &[], &mut variables), 1);
+}
+
+#[test]
+fn a_model_goes_event_by_event() {
+    let model = Model::read(M).expect("M is accepted");
+    let start = model.start();
+    let mut state = start.clone();
+    for event in events(SCRIPT) {
+        assert_eq!(model.step(&mut state, event), Ok(()));
+    }
+    let variables = model.variables(&state);
+    // No job is in hand, so that Due stands for nothing.
+    assert_eq!(
+        (variables[NOW], variables[STATE], variables[DUE]),
+        (4, 1, 0)
+    );
+    let before = state.clone();
+    assert_eq!(model.step(&mut state, &[0x06, 0]), Err(10));
+    assert_eq!(model.step(&mut state, &[]), Err(9));
+    assert_eq!(state, before);
+    assert_ne!(state, start);
+    assert_eq!(model.start(), start);
+    assert_eq!(Model::read(&M[..20]).err(), refused::<()>(1, 3, 20).err());
+    assert_eq!(Model::read(&[]).err(), refused::<()>(2, 0, 0).err());
+}
+
+/// Model and table side by side: the same is enabled, and the same shown.
+#[test]
+fn a_model_and_its_table_agree() {
+    let bytes = table_of_m();
+    let (model, table) = (Model::read(M), Table::read(&bytes));
+    let (model, table) = (model.expect("accepted"), table.expect("accepted"));
+    let (mut state, mut variables) = (model.start(), table.start());
+    let mut offered = Vec::new();
+    for event in events(SCRIPT) {
+        let enabled = model.enabled(&state);
+        assert_eq!(enabled, table.enabled(&variables));
+        // TICK is not listed.
+        assert_eq!(enabled.events.is_empty(), event[0] == 0x0B);
+        assert_eq!(enabled.tick, event[0] == 0x0B);
+        offered.extend(enabled.events);
+        assert_eq!(model.step(&mut state, event), Ok(()));
+        assert_eq!(table.step(&mut variables, event), Ok(()));
+        // Due is shown while a job is in hand.
+        let mut wanted = variables;
+        wanted[DUE] *= i32::from(variables[STATE] >= 2);
+        assert_eq!(model.variables(&state), wanted);
+    }
+    let kinds: Vec<u8> = offered.iter().map(|offer| offer.kind).collect();
+    assert_eq!(kinds, [1, 3, 4, 5, 6]);
+    assert_eq!(offered[2].shortest(), [0x04, 0, 1, 0, 0, 0]);
+    assert_eq!(offered[2].longest(), [0x04, 0, 5, 0, 0, 0]);
+    assert_eq!(offered[3].shortest(), [0x05, 0]);
+}
+
+/// More than the room that is tried first.
+#[test]
+fn many_rules_are_enabled() {
+    let rule = |id: u8| [0x21, 0x08, id, 0, 0, 0, 0, 0, 0, 0, 0];
+    let bytes: Vec<u8> = (0..=255).rev().flat_map(rule).collect();
+    let table = Table::read(&bytes).expect("accepted");
+    let offer = |id: u8| Offer {
+        kind: 0x08,
+        id,
+        low: 0,
+        high: 0,
+    };
+    let wanted = Enabled {
+        events: (0..=255).map(offer).collect(),
+        tick: true,
+    };
+    assert_eq!(table.clone().enabled(&table.start()), wanted);
 }
 
 /// A refusal is an error that tells its cause and what to do.

@@ -14,13 +14,13 @@ use denote.Struct.Struct.{Plains}
 use denote.Struct.Laws as LL
 use Rattle.records.proofs.Event as E
 use Rattle.records.proofs.Event.Laws as E′
-use Rattle.model_format.proofs.Model as N
-use Rattle.model_format.proofs.Model.Laws as N′
-use Rattle.model_semantics.specs.declared.Stepped.{Stepped}
-use Rattle.model_semantics.proofs.State as S
-use Rattle.model_semantics.proofs.State.Laws as S′
-use Rattle.model_semantics.proofs.Stepped as R
-use Rattle.model_semantics.proofs.Stepped.Laws as R′
+use Rattle.model_by_value.specs.declared.Answered.{Answered}
+use Rattle.model_by_value.proofs.ModelWords as N
+use Rattle.model_by_value.proofs.ModelWords.Laws as N′
+use Rattle.model_by_value.proofs.StateWords as S
+use Rattle.model_by_value.proofs.StateWords.Laws as S′
+use Rattle.model_by_value.proofs.Answered as R
+use Rattle.model_by_value.proofs.Answered.Laws as R′
 use Rattle.checking_loop.specs.declared.View.{View}
 use Rattle.checking_loop.specs.declared.Turn.{Turn}
 use Rattle.checking_loop.proofs.View as T
@@ -72,11 +72,11 @@ module _ {M : Type 1} (𝓤 : URA M) (H : Heap 𝓤) (A : Atoms 𝓤) (W : Given
   pub turn-laws : Laws 𝓤 H A turn
   turn-laws = laws-of U.the-type U′.the-laws U′.mir refl U′.the-plain 𝓤 H A W
 
-abbrev pub turnWith : View → Stepped → Turn
-turnWith w r = record { view = w; stepped = r }
+abbrev pub turnWith : View → Answered → Turn
+turnWith w r = record { view = w; answered = r }
 
 -- a turn's machine value is made of its parts'
-pub is-turn : (w : View) (r : Stepped) (u : Val) → Is T.the-row w (view w ∷ []) → Is R.the-row r (u ∷ []) → Is (row turn) (turnWith w r) (both w u ∷ [])
+pub is-turn : (w : View) (r : Answered) (u : Val) → Is T.the-row w (view w ∷ []) → Is R.the-row r (u ∷ []) → Is (row turn) (turnWith w r) (both w u ∷ [])
 is-turn w r u p k =
     let e = LL.tells R.the-type R′.the-laws r _ k in
     subst (λ (us : List Val). Is (row turn) (turnWith w r) (both w (only us) ∷ [])) (sym e) (LL.owes U.the-type U′.the-laws (turnWith w r) (p, (subst (λ (us : List Val). Is R.the-row r us) e k, tt)))

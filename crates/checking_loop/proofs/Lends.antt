@@ -84,16 +84,17 @@ module _ (N S E R U : Plain) (made : View → R .D → U .D) where
   abbrev stayed : Stays (turn .signature .params) (turn .kept)
   stayed = (stay-none (λ _. T.the-row) yes, (stay-none (λ _. row N) yes, (stay-none (λ _. row S) yes, (stay-none (λ _. row E) yes, tt))))
 
-  module _ (step : N .D → S .D → E .D → R .D) (viewAfter : View → R .D → View) {M : Type 1} (𝓤 : URA M) where
+  module _ (Steps : N .D → S .D → E .D → R .D → Type 0) (shown : View → R .D → View) (viewAfter : View → N .D → S .D → E .D → View) (Turns : View → N .D → S .D → E .D → U .D → Type 0) {M : Type 1} (𝓤 : URA M) where
     abbrev pub turnClauses : Clauses 𝓤 turn
-    turnClauses κs a = record { ghost = Unit {0}; requires = λ _. emp 𝓤; ensures = λ _ u _. fact 𝓤 (u ≡ made (viewAfter (a .0) (step (a .1 .0) (a .1 .1 .0) (a .1 .1 .1 .0))) (step (a .1 .0) (a .1 .1 .0) (a .1 .1 .1 .0))) }
+    turnClauses κs a = record { ghost = Unit {0}; requires = λ _. emp 𝓤; ensures = λ _ u _. fact 𝓤 (Turns (a .0) (a .1 .0) (a .1 .1 .0) (a .1 .1 .1 .0) u) }
 
     module _ (H : Heap 𝓤) (A : Atoms 𝓤) where
       abbrev pub Advance : Contract 𝓤
-      Advance = tripleOf 𝓤 H A (advance N S E R .signature) (closing 𝓤 H A (advance N S E R) (advanceClauses N S E R step viewAfter 𝓤))
+      Advance = tripleOf 𝓤 H A (advance N S E R .signature) (closing 𝓤 H A (advance N S E R) (advanceClauses N S E R Steps shown viewAfter 𝓤))
 
       module _ (W : Given 𝓤 H A) (LN : Laws 𝓤 H A N) (LS : Laws 𝓤 H A S) (LE : Laws 𝓤 H A E) (LR : Laws 𝓤 H A R) (LU : Laws 𝓤 H A U)
-          (is-made : (w : View) (r : R .D) (u : Val) → Is T.the-row w (view w ∷ []) → Is (row R) r (u ∷ []) → Is (row U) (made w r) (both w u ∷ [])) (f : Name) where
+          (is-made : (w : View) (r : R .D) (u : Val) → Is T.the-row w (view w ∷ []) → Is (row R) r (u ∷ []) → Is (row U) (made w r) (both w u ∷ []))
+          (turns : (v : View) (m : N .D) (s : S .D) (e : E .D) (r : R .D) (w : View) → Steps m s e r → w ≡ viewAfter v m s e → Turns v m s e (made w r)) (f : Name) where
         module _ (v : View) (m : N .D) (s : S .D) (e : E .D)
             (is-v : Is T.the-row v (view v ∷ [])) (is-m : Is (row N) m (N .val m ∷ [])) (is-s : Is (row S) s (S .val s ∷ [])) (is-e : Is (row E) e (E .val e ∷ [])) where
           abbrev at : Vals (turn .signature) tt
@@ -103,12 +104,12 @@ module _ (N S E R U : Plain) (made : View → R .D → U .D) where
           Post = walkOf 𝓤 H A turn stayed turnClauses .post ((tt, tt, tt, (v, (m, (s, (e, tt)))), at), tt)
 
           abbrev Said : View → R .D → Type 0
-          Said w r = (r ≡ step m s e) × (w ≡ viewAfter v (step m s e))
+          Said w r = Steps m s e r × (w ≡ viewAfter v m s e)
 
           exits : (w : View) (r : R .D) (u : Val) → Said w r → Is (row U) (made w r) (both w u ∷ []) → ent 𝓤 (⋆ 𝓤 H A []) (Post (both w u))
           exits w r u d is =
               qed W [] ∵
-              suffices ! _ (ends-at 𝓤 H A turn stayed turnClauses W ((tt, tt, tt, (v, (m, (s, (e, tt)))), at), tt) (both w u) (made w r) (tt, (tt, (tt, (tt, tt)))) (tt, (tt, (tt, (tt, tt))))) $ says ! (λ i. made (d .1 i) (d .0 i)) $
+              suffices ! _ (ends-at 𝓤 H A turn stayed turnClauses W ((tt, tt, tt, (v, (m, (s, (e, tt)))), at), tt) (both w u) (made w r) (tt, (tt, (tt, (tt, tt)))) (tt, (tt, (tt, (tt, tt))))) $ says ! (turns v m s e r w (d .0) (d .1)) $
               nothing ! $ frame ! $ nothing ! $ owned ! (row E) (Is (row E)) (LE .makes) e _ is-e $ fjoin ! $ owned ! (row S) (Is (row S)) (LS .makes) s _ is-s $ fjoin ! $ owned ! (row N) (Is (row N)) (LN .makes) m _ is-m $ fjoin ! $
               owned ! T.the-row (Is T.the-row) (LL.makes T.the-type T′.the-plain 𝓤 H A) v _ is-v $ fjoin ! $ frame ! $ owned ! (row U) (Is (row U)) (LU .makes) (made w r) _ is $ done !
 
@@ -146,7 +147,7 @@ module _ (N S E R U : Plain) (made : View → R .D → U .D) where
                 move ! (0 ∷ 2 ∷ []) $ use2 W (raw (Advance .pre (to ν l₅ δ))) (goes ν l₅ δ) $
                 -- [what the call asks; what is kept of _5; _8 at 2; _7 at 4; _6 at 6; _5's end at 8; _4 at 9; _3 at 11; _2 at 13; _1 at 15; _0 at 17; …]
                 calls-at ! fm Advance known (to ν l₅ δ) (and-then ! (load ! (from ! (stop !)) (look ! 4 refl)) (and-then ! (load ! (from ! (stop !)) (look ! 13 refl)) (and-then ! (load ! (from ! (stop !)) (look ! 11 refl)) (and-then ! (load ! (from ! (stop !)) (look ! 9 refl)) (no-more !))))) (λ u.
-                use1 W (later (some (λ (r : R .D). ((‵ (flft (ν ∷ []) fullShare) ⊛ ‵ ftrue) ⊛ ‵ (R .own r (u ∷ []))) ⊛ raw (ensured 𝓤 H A (advance N S E R) (advanceClauses N S E R step viewAfter 𝓤) (ν ∷ [], tt) (x ν l₅ δ) tt r)))) (id⊢ 𝓤 _) $ await ! tt $ pick ! (λ r.
+                use1 W (later (some (λ (r : R .D). ((‵ (flft (ν ∷ []) fullShare) ⊛ ‵ ftrue) ⊛ ‵ (R .own r (u ∷ []))) ⊛ raw (ensured 𝓤 H A (advance N S E R) (advanceClauses N S E R Steps shown viewAfter 𝓤) (ν ∷ [], tt) (x ν l₅ δ) tt r)))) (id⊢ 𝓤 _) $ await ! tt $ pick ! (λ r.
                 -- what the call ensures, at some last view
                 split ! $ move ! (1 ∷ []) $ use1 W (some (λ (ws : View × (Unit {0} × (Unit {0} × (Unit {0} × Unit {0})))). ‵ (lasts (advance N S E R) (ν ∷ [], tt) (x ν l₅ δ) ws) ⊛ raw (fact 𝓤 (Said (ws .0) r)))) (id⊢ 𝓤 _) $ pick ! (λ ws.
                 split ! $ move ! (1 ∷ []) $ heard ! (Said (ws .0) r) (λ d. move ! (1 ∷ []) $ split ! $ move ! (1 ∷ []) $

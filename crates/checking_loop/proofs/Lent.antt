@@ -1,6 +1,6 @@
 -- One walk for a function that is lent a view. What else it takes and returns, a model, a state, an event and an answer, is plain data that
 -- the walk only moves, so it stands for any plain data: each is known by its type, its machine value and what a walk asks of them.
-use mathlib.Core.Path.{_≡_, refl, ap, _∙_}
+use mathlib.Core.Path.{_≡_, refl, _∙_}
 use Prim.Native.Nat.{ℕ}
 use mathlib.Core.List.{List, [], _∷_}
 use lib.Dec.{T as Holds}
@@ -92,34 +92,35 @@ module _ (N S E R : Plain) where
   abbrev pub advance : Ended
   advance = record { signature = record { lifetimes = 1; outlives = []; params = lentSlot ∷ plain (λ _. row N) ∷ plain (λ _. row S) ∷ plain (λ _. row E) ∷ []; result = plain (λ _. row R) }; kept = (yes, (yes, (yes, (yes, tt)))) }
 
-  module _ (step : N .D → S .D → E .D → R .D) (viewAfter : View → R .D → View) {M : Type 1} (𝓤 : URA M) where
+  module _ (Steps : N .D → S .D → E .D → R .D → Type 0) (shown : View → R .D → View) (viewAfter : View → N .D → S .D → E .D → View) {M : Type 1} (𝓤 : URA M) where
     abbrev pub steppedClauses : Clauses 𝓤 stepped
-    steppedClauses κs a = record { ghost = Unit {0}; requires = λ _. emp 𝓤; ensures = λ _ r _. fact 𝓤 (r ≡ step (a .0) (a .1 .0) (a .1 .1 .0)) }
+    steppedClauses κs a = record { ghost = Unit {0}; requires = λ _. emp 𝓤; ensures = λ _ r _. fact 𝓤 (Steps (a .0) (a .1 .0) (a .1 .1 .0) r) }
 
     abbrev pub afterClauses : Clauses 𝓤 after
-    afterClauses κs a = record { ghost = Unit {0}; requires = λ _. emp 𝓤; ensures = λ _ w _. fact 𝓤 (w ≡ viewAfter (a .0) (a .1 .0)) }
+    afterClauses κs a = record { ghost = Unit {0}; requires = λ _. emp 𝓤; ensures = λ _ w _. fact 𝓤 (w ≡ shown (a .0) (a .1 .0)) }
 
     abbrev pub advanceClauses : Clauses 𝓤 advance
-    advanceClauses κs a = record { ghost = Unit {0}; requires = λ _. emp 𝓤; ensures = λ _ r e. fact 𝓤 ((r ≡ step (a .1 .0) (a .1 .1 .0) (a .1 .1 .1 .0)) × (now (e .0) ≡ viewAfter (now (a .0)) (step (a .1 .0) (a .1 .1 .0) (a .1 .1 .1 .0)))) }
+    advanceClauses κs a = record { ghost = Unit {0}; requires = λ _. emp 𝓤; ensures = λ _ r e. fact 𝓤 (Steps (a .1 .0) (a .1 .1 .0) (a .1 .1 .1 .0) r × (now (e .0) ≡ viewAfter (now (a .0)) (a .1 .0) (a .1 .1 .0) (a .1 .1 .1 .0))) }
 
   abbrev stayed : Stays (advance .signature .params) (advance .kept)
   stayed = (stay-ref (0 ∷ []) tt (plain (λ _. T.the-row)), (stay-none (λ _. row N) yes, (stay-none (λ _. row S) yes, (stay-none (λ _. row E) yes, tt))))
 
-  module _ (step : N .D → S .D → E .D → R .D) (viewAfter : View → R .D → View) {M : Type 1} (𝓤 : URA M) (H : Heap 𝓤) (A : Atoms 𝓤) where
+  module _ (Steps : N .D → S .D → E .D → R .D → Type 0) (shown : View → R .D → View) (viewAfter : View → N .D → S .D → E .D → View) {M : Type 1} (𝓤 : URA M) (H : Heap 𝓤) (A : Atoms 𝓤) where
     -- the contracts of the two callees, and of what each ensures the clause alone
     abbrev pub Step : Contract 𝓤
-    Step = tripleOf 𝓤 H A (stepped .signature) (closing 𝓤 H A stepped (steppedClauses step viewAfter 𝓤))
+    Step = tripleOf 𝓤 H A (stepped .signature) (closing 𝓤 H A stepped (steppedClauses Steps shown viewAfter 𝓤))
 
     abbrev pub After : Contract 𝓤
-    After = tripleOf 𝓤 H A (after .signature) (closing 𝓤 H A after (afterClauses step viewAfter 𝓤))
+    After = tripleOf 𝓤 H A (after .signature) (closing 𝓤 H A after (afterClauses Steps shown viewAfter 𝓤))
 
-    stepped-of : (m : N .D) (s : S .D) (e : E .D) (r : R .D) → ent 𝓤 (ensured 𝓤 H A stepped (steppedClauses step viewAfter 𝓤) tt (m, (s, (e, tt))) tt r) (fact 𝓤 (r ≡ step m s e))
-    stepped-of m s e r = exE 𝓤 _ (λ ws. snd∗ 𝓤 (sem 𝓤 H A (lasts stepped tt (m, (s, (e, tt))) ws)) (fact 𝓤 (r ≡ step m s e)))
+    stepped-of : (m : N .D) (s : S .D) (e : E .D) (r : R .D) → ent 𝓤 (ensured 𝓤 H A stepped (steppedClauses Steps shown viewAfter 𝓤) tt (m, (s, (e, tt))) tt r) (fact 𝓤 (Steps m s e r))
+    stepped-of m s e r = exE 𝓤 _ (λ ws. snd∗ 𝓤 (sem 𝓤 H A (lasts stepped tt (m, (s, (e, tt))) ws)) (fact 𝓤 (Steps m s e r)))
 
-    after-of : (v : View) (r : R .D) (w : View) → ent 𝓤 (ensured 𝓤 H A after (afterClauses step viewAfter 𝓤) tt (v, (r, tt)) tt w) (fact 𝓤 (w ≡ viewAfter v r))
-    after-of v r w = exE 𝓤 _ (λ ws. snd∗ 𝓤 (sem 𝓤 H A (lasts after tt (v, (r, tt)) ws)) (fact 𝓤 (w ≡ viewAfter v r)))
+    after-of : (v : View) (r : R .D) (w : View) → ent 𝓤 (ensured 𝓤 H A after (afterClauses Steps shown viewAfter 𝓤) tt (v, (r, tt)) tt w) (fact 𝓤 (w ≡ shown v r))
+    after-of v r w = exE 𝓤 _ (λ ws. snd∗ 𝓤 (sem 𝓤 H A (lasts after tt (v, (r, tt)) ws)) (fact 𝓤 (w ≡ shown v r)))
 
-    module _ (W : Given 𝓤 H A) (LN : Laws 𝓤 H A N) (LS : Laws 𝓤 H A S) (LE : Laws 𝓤 H A E) (LR : Laws 𝓤 H A R) (f g : Name) where
+    module _ (W : Given 𝓤 H A) (LN : Laws 𝓤 H A N) (LS : Laws 𝓤 H A S) (LE : Laws 𝓤 H A E) (LR : Laws 𝓤 H A R)
+        (same : (v : View) (m : N .D) (s : S .D) (e : E .D) (r : R .D) → Steps m s e r → shown v r ≡ viewAfter v m s e) (f g : Name) where
       module _ (κ : Lft) (q : Share) (b o : ℕ) (γ : GName) (h : View) (m : N .D) (s : S .D) (e : E .D)
           (is-m : Is (row N) m (N .val m ∷ [])) (is-s : Is (row S) s (S .val s ∷ [])) (is-e : Is (row E) e (E .val e ∷ [])) where
         abbrev x : Args (advance .signature) (κ, tt)
@@ -129,13 +130,13 @@ module _ (N S E R : Plain) where
         at = (vptr b o ∷ [], (N .val m ∷ [], (S .val s ∷ [], (E .val e ∷ [], tt))))
 
         abbrev Post : Val → SProp 𝓤
-        Post = walkOf 𝓤 H A advance stayed (advanceClauses step viewAfter 𝓤) .post (((κ, tt), (q, tt), tt, x, at), tt)
+        Post = walkOf 𝓤 H A advance stayed (advanceClauses Steps shown viewAfter 𝓤) .post (((κ, tt), (q, tt), tt, x, at), tt)
 
-        exits : (r : R .D) (u : Val) (w : View) → r ≡ step m s e → w ≡ viewAfter h r
+        exits : (r : R .D) (u : Val) (w : View) → Steps m s e r → w ≡ shown h r
             → ent 𝓤 (⋆ 𝓤 H A (‵ (fobs γ (T.the-row .coded .code w)) ∷ ‵ (fbor κ (Body (mem T.the-row) b o γ)) ∷ ‵ (flft κ q) ∷ ‵ (R .own r (u ∷ [])) ∷ [])) (Post u)
         exits r u w d k =
             qed W (‵ (fobs γ (T.the-row .coded .code w)) ∷ ‵ (fbor κ (Body (mem T.the-row) b o γ)) ∷ ‵ (flft κ q) ∷ ‵ (R .own r (u ∷ [])) ∷ []) ∵
-            suffices ! _ (ends-at 𝓤 H A advance stayed (advanceClauses step viewAfter 𝓤) W (((κ, tt), (q, tt), tt, x, at), tt) u r (w, (tt, (tt, (tt, tt)))) (tt, (tt, (tt, (tt, tt))))) $ says ! (d, k ∙ ap (viewAfter h) d) $
+            suffices ! _ (ends-at 𝓤 H A advance stayed (advanceClauses Steps shown viewAfter 𝓤) W (((κ, tt), (q, tt), tt, x, at), tt) u r (w, (tt, (tt, (tt, tt)))) (tt, (tt, (tt, (tt, tt))))) $ says ! (d, k ∙ same h m s e r d) $
             nothing ! $ move ! (3 ∷ 0 ∷ []) $ join ! $ frame ! $ feqI ! (List Val) (vptr b o ∷ []) (vptr b o ∷ []) refl $ fjoin3 ! $
             nothing ! $ owned ! (row E) (Is (row E)) (LE .makes) e _ is-e $ fjoin ! $ owned ! (row S) (Is (row S)) (LS .makes) s _ is-s $ fjoin ! $
             owned ! (row N) (Is (row N)) (LN .makes) m _ is-m $ fjoin ! $ move ! (1 ∷ 0 ∷ []) $ fjoin ! $ done !
@@ -168,8 +169,8 @@ module _ (N S E R : Plain) where
               -- the step
               move ! (19 ∷ []) $ use1 W (raw (Step .pre to-step)) goes-step $
               calls-at ! fm Step known to-step (and-then ! (load ! (from ! (stop !)) (look ! 11 refl)) (and-then ! (load ! (from ! (stop !)) (look ! 9 refl)) (and-then ! (load ! (from ! (stop !)) (look ! 7 refl)) (no-more !)))) (λ u.
-              use1 W (later (some (λ (r : R .D). (‵ ftrue ⊛ ‵ (R .own r (u ∷ []))) ⊛ raw (ensured 𝓤 H A stepped (steppedClauses step viewAfter 𝓤) tt (m, (s, (e, tt))) tt r)))) (id⊢ 𝓤 _) $ await ! tt $ pick ! (λ r.
-              split ! $ move ! (1 ∷ []) $ use1 W (raw (fact 𝓤 (r ≡ step m s e))) (stepped-of m s e r) $ heard ! (r ≡ step m s e) (λ d. split ! $ drop ! $
+              use1 W (later (some (λ (r : R .D). (‵ ftrue ⊛ ‵ (R .own r (u ∷ []))) ⊛ raw (ensured 𝓤 H A stepped (steppedClauses Steps shown viewAfter 𝓤) tt (m, (s, (e, tt))) tt r)))) (id⊢ 𝓤 _) $ await ! tt $ pick ! (λ r.
+              split ! $ move ! (1 ∷ []) $ use1 W (raw (fact 𝓤 (Steps m s e r))) (stepped-of m s e r) $ heard ! (Steps m s e r) (λ d. split ! $ drop ! $
               peeks ! (row R) (Is (row R)) (shows 𝓤 H A (row R)) r (u ∷ []) (λ is.
               land ! (from ! (stop !)) (init ! 5 refl (LR .typed r _ is)) $
               -- the borrow is opened
@@ -180,8 +181,8 @@ module _ (N S E R : Plain) where
               -- the view after it
               move ! (1 ∷ []) $ owned ! (row R) (Is (row R)) (LR .makes) r _ is $ move ! (1 ∷ 0 ∷ []) $ use2 W (raw (After .pre (to-after r u))) (goes-after r u) $
               calls-at ! fm After known′ (to-after r u) (and-then ! (load ! (from ! (stop !)) (look ! 6 refl)) (and-then ! (load ! (from ! (stop !)) (look ! 10 refl)) (no-more !))) (λ c.
-              use1 W (later (some (λ (w : View). (‵ ftrue ⊛ ‵ (T.the-row .own w (c ∷ []))) ⊛ raw (ensured 𝓤 H A after (afterClauses step viewAfter 𝓤) tt (h, (r, tt)) tt w)))) (id⊢ 𝓤 _) $ await ! tt $ pick ! (λ w.
-              split ! $ move ! (1 ∷ []) $ use1 W (raw (fact 𝓤 (w ≡ viewAfter h r))) (after-of h r w) $ heard ! (w ≡ viewAfter h r) (λ k. split ! $ drop ! $
+              use1 W (later (some (λ (w : View). (‵ ftrue ⊛ ‵ (T.the-row .own w (c ∷ []))) ⊛ raw (ensured 𝓤 H A after (afterClauses Steps shown viewAfter 𝓤) tt (h, (r, tt)) tt w)))) (id⊢ 𝓤 _) $ await ! tt $ pick ! (λ w.
+              split ! $ move ! (1 ∷ []) $ use1 W (raw (fact 𝓤 (w ≡ shown h r))) (after-of h r w) $ heard ! (w ≡ shown h r) (λ k. split ! $ drop ! $
               -- [what w owns; the view's cell; the open borrow; obs; auth; what r owns; …]
               peeks ! T.the-row (Is T.the-row) (shows 𝓤 H A T.the-row) w (c ∷ []) (λ is′.
               land ! (from ! (stop !)) (init ! 8 refl (LL.lawful T.the-type T′.the-laws 𝓤 H A W .typed w _ is′ .0)) $
@@ -196,10 +197,10 @@ module _ (N S E R : Plain) where
       goes = (goes-ref 𝓤 H A W 1 0 tt (plain (λ _. T.the-row)), (goes-none 𝓤 H A W 1 (λ _. row N) yes (λ κs x f. refl), (goes-none 𝓤 H A W 1 (λ _. row S) yes (λ κs x f. refl), (goes-none 𝓤 H A W 1 (λ _. row E) yes (λ κs x f. refl), tt))))
 
       pub lent-meets : (𝓣 : Tables 𝓤 H) → Triple 𝓤 (𝓣 .C f) Step → Triple 𝓤 (𝓣 .C g) After
-          → Meets 𝓤 H A (advance .signature) (WpFn 𝓤 H (𝓣 .C) (𝓣 .Λ) (lent (N .ty) (S .ty) (E .ty) (R .ty) f g)) (closing 𝓤 H A advance (advanceClauses step viewAfter 𝓤))
+          → Meets 𝓤 H A (advance .signature) (WpFn 𝓤 H (𝓣 .C) (𝓣 .Λ) (lent (N .ty) (S .ty) (E .ty) (R .ty) f g)) (closing 𝓤 H A advance (advanceClauses Steps shown viewAfter 𝓤))
       lent-meets 𝓣 known known′ =
-          walk-meets 𝓤 H A advance stayed W goes (advanceClauses step viewAfter 𝓤) (WpFn 𝓤 H (𝓣 .C) (𝓣 .Λ) (lent (N .ty) (S .ty) (E .ty) (R .ty) f g)) (WpFn-mono 𝓤 H (W .laws) 𝓣 (lent (N .ty) (S .ty) (E .ty) (R .ty) f g))
-          (walked 𝓤 H A advance stayed (advanceClauses step viewAfter 𝓤) (WpFn 𝓤 H (𝓣 .C) (𝓣 .Λ) (lent (N .ty) (S .ty) (E .ty) (R .ty) f g))
+          walk-meets 𝓤 H A advance stayed W goes (advanceClauses Steps shown viewAfter 𝓤) (WpFn 𝓤 H (𝓣 .C) (𝓣 .Λ) (lent (N .ty) (S .ty) (E .ty) (R .ty) f g)) (WpFn-mono 𝓤 H (W .laws) 𝓣 (lent (N .ty) (S .ty) (E .ty) (R .ty) f g))
+          (walked 𝓤 H A advance stayed (advanceClauses Steps shown viewAfter 𝓤) (WpFn 𝓤 H (𝓣 .C) (𝓣 .Λ) (lent (N .ty) (S .ty) (E .ty) (R .ty) f g))
           (λ κs. (ptr-vals, ((λ x. N .val x ∷ []), ((λ x. S .val x ∷ []), ((λ x. E .val x ∷ []), tt)))))
           (λ κs. (mut-tells (named 0) (κs .0) T.the-row, (LN .tells, (LS .tells, (LE .tells, tt)))))
           (λ κs qs bounds a _ are. via 𝓤 _ (fst∗ 𝓤 _ (emp 𝓤)) (walk (κs .0) (qs .0) (a .0 .ptr .0) (a .0 .ptr .1) (a .0 .name) (a .0 .now) (a .1 .0) (a .1 .1 .0) (a .1 .1 .1 .0) (are .1 .0) (are .1 .1 .0) (are .1 .1 .1 .0) (𝓣 .C) (𝓣 .Λ) (fmOf 𝓤 H (W .laws) 𝓣) known known′)))

@@ -15,4 +15,5 @@ exported {t = result} t w = record {
   tells = rw (t .told) at w;
   output = t .output;
   simulated = λ script z. rw (← t .told) (t .simulated script (eq-eqb (numberOf (result .refusal .cause)) 0 (sym (w .number) ∙ z)));
+  offered = λ script z. rw (← t .told) (t .offered script (eq-eqb (numberOf (result .refusal .cause)) 0 (sym (w .number) ∙ z)));
 }

@@ -1,16 +1,28 @@
 // The static library: what programs in C and other languages call. Each function takes slices (in C a pointer and a count) and has no
 // condition on what they hold.
 
+use enabled::Enabled;
+use model_state::STATE_WORDS;
+use records::Cause;
 ghost use mathlib.Core.Path.{_≡_};
+ghost use lib.ListN.{length};
+ghost use lib.Seq.{sets};
 ghost use Rattle.records.specs.declared.Notation.the-variants as notations;
 ghost use Rattle.records.specs.Format.{partLengthAt};
 ghost use Rattle.records.specs.Refusals.{numberOf};
 ghost use Rattle.model_format.specs.Reading.{readModel};
 ghost use Rattle.table_format.specs.Reading.{readTable};
+ghost use Rattle.table_index.specs.Index.{indexOf, indexSize};
 ghost use Rattle.table_writer.specs.Wrote.{Wrote};
 ghost use Rattle.listing.specs.Programs.{stepsListing, tableListing};
 ghost use Rattle.listing.specs.Outcomes.{modelOutcome, tableOutcome};
+ghost use Rattle.table_enabled.specs.EnabledBy.{enabledBy, listBy};
 ghost use Rattle.futonkestrel_lending.specs.Lending as lending;
+ghost use Rattle.futonkestrel_states.specs.States as states;
+ghost use Rattle.model_state.specs.Words.{stateWords, stateIn};
+ghost use Rattle.model_words.specs.Words.{modelWords, timingIn};
+ghost use Rattle.enabled.specs.Enabled.{modelOffers, modelMayTick};
+ghost use Rattle.enabled.specs.Told.{toldFrom, listFrom};
 ghost use Rattle.futonkestrel.specs.Exports.{Exports};
 
 // ---- reading
@@ -18,8 +30,7 @@ ghost use Rattle.futonkestrel.specs.Exports.{Exports};
 pub extern "C" fn fk_read_model(model: &[u8], told: &mut [usize]) -> u32
     ensures { λ r. ⌜ lending.Tells (readModel (now (model .entry)) .refusal .cause) (lending.toldRefusal (readModel (now (model .entry)) .refusal)) (now (told .entry)) r (now (told .exit)) ⌝ }
 {
-    let r = model_reader::read_model(model);
-    let f = r.refusal;
+    let f = model_reader::judge_model(model);
     futonkestrel_lending::tell_refusal(told, f)
 }
 
@@ -88,11 +99,25 @@ pub extern "C" fn fk_table_start(table: &[u8], variables: &mut [u32]) -> u32
     futonkestrel_lending::number(c)
 }
 
+// The index of a table, as far as there is room, by which events find their rules. It tells how many numbers list all.
 #[no_mangle]
-pub extern "C" fn fk_table_step(table: &[u8], variables: &mut [u32], event: &[u8]) -> u32
-    ensures { λ r. ⌜ (r ≡ numberOf (lending.stepAnswer (now (table .entry)) (now (variables .entry)) (now (event .entry)))) × (now (variables .exit) ≡ lending.stepLent (now (table .entry)) (now (variables .entry)) (now (event .entry))) ⌝ }
+pub extern "C" fn fk_table_index(table: &[u8], index: &mut [usize]) -> usize
+    ensures { λ r. ⌜ (r ≡ indexSize (now (table .entry))) × (now (index .exit) ≡ sets (now (index .entry)) 0 (indexOf (now (table .entry)) (length (now (index .entry))))) ⌝ }
 {
-    let c = futonkestrel_tables::table_step(table, variables, event);
+    table_index::list_rules(table, index)
+}
+
+// One event by an index of any content: by none, the table is walked.
+#[no_mangle]
+pub extern "C" fn fk_table_step(
+    table: &[u8],
+    index: &[usize],
+    variables: &mut [u32],
+    event: &[u8],
+) -> u32
+    ensures { λ r. ⌜ (r ≡ numberOf (lending.stepAnswer (now (table .entry)) (now (index .entry)) (now (variables .entry)) (now (event .entry)))) × (now (variables .exit) ≡ lending.stepLent (now (table .entry)) (now (index .entry)) (now (variables .entry)) (now (event .entry))) ⌝ }
+{
+    let c = futonkestrel_tables::table_step(table, index, variables, event);
     futonkestrel_lending::number(c)
 }
 
@@ -107,4 +132,90 @@ pub extern "C" fn fk_model_after(
 {
     let c = futonkestrel_models::model_after(model, script, event, variables);
     futonkestrel_lending::number(c)
+}
+
+// ---- a model and a state in numbers that the caller keeps
+// How many numbers a model takes, and a state.
+#[no_mangle]
+pub extern "C" fn fk_model_words() -> usize
+    ensures { λ r. ⌜ r ≡ modelWords ⌝ }
+{
+    model_words::MODEL_WORDS
+}
+
+#[no_mangle]
+pub extern "C" fn fk_state_words() -> usize
+    ensures { λ r. ⌜ r ≡ stateWords ⌝ }
+{
+    model_state::STATE_WORDS
+}
+
+#[no_mangle]
+pub extern "C" fn fk_model_read(model: &[u8], words: &mut [u32], told: &mut [usize]) -> u32
+    ensures { λ r. ⌜ states.ReadsModel (now (model .entry)) (now (words .entry)) (now (words .exit)) (now (told .entry)) r (now (told .exit)) ⌝ }
+{
+    futonkestrel_states::model_read(model, words, told)
+}
+
+#[no_mangle]
+pub extern "C" fn fk_model_start(words: &[u32], state: &mut [u32]) -> u32
+    ensures { λ r. ⌜ (r ≡ numberOf (states.startedAnswer (now (state .entry)))) × (now (state .exit) ≡ states.startedState (now (words .entry)) (now (state .entry))) ⌝ }
+{
+    let c = futonkestrel_states::model_start(words, state);
+    futonkestrel_lending::number(c)
+}
+
+#[no_mangle]
+pub extern "C" fn fk_model_step(words: &[u32], state: &mut [u32], event: &[u8]) -> u32
+    ensures { λ r. ⌜ (r ≡ numberOf (states.steppedAnswer (now (words .entry)) (now (state .entry)) (now (event .entry)))) × (now (state .exit) ≡ states.steppedState (now (words .entry)) (now (state .entry)) (now (event .entry))) ⌝ }
+{
+    let c = futonkestrel_states::model_step(words, state, event);
+    futonkestrel_lending::number(c)
+}
+
+#[no_mangle]
+pub extern "C" fn fk_model_variables(words: &[u32], state: &[u32], variables: &mut [u32]) -> u32
+    ensures { λ r. ⌜ (r ≡ numberOf (states.shownAnswer (now (variables .entry)))) × (now (variables .exit) ≡ states.shownVariables (now (words .entry)) (now (state .entry)) (now (variables .entry))) ⌝ }
+{
+    let c = futonkestrel_states::model_variables(words, state, variables);
+    futonkestrel_lending::number(c)
+}
+
+// ---- what is enabled
+// Of a model and a state as lists of numbers: four numbers an event into the output, the count and the tick into what is told.
+#[no_mangle]
+pub extern "C" fn fk_model_enabled(
+    words: &[u32],
+    state: &[u32],
+    output: &mut [u32],
+    told: &mut [usize],
+) -> u32
+    ensures { λ r. ⌜ (lending.TellsEnabled (toldFrom stateWords (now (state .entry)) (modelOffers (timingIn (now (words .entry))) (stateIn (now (state .entry)))) (modelMayTick (timingIn (now (words .entry))) (stateIn (now (state .entry)))) (length (now (output .entry)))) (now (told .entry)) r (now (told .exit))) × (now (output .exit) ≡ listFrom stateWords (now (state .entry)) (modelOffers (timingIn (now (words .entry))) (stateIn (now (state .entry)))) (now (output .entry))) ⌝ }
+{
+    if state.len() < STATE_WORDS {
+        let short = Cause::ShortOutput;
+        let nothing = Enabled {
+            answer: short,
+            count: 0,
+            tick: false,
+        };
+        return futonkestrel_lending::tell_enabled(told, nothing);
+    }
+    let e = model_enabled::enabled_in(words, state, output);
+    futonkestrel_lending::tell_enabled(told, e)
+}
+
+// Of a table and variables, by an index of any content: the same.
+#[no_mangle]
+pub extern "C" fn fk_table_enabled(
+    table: &[u8],
+    index: &[usize],
+    variables: &[u32],
+    output: &mut [u32],
+    told: &mut [usize],
+) -> u32
+    ensures { λ r. ⌜ (lending.TellsEnabled (enabledBy (now (table .entry)) (now (index .entry)) (now (variables .entry)) (length (now (output .entry)))) (now (told .entry)) r (now (told .exit))) × (now (output .exit) ≡ listBy (now (table .entry)) (now (index .entry)) (now (variables .entry)) (now (output .entry))) ⌝ }
+{
+    let e = table_enabled::enabled_in(table, index, variables, output);
+    futonkestrel_lending::tell_enabled(told, e)
 }

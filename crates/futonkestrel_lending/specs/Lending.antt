@@ -4,11 +4,11 @@ use mathlib.Core.Path.{_≡_}
 use mathlib.Core.Bool.{Bool, cond, _&&_, not}
 use mathlib.Core.List.{List, [], _∷_}
 use Prim.Native.Nat.{ℕ}
-use lib.ListN.{getD, length, replicate}
+use lib.ListN.{length, take}
 use lib.Seq.{sets}
 use lib.Dec.{ltb}
-use Rattle.numbers.specs.Lists.{store, foldBelow, joinBelow}
-use Rattle.numbers.specs.Values.{value, natural, signed, bitsOf}
+use Rattle.numbers.specs.Lists.{listBelow}
+use Rattle.numbers.specs.Values.{bitsOf}
 use Rattle.records.specs.declared.Cause.{Cause}
 use Rattle.records.specs.declared.Cause.the-variants.{ShortOutput}
 use Rattle.records.specs.declared.Refusal.{Refusal}
@@ -28,17 +28,20 @@ use Rattle.table_semantics.specs.declared.Variables.{Variables}
 use Rattle.table_semantics.specs.declared.Stepped.{Stepped as TableStepped}
 use Rattle.table_semantics.specs.Rules.{valueOf}
 use Rattle.table_semantics.specs.Machine as table-machine
+use Rattle.table_semantics.specs.Runs.{variablesOf}
+use Rattle.table_index.specs.Index.{stepBy}
 use Rattle.translation.specs.declared.Translation.{Translation}
 use Rattle.translation.specs.Shown.{standsFor}
+use Rattle.enabled.specs.declared.Enabled.{Enabled}
 use Rattle.listing.specs.Outcomes.{Outcome}
 
 -- ---- variables: number j of the slice is the 32 bits of variable j; what lies behind the variables is no concern of ours
 abbrev pub variablesIn : List ℕ → Variables
-variablesIn d = record { value = foldBelow variables (λ j v. store variables v j (value (signed (getD d j 0)))) (replicate variables (natural 0)) }
+variablesIn d = variablesOf (take variables d)
 
 -- the slice with the numbers f 0, f 1, .. of the variables at its start
 abbrev pub lentAs : List ℕ → (ℕ → ℕ) → List ℕ
-lentAs d f = sets d 0 (joinBelow variables (λ j. f j ∷ []))
+lentAs d f = sets d 0 (listBelow variables f)
 
 abbrev pub numbersOf : Variables → ℕ → ℕ
 numbersOf s j = bitsOf (valueOf (s .value) j .0)
@@ -57,15 +60,15 @@ startAnswer table d = let c = readTable table .cause in cond (isNone c) (cond (i
 unfoldable pub startLent : List ℕ → List ℕ → List ℕ
 startLent table d = cond (isNone (startAnswer table d)) (lentAs d (numbersOf (table-machine.startVariables (tableOf table)))) d
 
--- ---- one event on lent variables: refused, it leaves them as they were
-abbrev pub stepOn : List ℕ → List ℕ → List ℕ → TableStepped
-stepOn table d event = table-machine.step (tableOf table .rules) (variablesIn d) (eventOf event)
+-- ---- one event on lent variables by an index of the table: refused, it leaves them as they were
+abbrev pub stepOn : List ℕ → List ℕ → List ℕ → List ℕ → TableStepped
+stepOn table index d event = stepBy table index (variablesIn d) (eventOf event)
 
-unfoldable pub stepAnswer : List ℕ → List ℕ → List ℕ → Cause
-stepAnswer table d event = cond (isShort d) ShortOutput (stepOn table d event .answer)
+unfoldable pub stepAnswer : List ℕ → List ℕ → List ℕ → List ℕ → Cause
+stepAnswer table index d event = cond (isShort d) ShortOutput (stepOn table index d event .answer)
 
-unfoldable pub stepLent : List ℕ → List ℕ → List ℕ → List ℕ
-stepLent table d event = cond (isNone (stepAnswer table d event)) (lentAs d (numbersOf (stepOn table d event .state))) d
+unfoldable pub stepLent : List ℕ → List ℕ → List ℕ → List ℕ → List ℕ
+stepLent table index d event = cond (isNone (stepAnswer table index d event)) (lentAs d (numbersOf (stepOn table index d event .state))) d
 
 -- ---- one event of a model, after a list that goes on after refusals: what each variable of the table stands for then
 abbrev pub afterStep : Model → List ℕ → List ℕ → Stepped
@@ -92,6 +95,10 @@ toldTranslation t = t .refusal .start ∷ t .refusal .end ∷ t .bytes ∷ []
 abbrev pub toldOutcome : Outcome → List ℕ
 toldOutcome o = o .refusal .start ∷ o .refusal .end ∷ o .taken ∷ o .clock ∷ []
 
+-- how many events are enabled, then 1 where a tick may pass, else 0
+abbrev pub toldEnabled : Enabled → List ℕ
+toldEnabled e = e .count ∷ cond (e .tick) 1 0 ∷ []
+
 -- the number of a cause as the result, the rest in the slice
 pub record Tells (c : Cause) (rest before : List ℕ) (r : ℕ) (after : List ℕ) : Type 0 where
   pub number : r ≡ numberOf c
@@ -99,3 +106,6 @@ pub record Tells (c : Cause) (rest before : List ℕ) (r : ℕ) (after : List �
 
 abbrev pub TellsOutcome : Outcome → List ℕ → ℕ → List ℕ → Type 0
 TellsOutcome o before r after = Tells (o .refusal .cause) (toldOutcome o) before r after
+
+abbrev pub TellsEnabled : Enabled → List ℕ → ℕ → List ℕ → Type 0
+TellsEnabled e before r after = Tells (e .answer) (toldEnabled e) before r after

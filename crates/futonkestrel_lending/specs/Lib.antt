@@ -1,2 +1,4 @@
 pub mod Lending
 pub mod Laws
+pub mod Indexed
+pub mod ToldLaws

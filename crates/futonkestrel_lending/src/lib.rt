@@ -1,53 +1,27 @@
 // What callers lend: variables by their bits, and places for what is told of a refusal or a run.
 
+use enabled::Enabled;
 use records::Cause;
 use records::Notation;
 use records::Refusal;
+use table_format::VARIABLES;
 use table_semantics::Variables;
 use translation::Translation;
 ghost use mathlib.Core.Path.{_≡_};
-ghost use lib.ListN.{getD, set};
+ghost use mathlib.Core.Bool.{cond};
 ghost use Rattle.records.specs.declared.Notation.the-variants as notations;
 ghost use Rattle.records.specs.Format.{partLengthAt};
 ghost use Rattle.records.specs.Refusals.{numberOf};
 ghost use Rattle.futonkestrel_lending.specs.Lending as lending;
 
 // ---- variables
-pub fn put_number(lent: &mut [u32], place: usize, number: u32)
-    ensures { λ _. ⌜ now (lent .exit) ≡ set (now (lent .entry)) place number ⌝ }
-{
-    if place < lent.len() {
-        lent[place] = number;
-    }
-}
-
-fn number_in(lent: &[u32], place: usize) -> u32
-    ensures { λ r. ⌜ r ≡ getD (now (lent .entry)) place 0 ⌝ }
-{
-    if place < lent.len() { lent[place] } else { 0 }
-}
-
-pub fn variables_in(lent: &[u32]) -> Variables
-    ensures { λ r. ⌜ r ≡ lending.variablesIn (now (lent .entry)) ⌝ }
-{
-    let zero = numbers::value_of(0);
-    let mut value = [zero; 288];
-    let mut j: usize = 0;
-    while j < 288 {
-        let n = number_in(lent, j);
-        value[j] = numbers::value_of(n);
-        j += 1;
-    }
-    Variables { value: value }
-}
-
 pub fn put_variables(lent: &mut [u32], variables: Variables)
     ensures { λ _. ⌜ now (lent .exit) ≡ lending.lentAs (now (lent .entry)) (lending.numbersOf variables) ⌝ }
 {
     let mut j: usize = 0;
-    while j < 288 {
+    while j < VARIABLES {
         let v = variables.value[j];
-        put_number(lent, j, numbers::bits(v));
+        numbers::put_word(lent, j, numbers::bits(v));
         j += 1;
     }
 }
@@ -94,4 +68,20 @@ pub fn tell_run(told: &mut [usize], refusal: Refusal, taken: usize, clock: u32) 
     listing_writer::tell(told, 2, taken);
     listing_writer::tell(told, 3, clock as usize);
     number
+}
+
+fn mark_of(b: bool) -> usize
+    ensures { λ r. ⌜ r ≡ cond b 1 0 ⌝ }
+{
+    if b { 1 } else { 0 }
+}
+
+// What is enabled: whether there was room for its numbers as the result, then the count and the tick.
+pub fn tell_enabled(told: &mut [usize], enabled: Enabled) -> u32
+    ensures { λ r. ⌜ lending.TellsEnabled enabled (now (told .entry)) r (now (told .exit)) ⌝ }
+{
+    listing_writer::tell(told, 0, enabled.count);
+    listing_writer::tell(told, 1, mark_of(enabled.tick));
+    let answer = enabled.answer;
+    number(answer)
 }

@@ -23,7 +23,7 @@ fn put_shown(lent: &mut [u32], m: &[u32], s: &[u32])
     let mut j: usize = 0;
     while j < VARIABLES {
         let n = number_shown(m, s, j as u16);
-        futonkestrel_lending::put_number(lent, j, n);
+        numbers::put_word(lent, j, n);
         j += 1;
     }
 }
@@ -33,7 +33,7 @@ pub fn model_after(model: &[u8], script: &[u8], event: &[u8], lent: &mut [u32]) 
     ensures { λ r. ⌜ (r ≡ lending.afterAnswer (now (model .entry)) (now (script .entry)) (now (event .entry)) (now (lent .entry))) × (now (lent .exit) ≡ lending.afterLent (now (model .entry)) (now (script .entry)) (now (event .entry)) (now (lent .entry))) ⌝ }
 {
     let mut words = [0u32; MODEL_WORDS];
-    let refusal = model_reading::read_model_into(model, &mut words);
+    let refusal = model_reader::read_model_into(model, &mut words);
     let cause = refusal.cause;
     if !records::is_none(cause) {
         return cause;
@@ -42,8 +42,8 @@ pub fn model_after(model: &[u8], script: &[u8], event: &[u8], lent: &mut [u32]) 
         return Cause::ShortOutput;
     }
     let mut state = [0u32; STATE_WORDS];
-    engine_runs::run_on_in(&words, &mut state, script);
-    let answer = engine_machine::step(&words, &mut state, records::event_of(event));
+    model_runs::run_on_in(&words, &mut state, script);
+    let answer = model_machine::step(&words, &mut state, records::event_of(event));
     put_shown(lent, &words, &state);
     answer
 }
@@ -53,13 +53,13 @@ pub fn run_model(model: &[u8], script: &[u8], told: &mut [usize]) -> u32
     ensures { λ r. ⌜ lending.TellsOutcome (modelOutcome (now (model .entry)) (now (script .entry))) (now (told .entry)) r (now (told .exit)) ⌝ }
 {
     let mut words = [0u32; MODEL_WORDS];
-    let refusal = model_reading::read_model_into(model, &mut words);
+    let refusal = model_reader::read_model_into(model, &mut words);
     let cause = refusal.cause;
     if !records::is_none(cause) {
         return futonkestrel_lending::tell_run(told, refusal, 0, 0);
     }
     let mut state = [0u32; STATE_WORDS];
-    let ran = engine_runs::run_in(&words, &mut state, script);
+    let ran = model_runs::run_in(&words, &mut state, script);
     let stopped = ran.refusal;
     let clock = model_state::now_of(&state);
     futonkestrel_lending::tell_run(told, stopped, ran.taken, clock.0)

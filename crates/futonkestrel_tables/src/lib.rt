@@ -1,6 +1,7 @@
 // The table's engine for callers who lend slices.
 
 use records::Cause;
+use table_format::VARIABLES;
 ghost use mathlib.Core.Path.{_≡_};
 ghost use Rattle.listing.specs.Outcomes.{tableOutcome};
 ghost use Rattle.futonkestrel_lending.specs.Lending as lending;
@@ -14,27 +15,22 @@ pub fn table_start(table: &[u8], lent: &mut [u32]) -> Cause
     if !records::is_none(cause) {
         return cause;
     }
-    if lent.len() < 288 {
+    if lent.len() < VARIABLES {
         return Cause::ShortOutput;
     }
     futonkestrel_lending::put_variables(lent, table_machine::start_variables(table));
     cause
 }
 
-// One event on lent variables.
-pub fn table_step(table: &[u8], lent: &mut [u32], event: &[u8]) -> Cause
-    ensures { λ r. ⌜ (r ≡ lending.stepAnswer (now (table .entry)) (now (lent .entry)) (now (event .entry))) × (now (lent .exit) ≡ lending.stepLent (now (table .entry)) (now (lent .entry)) (now (event .entry))) ⌝ }
+// One event on lent variables, where they lie, by an index of any content.
+pub fn table_step(table: &[u8], index: &[usize], variables: &mut [u32], event: &[u8]) -> Cause
+    ensures { λ r. ⌜ (r ≡ lending.stepAnswer (now (table .entry)) (now (index .entry)) (now (variables .entry)) (now (event .entry))) × (now (variables .exit) ≡ lending.stepLent (now (table .entry)) (now (index .entry)) (now (variables .entry)) (now (event .entry))) ⌝ }
 {
-    if lent.len() < 288 {
+    if variables.len() < VARIABLES {
         return Cause::ShortOutput;
     }
-    let before = futonkestrel_lending::variables_in(lent);
-    let stepped = table_machine::step(table, before, records::event_of(event));
-    let answer = stepped.answer;
-    if records::is_none(answer) {
-        futonkestrel_lending::put_variables(lent, stepped.state);
-    }
-    answer
+    let event = records::event_of(event);
+    table_machine::step_by(table, index, &mut variables[..VARIABLES], event)
 }
 
 // The run of a table over a script, up to its first refused event.

@@ -2,16 +2,11 @@
 use mathlib.Core.Path.{_≡_}
 use mathlib.Core.Bool.{Bool, true, false}
 use mathlib.Core.List.{List}
-use Prim.Native.Nat.{ℕ, _≤_}
+use Prim.Native.Nat.{ℕ}
 use lib.ListN.{length}
-use borrow.Author.Tests.{le-ltb}
-use Rattle.records.specs.declared.Refusal.{Refusal}
 use Rattle.records.specs.Refusals.{isNone}
 use Rattle.model_format.specs.declared.ModelRead.{ModelRead}
 use Rattle.model_format.specs.Reading.{readModel}
-use Rattle.model_words.specs.Words.{modelWords}
-use Rattle.model_reading.specs.Reads.{readRefusal, ReadInto}
-use Rattle.model_reading.specs.Laws.{got}
 use Rattle.model_semantics.specs.State.{nowOf}
 use Rattle.model_semantics.specs.Machine.{startState, machineOf, runModel}
 use Rattle.listing.specs.Listing.{listing, refusedListing}
@@ -21,11 +16,6 @@ use Rattle.listing_writer.specs.declared.Printed.{Printed}
 use Rattle.table_writer.specs.Wrote.{Wrote}
 use Rattle.listing_writer.specs.PrintLaws.{prints-end}
 use Rattle.listing_writer.specs.Prints.{Prints}
-
--- a list that has room for the model
-pub read-whole : {model l l′ : List ℕ} {o : Refusal} → modelWords ≤ length l → ReadInto model l l′ o → got o l′ ≡ readModel model
-unfolding readRefusal
-read-whole {model} {l} {l′} {o} h i = rw (i .refusal, le-ltb (length l) modelWords h, i .model h)
 
 module _ {d e : List ℕ} {x : Printed} (model script : List ℕ) (r : ModelRead) (b : Bool) (h : r ≡ readModel model) (g : b ≡ isNone (r .refusal .cause)) where
   pub steps-run : b ≡ true → Prints (listing (machineOf (r .model)) nowOf (startState (r .model .timing)) script) (runModel (r .model) script .refusal) d x e →

@@ -1,8 +1,6 @@
 // The listing of a model's run, written into a lent slice.
 
 use listing_writer::Printed;
-use listing_writer::in_script;
-use listing_writer::no_refusal;
 use listing_writer::put_end;
 use listing_writer::put_event;
 use model_state::STATE_WORDS;
@@ -21,7 +19,7 @@ fn run_listing(m: &[u32], script: &[u8], out: &mut [u8]) -> Printed
     ensures { λ r. ⌜ Prints (listing (machineOf (modelIn (now (m .entry)))) nowOf (startState (timingIn (now (m .entry)))) (now (script .entry))) (runModel (modelIn (now (m .entry))) (now (script .entry)) .refusal) (now (out .entry)) r (now (out .exit)) ⌝ }
 {
     let mut state = [0u32; STATE_WORDS];
-    engine_start::start_in(m, &mut state);
+    model_start::start_in(m, &mut state);
     let mut clock = model_state::now_of(&state);
     let mut taken: u64 = 0;
     let mut at = 0;
@@ -30,9 +28,9 @@ fn run_listing(m: &[u32], script: &[u8], out: &mut [u8]) -> Printed
         let listed = records::event_at(script, at);
         let event = listed.event;
         let end = listed.end;
-        let answer = engine_machine::step(m, &mut state, event);
+        let answer = model_machine::step(m, &mut state, event);
         if !records::is_none(answer) {
-            let refusal = in_script(answer, at, end);
+            let refusal = records::in_script(answer, at, end);
             return put_end(out, place, taken, refusal, clock.0);
         }
         taken += 1;
@@ -41,7 +39,7 @@ fn run_listing(m: &[u32], script: &[u8], out: &mut [u8]) -> Printed
         clock = next;
         at = end;
     }
-    let refusal = no_refusal();
+    let refusal = records::no_refusal();
     put_end(out, place, taken, refusal, clock.0)
 }
 
@@ -50,7 +48,7 @@ pub fn steps_listing(model: &[u8], script: &[u8], out: &mut [u8]) -> Printed
     ensures { λ r. ⌜ Prints (stepsListing (now (model .entry)) (now (script .entry))) (modelOutcome (now (model .entry)) (now (script .entry)) .refusal) (now (out .entry)) r (now (out .exit)) ⌝ }
 {
     let mut words = [0u32; MODEL_WORDS];
-    let refusal = model_reading::read_model_into(model, &mut words);
+    let refusal = model_reader::read_model_into(model, &mut words);
     let cause = refusal.cause;
     if records::is_none(cause) {
         return run_listing(&words, script, out);

@@ -1,8 +1,6 @@
 // The listing of a table's run, written into a lent slice.
 
 use listing_writer::Printed;
-use listing_writer::in_script;
-use listing_writer::no_refusal;
 use listing_writer::put_end;
 use listing_writer::put_event;
 use table_machine::INDEX;
@@ -30,14 +28,14 @@ fn run_listing(table: &[u8], script: &[u8], out: &mut [u8]) -> Printed
         let end = listed.end;
         let answer = table_machine::step_on(table, &index, &mut bits, event);
         if !records::is_none(answer) {
-            let refusal = in_script(answer, at, end);
+            let refusal = records::in_script(answer, at, end);
             return put_end(out, place, taken, refusal, table_machine::clock_in(&bits));
         }
         taken += 1;
         place = put_event(out, place, taken, table_machine::clock_in(&bits), event);
         at = end;
     }
-    let refusal = no_refusal();
+    let refusal = records::no_refusal();
     put_end(out, place, taken, refusal, table_machine::clock_in(&bits))
 }
 

@@ -2,16 +2,16 @@
 use mathlib.Core.Path.{_≡_, refl, sym, _∙_, ap}
 use mathlib.Core.Bool.{Bool, true, false}
 use mathlib.Core.List.{List}
-use Prim.Native.Nat.{ℕ, _+_, _-_, _<_, _≤_}
+use Prim.Native.Nat.{ℕ, _+_, _<_, _≤_}
 use native.Mathlib.Omega.{arith}
-use lib.ListN.{length, take, drop}
+use lib.ListN.{length, drop}
 use Rattle.records.specs.declared.Listed.{Listed}
 use Rattle.records.specs.declared.Cause.{Cause}
 use Rattle.records.specs.declared.Refusal.{Refusal}
 use Rattle.records.specs.declared.Notation.the-variants.{Script}
-use Rattle.records.specs.Format.{parts, partLengthAt}
+use Rattle.records.specs.Format.{parts}
 use Rattle.records.specs.Refusals.{isNone, inScript, noRefusal}
-use Rattle.records.specs.Events.{eventOf, listedAt}
+use Rattle.records.specs.Events.{listedAt}
 use Rattle.records.specs.Run.{Machine, Ended, runFrom, run}
 use Rattle.records.specs.Walk as walk
 use Rattle.listing.specs.Listing.{line, lastLine, listingFrom, listing}
@@ -20,19 +20,6 @@ use Rattle.table_writer.specs.Wrote.{Wrote, farthest}
 use Rattle.listing_writer.specs.declared.Printed.{Printed}
 use Rattle.listing_writer.specs.Prints.{Prints}
 use Rattle.listing_writer.specs.Places.{Left, left-begin, left-on}
-
--- ---- the event at p, and the place after it
-module _ (s : List ℕ) (p : ℕ) {l : Listed} (e : l ≡ listedAt s p) where
-  event-at : l .event ≡ eventOf (take (partLengthAt Script s p) (drop p s))
-  unfolding listedAt
-  event-at = ap (λ (x : Listed). x .event) e
-
-  end-at : l .end ≡ p + partLengthAt Script s p
-  unfolding listedAt
-  end-at = ap (λ (x : Listed). x .end) e
-
-  pub next-listed : p < length s → (p < l .end) × (l .end ≤ length s)
-  next-listed h = let n = walk.next-place Script s p (partLengthAt Script s p) h refl in let f = end-at in omega arith
 
 -- In state a, with k events taken and the next part at p: what is left to write is the listing from here on, and the run from here on
 -- is refused as the whole one is.
@@ -61,14 +48,14 @@ module _ {S : Type 0} (mac : Machine S) (clock : S → ℕ) (s : List ℕ) where
           (Wrote d at (lastLine k (o .cause) n) e (y .length) × (y .refusal ≡ o)) → Prints whole refused start y e
       run-refused {y} o z t j w = record {
         wrote = r .left .then e (y .length) (rw (listing-refused mac clock s p a k l c h i g (sym u ∙ z), ← t) (rw j at (w .0)));
-        told = w .1 ∙ j ∙ rw (end-at s p i) (ap (λ (b : Ended S). b .refusal) (walk.run-refused mac s p a (partLengthAt Script s p) (l .event) h refl (event-at s p i) k c g (sym u ∙ z))) ∙ r .ran;
+        told = w .1 ∙ j ∙ ap (λ (b : Ended S). b .refusal) (walk.listed-refused s p i mac a h k c g (sym u ∙ z)) ∙ r .ran;
       }
 
       pub run-on : {q : ℕ} (b : S) → b ≡ mac .after a (l .event) → x ≡ true → n ≡ clock b → Wrote d at (line (k + 1) n (l .event)) e q →
           Running mac clock s start whole refused e q (l .end) b (k + 1)
       run-on b j z o w = record {
         left = left-on _ _ (rw (listing-on mac clock s p a k l c h i g b j (sym u ∙ z)) at (r .left)) (rw o at w);
-        ran = rw (end-at s p i) (ap (λ (t : Ended S). t .refusal) (walk.run-on mac s p a (partLengthAt Script s p) (l .event) h refl (event-at s p i) k c b g j (sym u ∙ z))) ∙ r .ran;
-        count = let y = next-listed s p i h in let z = r .count in omega arith;
+        ran = ap (λ (t : Ended S). t .refusal) (walk.listed-on s p i mac a h k c b g j (sym u ∙ z)) ∙ r .ran;
+        count = let y = walk.next-listed s p i h in let z = r .count in omega arith;
         size = r .size;
       }

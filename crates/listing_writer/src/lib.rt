@@ -3,13 +3,11 @@
 use listing::Line;
 use records::Cause;
 use records::Event;
-use records::Holder;
 use records::Refusal;
 ghost use mathlib.Core.Path.{_≡_};
 ghost use Prim.Native.Nat.{_≤_};
 ghost use lib.ListN.{set};
 ghost use lib.Seq.{sets};
-ghost use Rattle.records.specs.Refusals.{inScript, noRefusal};
 ghost use Rattle.listing.specs.Listing.{line, lastLine, refusedListing};
 ghost use Rattle.listing.specs.Lines.{textOf, lineRoom};
 ghost use Rattle.table_writer.specs.Wrote.{Wrote};
@@ -74,33 +72,6 @@ pub fn refused_listing(out: &mut [u8], cause: Cause) -> usize
     ensures { λ r. ⌜ Wrote (now (out .entry)) 0 (refusedListing cause) (now (out .exit)) r ⌝ }
 {
     put_last(out, 0, 0, cause, 0)
-}
-
-// ---- refusals
-// The refusal of an event of the script.
-pub fn in_script(cause: Cause, start: usize, end: usize) -> Refusal
-    ensures { λ r. ⌜ r ≡ inScript cause start end ⌝ }
-{
-    let holder = Holder::Script;
-    Refusal {
-        cause: cause,
-        holder: holder,
-        start: start,
-        end: end,
-    }
-}
-
-pub fn no_refusal() -> Refusal
-    ensures { λ r. ⌜ r ≡ noRefusal ⌝ }
-{
-    let cause = Cause::None;
-    let holder = Holder::Model;
-    Refusal {
-        cause: cause,
-        holder: holder,
-        start: 0,
-        end: 0,
-    }
 }
 
 // A figure that a caller is told, where there is a place for it.

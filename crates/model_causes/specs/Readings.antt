@@ -1,16 +1,13 @@
--- Where a reader stands that keeps its model in a list of numbers, and what parts of its tests give.
+-- Where a reader stands that keeps its model in a list of numbers, and what a part of its tests gives.
 use mathlib.Core.Bool.{Bool, _&&_}
 use mathlib.Core.List.{List}
 use Prim.Native.Nat.{ℕ}
 use lib.Dec.{eqb}
 use Rattle.numbers.specs.Lists.{anyBelow}
-use Rattle.records.specs.declared.Cause.{Cause}
-use Rattle.model_format.specs.declared.Atom.{Atom}
 use Rattle.model_format.specs.declared.Assignment.{Assignment}
 use Rattle.model_format.specs.declared.Behavior.{Behavior}
 use Rattle.model_format.specs.declared.Reading.{Reading}
 use Rattle.model_format.specs.Model.{assignmentAt}
-use Rattle.model_format.specs.Reading.{openTransition, judged, atomFaults, assignmentFaults}
 use Rattle.model_words.specs.Words.{modelIn}
 
 -- after a record of the rank `last`, with the model of l
@@ -24,10 +21,3 @@ hasTarget b k a j = eqb (assignmentAt b k j .tag) (a .tag) && eqb (assignmentAt 
 -- one of the first n has
 abbrev pub isAmong : Behavior → ℕ → ℕ → Assignment → Bool
 isAmong b k n a = anyBelow n (hasTarget b k a)
-
--- the cause of an atom, of an assignment
-abbrev pub atomCause : Bool → Reading → Atom → Cause
-atomCause order a x = judged (atomFaults order (a .model .timing) (openTransition a .thread) (openTransition a .atoms) x)
-
-abbrev pub assignmentCause : Bool → Reading → Assignment → Cause
-assignmentCause order a x = judged (assignmentFaults order (a .model) (openTransition a .thread) (openTransition a .assignments) x)

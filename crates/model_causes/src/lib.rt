@@ -5,9 +5,7 @@ use model_faults::Stand;
 use model_faults::assignment_cause;
 use model_faults::atom_cause;
 use model_faults::connection_cause;
-use model_faults::head_cause;
 use model_faults::in_order;
-use model_faults::nothing;
 use model_faults::number_in;
 use model_faults::port_cause;
 use model_faults::same_target;
@@ -15,14 +13,25 @@ use model_faults::switch_cause;
 use model_faults::thread_cause;
 use model_faults::transition_cause;
 use model_faults::with_period;
+use model_format::ASSIGNMENT_RANK;
+use model_format::ATOM_RANK;
 use model_format::Assignment;
 use model_format::Atom;
+use model_format::CONNECTION_RANK;
+use model_format::Connection;
+use model_format::INPUT_RANK;
+use model_format::LOCAL_RANK;
+use model_format::Local;
 use model_format::MAX_INPUTS;
 use model_format::MAX_LOCALS;
 use model_format::MAX_OUTPUTS;
-use model_format::Record;
+use model_format::ModeTransition;
+use model_format::OUTPUT_RANK;
+use model_format::SWITCH_RANK;
+use model_format::THREAD_RANK;
+use model_format::TRANSITION_RANK;
+use model_format::Thread;
 use model_format::Transition;
-use model_format::rank_of;
 use model_words::assignment_at;
 use model_words::connection_at;
 use model_words::connections;
@@ -45,6 +54,7 @@ use numbers::usize_of_u16;
 use records::Cause;
 use records::Operand;
 ghost use mathlib.Core.Path.{_≡_};
+ghost use Rattle.model_format.specs.declared.Record.the-variants as variants;
 ghost use Rattle.model_format.specs.Model as model;
 ghost use Rattle.model_format.specs.Reading as reading;
 ghost use Rattle.model_words.specs.Words as words;
@@ -81,30 +91,16 @@ fn hyperperiod(m: &[u32], old: u8, new: u8) -> u64
     h
 }
 
-pub fn found_in(m: &[u32], r: Record) -> Found
-    ensures { λ f. ⌜ f ≡ causes.foundIn (words.timingIn (now (m .entry))) r ⌝ }
+// The hyperperiods that a mode transition gets.
+pub fn periods_of(m: &[u32], x: ModeTransition) -> Found
+    ensures { λ f. ⌜ f ≡ causes.foundIn (words.timingIn (now (m .entry))) (variants.ModeRecord x) ⌝ }
 {
-    match r {
-        Record::HeadRecord(_) => nothing(),
-        Record::ThreadRecord(_) => nothing(),
-        Record::InputRecord(_) => nothing(),
-        Record::OutputRecord(_) => nothing(),
-        Record::LocalRecord(_) => nothing(),
-        Record::ConnectionRecord(x) => Found {
-            connected: is_connected(m, x.target),
-            h1: 1,
-            h2: 1,
-        },
-        Record::ModeRecord(x) => Found {
-            connected: false,
-            h1: hyperperiod(m, x.from, x.from),
-            h2: hyperperiod(m, x.from, x.to),
-        },
-        Record::TransitionRecord(_) => nothing(),
-        Record::AtomRecord(_) => nothing(),
-        Record::AssignmentRecord(_) => nothing(),
-        Record::Cut => nothing(),
-        Record::Unknown => nothing(),
+    let h1 = hyperperiod(m, x.from, x.from);
+    let h2 = hyperperiod(m, x.from, x.to);
+    Found {
+        connected: false,
+        h1: h1,
+        h2: h2,
     }
 }
 
@@ -145,7 +141,7 @@ fn is_assigned(m: &[u32], k: usize, n: u8, a: Assignment) -> bool
     false
 }
 
-// ---- the cause
+// ---- the cause of a record of each kind, after one of the rank `last`
 fn stand_of(m: &[u32], last: u8) -> Stand
     ensures { λ r. ⌜ r ≡ laws.standOf (readings.readingIn last (now (m .entry))) ⌝ }
 {
@@ -162,53 +158,93 @@ fn stand_of(m: &[u32], last: u8) -> Stand
     }
 }
 
-fn cause_of_atom(m: &[u32], order: bool, last: u8, a: Atom) -> Cause
-    ensures { λ r. ⌜ r ≡ readings.atomCause order (readings.readingIn last (now (m .entry))) a ⌝ }
+pub fn cause_of_thread(m: &[u32], last: u8, x: Thread) -> Cause
+    ensures { λ c. ⌜ c ≡ reading.causeOf (readings.readingIn last (now (m .entry))) (variants.ThreadRecord x) ⌝ }
 {
-    let x = transition_at(m, last_transition(m));
-    let left = is_owned_by(m, x.thread, a.tag, usize_of_u16(a.number));
-    let right = operand_owned(m, x.thread, a.right);
-    atom_cause(order, stand_of(m, last), x, left & right, a)
+    let order = !in_order(last, THREAD_RANK);
+    thread_cause(order, stand_of(m, last), x)
 }
 
-fn cause_of_assignment(m: &[u32], order: bool, last: u8, a: Assignment) -> Cause
-    ensures { λ r. ⌜ r ≡ readings.assignmentCause order (readings.readingIn last (now (m .entry))) a ⌝ }
+pub fn cause_of_input(m: &[u32], last: u8, x: u8) -> Cause
+    ensures { λ c. ⌜ c ≡ reading.causeOf (readings.readingIn last (now (m .entry))) (variants.InputRecord x) ⌝ }
 {
+    let order = !in_order(last, INPUT_RANK);
+    let n = stand_of(m, last);
+    port_cause(order, n.inputs, MAX_INPUTS, n, x)
+}
+
+pub fn cause_of_output(m: &[u32], last: u8, x: u8) -> Cause
+    ensures { λ c. ⌜ c ≡ reading.causeOf (readings.readingIn last (now (m .entry))) (variants.OutputRecord x) ⌝ }
+{
+    let order = !in_order(last, OUTPUT_RANK);
+    let n = stand_of(m, last);
+    port_cause(order, n.outputs, MAX_OUTPUTS, n, x)
+}
+
+pub fn cause_of_local(m: &[u32], last: u8, x: Local) -> Cause
+    ensures { λ c. ⌜ c ≡ reading.causeOf (readings.readingIn last (now (m .entry))) (variants.LocalRecord x) ⌝ }
+{
+    let order = !in_order(last, LOCAL_RANK);
+    let n = stand_of(m, last);
+    port_cause(order, n.locals, MAX_LOCALS, n, x.owner)
+}
+
+pub fn cause_of_connection(m: &[u32], last: u8, x: Connection) -> Cause
+    ensures { λ c. ⌜ c ≡ reading.causeOf (readings.readingIn last (now (m .entry))) (variants.ConnectionRecord x) ⌝ }
+{
+    let order = !in_order(last, CONNECTION_RANK);
+    let n = stand_of(m, last);
+    let connected = is_connected(m, x.target);
+    let f = Found {
+        connected: connected,
+        h1: 1,
+        h2: 1,
+    };
+    connection_cause(order, n, f, x)
+}
+
+// f has the hyperperiods of x.
+pub fn cause_of_switch(m: &[u32], last: u8, f: Found, x: ModeTransition) -> Cause
+    requires { ⌜ f ≡ causes.foundIn (words.timingIn (now m)) (variants.ModeRecord x) ⌝ }
+    ensures { λ c. ⌜ c ≡ reading.causeOf (readings.readingIn last (now (m .entry))) (variants.ModeRecord x) ⌝ }
+{
+    let order = !in_order(last, SWITCH_RANK);
+    switch_cause(order, stand_of(m, last), f, x)
+}
+
+pub fn cause_of_transition(m: &[u32], last: u8, x: Transition) -> Cause
+    ensures { λ c. ⌜ c ≡ reading.causeOf (readings.readingIn last (now (m .entry))) (variants.TransitionRecord x) ⌝ }
+{
+    let order = !in_order(last, TRANSITION_RANK);
+    transition_cause(order, stand_of(m, last), transitions(m), x)
+}
+
+pub fn cause_of_atom(m: &[u32], last: u8, x: Atom) -> Cause
+    ensures { λ c. ⌜ c ≡ reading.causeOf (readings.readingIn last (now (m .entry))) (variants.AtomRecord x) ⌝ }
+{
+    let order = !in_order(last, ATOM_RANK);
+    let open = transition_at(m, last_transition(m));
+    let left = is_owned_by(m, open.thread, x.tag, usize_of_u16(x.number));
+    let right = operand_owned(m, open.thread, x.right);
+    atom_cause(order, stand_of(m, last), open, left & right, x)
+}
+
+pub fn cause_of_assignment(m: &[u32], last: u8, x: Assignment) -> Cause
+    ensures { λ c. ⌜ c ≡ reading.causeOf (readings.readingIn last (now (m .entry))) (variants.AssignmentRecord x) ⌝ }
+{
+    let order = !in_order(last, ASSIGNMENT_RANK);
     let k = last_transition(m);
-    let x = transition_at(m, k);
-    let target = is_owned_by(m, x.thread, a.tag, usize_of_u16(a.number));
-    let first = operand_owned(m, x.thread, a.first);
-    let second = operand_owned(m, x.thread, a.second);
-    let twice = is_assigned(m, k, x.assignments, a);
+    let open = transition_at(m, k);
+    let target = is_owned_by(m, open.thread, x.tag, usize_of_u16(x.number));
+    let first = operand_owned(m, open.thread, x.first);
+    let second = operand_owned(m, open.thread, x.second);
+    let twice = is_assigned(m, k, open.assignments, x);
     assignment_cause(
         order,
         stand_of(m, last),
-        x,
+        open,
         target & (first & second),
         twice,
-        a,
+        x,
     )
-}
-
-// f is what the items tell of the record.
-pub fn cause_of(m: &[u32], last: u8, f: Found, r: Record) -> Cause
-    requires { ⌜ f ≡ causes.foundIn (words.timingIn (now m)) r ⌝ }
-    ensures { λ c. ⌜ c ≡ reading.causeOf (readings.readingIn last (now (m .entry))) r ⌝ }
-{
-    let order = !in_order(last, rank_of(r));
-    let n = stand_of(m, last);
-    match r {
-        Record::HeadRecord(x) => head_cause(order, x),
-        Record::ThreadRecord(x) => thread_cause(order, n, x),
-        Record::InputRecord(o) => port_cause(order, n.inputs, MAX_INPUTS, n, o),
-        Record::OutputRecord(o) => port_cause(order, n.outputs, MAX_OUTPUTS, n, o),
-        Record::LocalRecord(x) => port_cause(order, n.locals, MAX_LOCALS, n, x.owner),
-        Record::ConnectionRecord(x) => connection_cause(order, n, f, x),
-        Record::ModeRecord(x) => switch_cause(order, n, f, x),
-        Record::TransitionRecord(x) => transition_cause(order, n, transitions(m), x),
-        Record::AtomRecord(a) => cause_of_atom(m, order, last, a),
-        Record::AssignmentRecord(a) => cause_of_assignment(m, order, last, a),
-        Record::Cut => Cause::CutRecord,
-        Record::Unknown => Cause::WrongKind,
-    }
 }

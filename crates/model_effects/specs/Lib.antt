@@ -1,1 +1,4 @@
-pub mod Laws
+pub mod Ports
+pub mod Sends
+pub mod Events
+pub mod Modes

@@ -2,22 +2,11 @@
 
 use crate::Assignment;
 use crate::Atom;
-use crate::Behavior;
 use crate::Connection;
 use crate::Local;
 use crate::ModeTransition;
-use crate::Model;
 use crate::Thread;
-use crate::Timing;
 use crate::Transition;
-use crate::limits::MAX_CONNECTIONS;
-use crate::limits::MAX_INPUTS;
-use crate::limits::MAX_LOCALS;
-use crate::limits::MAX_OUTPUTS;
-use crate::limits::MAX_SWITCHES;
-use crate::limits::MAX_THREADS;
-use crate::limits::MAX_TIMES;
-use crate::limits::MAX_TRANSITIONS;
 use numbers::Duration;
 use numbers::Value;
 use records::Operand;
@@ -117,64 +106,5 @@ pub fn no_assignment() -> Assignment
         op: 0,
         first: first,
         second: second,
-    }
-}
-
-fn empty_timing() -> Timing
-    ensures { λ r. ⌜ r ≡ model.emptyModel .timing ⌝ }
-{
-    let t = no_thread();
-    let l = no_local();
-    let c = no_connection();
-    let q = no_switch();
-    let thread = [t; MAX_THREADS];
-    let input: [u8; MAX_INPUTS] = [0; MAX_INPUTS];
-    let output: [u8; MAX_OUTPUTS] = [0; MAX_OUTPUTS];
-    let local = [l; MAX_LOCALS];
-    let connection = [c; MAX_CONNECTIONS];
-    let switch = [q; MAX_SWITCHES];
-    Timing {
-        modes: 0,
-        initial: 0,
-        threads: 0,
-        thread: thread,
-        inputs: 0,
-        input: input,
-        outputs: 0,
-        output: output,
-        locals: 0,
-        local: local,
-        connections: 0,
-        connection: connection,
-        switches: 0,
-        switch: switch,
-    }
-}
-
-fn empty_behavior() -> Behavior
-    ensures { λ r. ⌜ r ≡ model.emptyModel .behavior ⌝ }
-{
-    let t = no_transition();
-    let a = no_atom();
-    let s = no_assignment();
-    let transition = [t; MAX_TRANSITIONS];
-    let atom = [a; MAX_TIMES];
-    let assignment = [s; MAX_TIMES];
-    Behavior {
-        transitions: 0,
-        transition: transition,
-        atom: atom,
-        assignment: assignment,
-    }
-}
-
-pub fn empty_model() -> Model
-    ensures { λ r. ⌜ r ≡ model.emptyModel ⌝ }
-{
-    let t = empty_timing();
-    let b = empty_behavior();
-    Model {
-        timing: t,
-        behavior: b,
     }
 }

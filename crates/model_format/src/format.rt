@@ -6,38 +6,17 @@ use crate::Connection;
 use crate::Head;
 use crate::Local;
 use crate::ModeTransition;
-use crate::Record;
 use crate::Thread;
 use crate::Transition;
-use crate::ranks::ASSIGNMENT_RANK;
-use crate::ranks::ATOM_RANK;
-use crate::ranks::CONNECTION_RANK;
-use crate::ranks::HEAD_RANK;
-use crate::ranks::INPUT_RANK;
-use crate::ranks::LOCAL_RANK;
-use crate::ranks::OUTPUT_RANK;
-use crate::ranks::SWITCH_RANK;
-use crate::ranks::THREAD_RANK;
-use crate::ranks::TRANSITION_RANK;
 use numbers::Duration;
 use numbers::byte_at;
 use numbers::duration_at;
 use numbers::value_at;
-use records::MODEL_ATOM;
-use records::MODEL_CONNECTION;
-use records::MODEL_HEAD;
-use records::MODEL_INPUT;
-use records::MODEL_LOCAL;
-use records::MODEL_OUTPUT;
-use records::MODEL_SWITCH;
-use records::MODEL_THREAD;
-use records::MODEL_TRANSITION;
-use records::Notation;
 use records::operand_at;
 ghost use mathlib.Core.Path.{_≡_};
 ghost use Rattle.model_format.specs.Format as format;
 
-fn head_of(x: &[u8]) -> Head
+pub fn head_of(x: &[u8]) -> Head
     ensures { λ r. ⌜ r ≡ format.headOf (now (x .entry)) ⌝ }
 {
     let modes = byte_at(x, 1);
@@ -48,7 +27,7 @@ fn head_of(x: &[u8]) -> Head
     }
 }
 
-fn thread_of(x: &[u8]) -> Thread
+pub fn thread_of(x: &[u8]) -> Thread
     ensures { λ r. ⌜ r ≡ format.threadOf (now (x .entry)) ⌝ }
 {
     let period = duration_at(x, 1);
@@ -69,7 +48,7 @@ fn thread_of(x: &[u8]) -> Thread
     }
 }
 
-fn local_of(x: &[u8]) -> Local
+pub fn local_of(x: &[u8]) -> Local
     ensures { λ r. ⌜ r ≡ format.localOf (now (x .entry)) ⌝ }
 {
     let owner = byte_at(x, 1);
@@ -80,7 +59,7 @@ fn local_of(x: &[u8]) -> Local
     }
 }
 
-fn connection_of(x: &[u8]) -> Connection
+pub fn connection_of(x: &[u8]) -> Connection
     ensures { λ r. ⌜ r ≡ format.connectionOf (now (x .entry)) ⌝ }
 {
     let kind = byte_at(x, 1);
@@ -96,7 +75,7 @@ fn connection_of(x: &[u8]) -> Connection
 }
 
 // Its hyperperiods are set when it is accepted.
-fn switch_of(x: &[u8]) -> ModeTransition
+pub fn switch_of(x: &[u8]) -> ModeTransition
     ensures { λ r. ⌜ r ≡ format.switchOf (now (x .entry)) ⌝ }
 {
     let from = byte_at(x, 1);
@@ -110,7 +89,7 @@ fn switch_of(x: &[u8]) -> ModeTransition
     }
 }
 
-fn transition_of(x: &[u8]) -> Transition
+pub fn transition_of(x: &[u8]) -> Transition
     ensures { λ r. ⌜ r ≡ format.transitionOf (now (x .entry)) ⌝ }
 {
     let thread = byte_at(x, 1);
@@ -125,7 +104,7 @@ fn transition_of(x: &[u8]) -> Transition
     }
 }
 
-fn atom_of(x: &[u8]) -> Atom
+pub fn atom_of(x: &[u8]) -> Atom
     ensures { λ r. ⌜ r ≡ format.atomOf (now (x .entry)) ⌝ }
 {
     let op = byte_at(x, 1);
@@ -140,7 +119,7 @@ fn atom_of(x: &[u8]) -> Atom
     }
 }
 
-fn assignment_of(x: &[u8]) -> Assignment
+pub fn assignment_of(x: &[u8]) -> Assignment
     ensures { λ r. ⌜ r ≡ format.assignmentOf (now (x .entry)) ⌝ }
 {
     let tag = byte_at(x, 1);
@@ -154,58 +133,5 @@ fn assignment_of(x: &[u8]) -> Assignment
         op: op,
         first: first,
         second: second,
-    }
-}
-
-// The record of a part that has the whole of its body.
-fn whole_record(k: u8, x: &[u8]) -> Record
-    ensures { λ r. ⌜ r ≡ format.recordOfWhole k (now (x .entry)) ⌝ }
-{
-    match k {
-        MODEL_HEAD => Record::HeadRecord(head_of(x)),
-        MODEL_THREAD => Record::ThreadRecord(thread_of(x)),
-        MODEL_INPUT => Record::InputRecord(byte_at(x, 1)),
-        MODEL_OUTPUT => Record::OutputRecord(byte_at(x, 1)),
-        MODEL_LOCAL => Record::LocalRecord(local_of(x)),
-        MODEL_CONNECTION => Record::ConnectionRecord(connection_of(x)),
-        MODEL_SWITCH => Record::ModeRecord(switch_of(x)),
-        MODEL_TRANSITION => Record::TransitionRecord(transition_of(x)),
-        MODEL_ATOM => Record::AtomRecord(atom_of(x)),
-        _ => Record::AssignmentRecord(assignment_of(x)),
-    }
-}
-
-pub fn record_of(x: &[u8]) -> Record
-    ensures { λ r. ⌜ r ≡ format.recordOf (now (x .entry)) ⌝ }
-{
-    let k = byte_at(x, 0);
-    let w = Notation::Model;
-    let m = records::record_size(w, k);
-    if m == 0 {
-        return Record::Unknown;
-    }
-    if x.len() < m {
-        return Record::Cut;
-    }
-    whole_record(k, x)
-}
-
-// A record's place in the order of records; 0 for one that has none.
-pub fn rank_of(r: Record) -> u8
-    ensures { λ k. ⌜ k ≡ format.rankOf r ⌝ }
-{
-    match r {
-        Record::HeadRecord(_) => HEAD_RANK,
-        Record::ThreadRecord(_) => THREAD_RANK,
-        Record::InputRecord(_) => INPUT_RANK,
-        Record::OutputRecord(_) => OUTPUT_RANK,
-        Record::LocalRecord(_) => LOCAL_RANK,
-        Record::ConnectionRecord(_) => CONNECTION_RANK,
-        Record::ModeRecord(_) => SWITCH_RANK,
-        Record::TransitionRecord(_) => TRANSITION_RANK,
-        Record::AtomRecord(_) => ATOM_RANK,
-        Record::AssignmentRecord(_) => ASSIGNMENT_RANK,
-        Record::Cut => 0,
-        Record::Unknown => 0,
     }
 }

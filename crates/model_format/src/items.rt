@@ -1,51 +1,12 @@
 // The items of a model by number, and what is asked of them. An item that is not there is blank.
 
-use crate::Connection;
-use crate::ModeTransition;
 use crate::Thread;
-use crate::Timing;
-use crate::blank::no_connection;
-use crate::blank::no_switch;
-use crate::blank::no_thread;
-use crate::limits::MAX_CONNECTIONS;
 use crate::limits::MAX_EACH;
-use crate::limits::MAX_SWITCHES;
-use crate::limits::MAX_THREADS;
 use crate::limits::MAX_TIMES;
 use crate::limits::MAX_TRANSITIONS;
 ghost use mathlib.Core.Path.{_≡_};
 ghost use Prim.Native.Nat.{_+_, _*_, min};
 ghost use Rattle.model_format.specs.Model as model;
-
-pub fn thread_at(m: Timing, t: usize) -> Thread
-    ensures { λ r. ⌜ r ≡ model.threadAt m t ⌝ }
-{
-    if t < MAX_THREADS {
-        m.thread[t]
-    } else {
-        no_thread()
-    }
-}
-
-pub fn connection_at(m: Timing, c: usize) -> Connection
-    ensures { λ r. ⌜ r ≡ model.connectionAt m c ⌝ }
-{
-    if c < MAX_CONNECTIONS {
-        m.connection[c]
-    } else {
-        no_connection()
-    }
-}
-
-pub fn switch_at(m: Timing, q: usize) -> ModeTransition
-    ensures { λ r. ⌜ r ≡ model.switchAt m q ⌝ }
-{
-    if q < MAX_SWITCHES {
-        m.switch[q]
-    } else {
-        no_switch()
-    }
-}
 
 // The place of an atom or assignment j of transition k; past the room always the first place past it, so that no sum wraps.
 pub fn place(k: usize, j: usize) -> usize

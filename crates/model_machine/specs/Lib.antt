@@ -1,5 +1,2 @@
-pub mod Start
-pub mod Quiet
-pub mod QuietLaws
-pub mod Runs
-pub mod Laws
+pub mod AnswerLaws
+pub mod StepLaws

@@ -1,17 +1,21 @@
-// Each event: its test and its effect. What it does not ask for is not handed to it, since states and models go by value.
+// Each event: its test and its effect. Every test stands before the first store, so a refused event leaves the list as it was.
 
-use model_effects::complete;
+use model_behavior::take_transition;
 use model_effects::dispatch;
+use model_effects::end_job;
 use model_effects::enter;
 use model_effects::leave;
 use model_effects::meet_deadline;
 use model_effects::miss;
 use model_effects::request;
+use model_effects::send;
 use model_effects::start;
-use model_format::Model;
-use model_format::Timing;
-use model_semantics::State;
-use model_semantics::Stepped;
+use model_format::IMMEDIATE;
+use model_semantics::COMPLETED;
+use model_semantics::WAITING_DISPATCH;
+use model_semantics::WAITING_MODE;
+use model_state::put_code;
+use model_tests::NO_FAULT;
 use model_tests::can_activate;
 use model_tests::can_complete;
 use model_tests::can_deactivate;
@@ -21,131 +25,130 @@ use model_tests::can_leave;
 use model_tests::can_meet_deadline;
 use model_tests::can_miss;
 use model_tests::start_fault;
-use model_tests::with_thread_code;
+use model_words::switches;
+use model_words::threads;
 use numbers::usize_of_u8;
 use records::Cause;
 ghost use mathlib.Core.Path.{_≡_};
-ghost use Rattle.records.specs.declared.Cause.the-variants.{NotEnabled};
+ghost use Prim.Native.Nat.{_≤_};
+ghost use lib.ListN.{length};
+ghost use Rattle.model_semantics.specs.Effects as effects;
 ghost use Rattle.model_semantics.specs.Machine as machine;
+ghost use Rattle.model_state.specs.Words.{stateIn, clockWords};
+ghost use Rattle.model_words.specs.Words.{timingIn, modelIn};
+ghost use Rattle.model_time.specs.Answers.{Answers};
 
-pub fn answered(c: Cause, s: State) -> Stepped
-    ensures { λ r. ⌜ r ≡ machine.refuse c s ⌝ }
+fn complete(model: &[u32], state: &mut [u32], t: usize)
+    requires { ⌜ clockWords ≤ length (now state) ⌝ }
+    ensures { λ r. ⌜ stateIn (now (state .exit)) ≡ effects.complete (modelIn (now (model .entry))) (stateIn (now (state .entry))) t ⌝ }
 {
-    Stepped {
-        answer: c,
-        state: s,
-    }
+    take_transition(model, state, t);
+    send(model, state, IMMEDIATE, t);
+    end_job(state, t, COMPLETED);
 }
 
-fn accepted(s: State) -> Stepped
-    ensures { λ r. ⌜ r ≡ machine.accept s ⌝ }
+pub fn on_activate(model: &[u32], state: &mut [u32], t: usize) -> Cause
+    ensures { λ r. ⌜ Answers r (now (state .entry)) (now (state .exit)) (machine.onActivate ((timingIn (now (model .entry))) .threads) (stateIn (now (state .entry))) t) ⌝ }
 {
-    let c = Cause::None;
-    Stepped {
-        answer: c,
-        state: s,
+    if (t < threads(model)) & can_activate(state, t) {
+        put_code(state, t, WAITING_DISPATCH);
+        return Cause::None;
     }
+    Cause::NotEnabled
 }
 
-fn not_enabled(s: State) -> Stepped
-    ensures { λ r. ⌜ r ≡ machine.refuse NotEnabled s ⌝ }
+pub fn on_deactivate(model: &[u32], state: &mut [u32], t: usize) -> Cause
+    ensures { λ r. ⌜ Answers r (now (state .entry)) (now (state .exit)) (machine.onDeactivate ((timingIn (now (model .entry))) .threads) (stateIn (now (state .entry))) t) ⌝ }
 {
-    let c = Cause::NotEnabled;
-    Stepped {
-        answer: c,
-        state: s,
+    if (t < threads(model)) & can_deactivate(state, t) {
+        put_code(state, t, WAITING_MODE);
+        return Cause::None;
     }
+    Cause::NotEnabled
 }
 
-pub fn on_activate(threads: usize, s: State, t: usize) -> Stepped
-    ensures { λ r. ⌜ r ≡ machine.onActivate threads s t ⌝ }
+pub fn on_dispatch(model: &[u32], state: &mut [u32], t: usize) -> Cause
+    ensures { λ r. ⌜ Answers r (now (state .entry)) (now (state .exit)) (machine.onDispatch (timingIn (now (model .entry))) (stateIn (now (state .entry))) t) ⌝ }
 {
-    if (t < threads) & can_activate(s, t) {
-        return accepted(with_thread_code(s, t, 1));
+    if (t < threads(model)) & can_dispatch(model, state, t) {
+        dispatch(model, state, t);
+        return Cause::None;
     }
-    not_enabled(s)
+    Cause::NotEnabled
 }
 
-pub fn on_deactivate(threads: usize, s: State, t: usize) -> Stepped
-    ensures { λ r. ⌜ r ≡ machine.onDeactivate threads s t ⌝ }
+pub fn on_start(model: &[u32], state: &mut [u32], id: u8, time: u32) -> Cause
+    requires { ⌜ clockWords ≤ length (now state) ⌝ }
+    ensures { λ r. ⌜ Answers r (now (state .entry)) (now (state .exit)) (machine.onStart (timingIn (now (model .entry))) (stateIn (now (state .entry))) id time) ⌝ }
 {
-    if (t < threads) & can_deactivate(s, t) {
-        return accepted(with_thread_code(s, t, 0));
+    if start_fault(model, state, usize_of_u8(id), time) == NO_FAULT {
+        start(model, state, id, time);
+        return Cause::None;
     }
-    not_enabled(s)
+    Cause::NotEnabled
 }
 
-pub fn on_dispatch(m: Timing, s: State, t: usize) -> Stepped
-    ensures { λ r. ⌜ r ≡ machine.onDispatch m s t ⌝ }
+pub fn on_complete(model: &[u32], state: &mut [u32], t: usize) -> Cause
+    requires { ⌜ clockWords ≤ length (now state) ⌝ }
+    ensures { λ r. ⌜ Answers r (now (state .entry)) (now (state .exit)) (machine.onComplete (modelIn (now (model .entry))) (stateIn (now (state .entry))) t) ⌝ }
 {
-    if (t < m.threads) & can_dispatch(m, s, t) {
-        return accepted(dispatch(m, s, t));
+    if (t < threads(model)) & can_complete(state, t) {
+        complete(model, state, t);
+        return Cause::None;
     }
-    not_enabled(s)
+    Cause::NotEnabled
 }
 
-pub fn on_start(m: Timing, s: State, id: u8, length: u32) -> Stepped
-    ensures { λ r. ⌜ r ≡ machine.onStart m s id length ⌝ }
+pub fn on_deadline(model: &[u32], state: &mut [u32], t: usize) -> Cause
+    ensures { λ r. ⌜ Answers r (now (state .entry)) (now (state .exit)) (machine.onDeadline (timingIn (now (model .entry))) (stateIn (now (state .entry))) t) ⌝ }
 {
-    let t = usize_of_u8(id);
-    if start_fault(m, s, t, length) == 0 {
-        return accepted(start(m, s, id, length));
+    if (t < threads(model)) & can_meet_deadline(model, state, t) {
+        meet_deadline(model, state, t);
+        return Cause::None;
     }
-    not_enabled(s)
+    Cause::NotEnabled
 }
 
-// It alone asks for the behaviours, which are large.
-pub fn on_complete(m: Model, s: State, t: usize) -> Stepped
-    ensures { λ r. ⌜ r ≡ machine.onComplete m s t ⌝ }
+pub fn on_miss(model: &[u32], state: &mut [u32], t: usize) -> Cause
+    requires { ⌜ clockWords ≤ length (now state) ⌝ }
+    ensures { λ r. ⌜ Answers r (now (state .entry)) (now (state .exit)) (machine.onMiss (timingIn (now (model .entry))) (stateIn (now (state .entry))) t) ⌝ }
 {
-    if (t < m.timing.threads) & can_complete(s, t) {
-        return accepted(complete(m, s, t));
+    if (t < threads(model)) & can_miss(model, state, t) {
+        miss(state, t);
+        return Cause::None;
     }
-    not_enabled(s)
+    Cause::NotEnabled
 }
 
-pub fn on_deadline(m: Timing, s: State, t: usize) -> Stepped
-    ensures { λ r. ⌜ r ≡ machine.onDeadline m s t ⌝ }
+pub fn on_request(model: &[u32], state: &mut [u32], id: u8) -> Cause
+    requires { ⌜ clockWords ≤ length (now state) ⌝ }
+    ensures { λ r. ⌜ Answers r (now (state .entry)) (now (state .exit)) (machine.onRequest (timingIn (now (model .entry))) (stateIn (now (state .entry))) id) ⌝ }
 {
-    if (t < m.threads) & can_meet_deadline(m, s, t) {
-        return accepted(meet_deadline(m, s, t));
+    if usize_of_u8(id) < switches(model) {
+        request(model, state, id);
+        return Cause::None;
     }
-    not_enabled(s)
+    Cause::NotEnabled
 }
 
-pub fn on_miss(m: Timing, s: State, t: usize) -> Stepped
-    ensures { λ r. ⌜ r ≡ machine.onMiss m s t ⌝ }
+pub fn on_enter(model: &[u32], state: &mut [u32], q: usize) -> Cause
+    requires { ⌜ clockWords ≤ length (now state) ⌝ }
+    ensures { λ r. ⌜ Answers r (now (state .entry)) (now (state .exit)) (machine.onEnter (timingIn (now (model .entry))) (stateIn (now (state .entry))) q) ⌝ }
 {
-    if (t < m.threads) & can_miss(m, s, t) {
-        return accepted(miss(m, s, t));
+    if (q < switches(model)) & can_enter(model, state, q) {
+        enter(model, state, q);
+        return Cause::None;
     }
-    not_enabled(s)
+    Cause::NotEnabled
 }
 
-pub fn on_request(m: Timing, s: State, id: u8) -> Stepped
-    ensures { λ r. ⌜ r ≡ machine.onRequest m s id ⌝ }
+pub fn on_leave(model: &[u32], state: &mut [u32], q: usize) -> Cause
+    requires { ⌜ clockWords ≤ length (now state) ⌝ }
+    ensures { λ r. ⌜ Answers r (now (state .entry)) (now (state .exit)) (machine.onLeave (timingIn (now (model .entry))) (stateIn (now (state .entry))) q) ⌝ }
 {
-    let q = usize_of_u8(id);
-    if q < m.switches {
-        return accepted(request(m, s, id));
+    if (q < switches(model)) & can_leave(model, state, q) {
+        leave(model, state, q);
+        return Cause::None;
     }
-    not_enabled(s)
-}
-
-pub fn on_enter(m: Timing, s: State, q: usize) -> Stepped
-    ensures { λ r. ⌜ r ≡ machine.onEnter m s q ⌝ }
-{
-    if (q < m.switches) & can_enter(m, s, q) {
-        return accepted(enter(m, s, q));
-    }
-    not_enabled(s)
-}
-
-pub fn on_leave(m: Timing, s: State, q: usize) -> Stepped
-    ensures { λ r. ⌜ r ≡ machine.onLeave m s q ⌝ }
-{
-    if (q < m.switches) & can_leave(m, s, q) {
-        return accepted(leave(m, s, q));
-    }
-    not_enabled(s)
+    Cause::NotEnabled
 }

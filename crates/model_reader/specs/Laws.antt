@@ -1,21 +1,24 @@
--- Laws of the definitions, in the forms that the code's tests have.
-use mathlib.Core.Path.{_≡_, refl, sym, _∙_}
+-- Laws of reading, a record at a time.
+use mathlib.Core.Path.{_≡_, refl, sym, _∙_, ap}
 use mathlib.Core.Bool.{Bool, true, false, cond, _||_}
-use mathlib.Core.List.{List, []}
-use Prim.Native.Nat.{ℕ, _+_, _-_, _*_, _<_, _≤_}
+use mathlib.Core.List.{List, _++_}
+use native.Mathlib.Decide.{ℕ-discrete, decLt}
+use Prim.Native.Nat.{ℕ, _+_, _-_, _<_, _≤_}
 use native.Mathlib.Omega.{arith}
-use lib.ListN.{length, take, drop, getD, set}
-use lib.Dec.{eqb}
-use borrow.Author.Tests.{lt-ltb, ne-eqb, ltb-false, leb-false}
+use lib.ListN.{length, replicate, length-replicate, take, drop, getD, replicate, length-append, length-replicate, getD-replicate, List·getD-append, List·getD-eq-default}
+use lib.Dec.{leb}
+use lib.Seq.{drop-at, length-take-le}
+use borrow.Author.Tests.{eq-eqb, ne-eqb, lt-ltb, le-ltb, leb-false, ltb-false}
+use Rattle.numbers.specs.declared.Duration.{Duration}
 use Rattle.numbers.specs.Values.{duration}
 use Rattle.records.specs.declared.Notation.the-variants as notations
-use Rattle.records.specs.Format.{partLengthAt, parts}
-use Rattle.records.specs.Walk.{slice-part, part-size, parts-at, parts-end, next-place}
 use Rattle.records.specs.declared.Cause.{Cause}
-use Rattle.records.specs.declared.Cause.the-variants.{None}
-use Rattle.records.specs.Refusals.{isNone, inModel, noRefusal, numberOf}
+use Rattle.records.specs.declared.Cause.the-variants.{WrongKind, CutRecord, ShortOutput}
+use Rattle.records.specs.declared.Refusal.{Refusal}
+use Rattle.records.specs.Format.{recordSize, partLengthAt, parts}
+use Rattle.records.specs.Walk.{slice-part, part-size, parts-at, parts-end, next-place}
+use Rattle.records.specs.Refusals.{numberOf, isNone, inModel, noRefusal}
 use Rattle.records.specs.Events.{lastClock}
-use Rattle.model_format.specs.declared.Head.{Head}
 use Rattle.model_format.specs.declared.Thread.{Thread}
 use Rattle.model_format.specs.declared.Local.{Local}
 use Rattle.model_format.specs.declared.Connection.{Connection}
@@ -23,52 +26,23 @@ use Rattle.model_format.specs.declared.ModeTransition.{ModeTransition}
 use Rattle.model_format.specs.declared.Transition.{Transition}
 use Rattle.model_format.specs.declared.Atom.{Atom}
 use Rattle.model_format.specs.declared.Assignment.{Assignment}
+use Rattle.model_format.specs.declared.Model.{Model}
 use Rattle.model_format.specs.declared.ModelRead.{ModelRead}
 use Rattle.model_format.specs.declared.Reading.{Reading}
-use Rattle.model_format.specs.declared.Timing.{Timing}
-use Rattle.model_format.specs.declared.Behavior.{Behavior}
-use Rattle.model_format.specs.declared.Model.{Model}
 use Rattle.model_format.specs.declared.Record.{Record}
-use Rattle.model_format.specs.declared.Record.the-variants.{HeadRecord, ThreadRecord, InputRecord, OutputRecord, LocalRecord, ConnectionRecord, ModeRecord, TransitionRecord, AtomRecord, AssignmentRecord, Cut, Unknown}
-use Rattle.model_format.specs.Format.{recordOf, rankOf}
-use Rattle.model_format.specs.Model.{maxThreads, maxInputs, maxOutputs, maxLocals, maxConnections, maxSwitches, maxTransitions, maxEach, maxTimes, noTransition, noAssignment, emptyModel, transitionAt, assignmentAt}
+use Rattle.model_format.specs.declared.Record.the-variants.{ThreadRecord, InputRecord, OutputRecord, LocalRecord, ConnectionRecord, ModeRecord, TransitionRecord, AtomRecord, AssignmentRecord, Cut, Unknown}
+use Rattle.model_format.specs.Format.{recordOfWhole, recordOf, rankOf}
+use Rattle.model_format.specs.Laws.{record-unknown, record-cut, record-whole}
+use Rattle.model_format.specs.Model.{maxThreads, maxInputs, maxOutputs, maxLocals, maxConnections, maxSwitches, maxTransitions, maxEach, emptyModel, transitionAt, h1Of, h2Of}
 use Rattle.model_format.specs.Faultless.{faultless, both-false}
-use Rattle.model_format.specs.Reading.{lastTransition, causeOf, withCounts, nextReading, readFrom, readModel, addHead, addThread, addInput, addOutput, addLocal, addConnection, addSwitch, addTransition, addAtom, addAssignment, addRecord}
-use Rattle.model_faults.specs.declared.Stand.{Stand}
+use Rattle.model_format.specs.Reading.{lastTransition, causeOf, addRecord, nextReading, readFrom, readModel}
 use Rattle.model_faults.specs.declared.Found.{Found}
-use Rattle.model_faults.specs.declared.Four.{Four}
-use Rattle.model_faults.specs.Causes.{timingOf, nothing, foundIn, timingCause, behaviorCause, Owners}
-use Rattle.model_faults.specs.Laws.{openIn, timing-judged, behavior-judged}
-use Rattle.model_reader.specs.declared.Start.{Start}
-use Rattle.model_reader.specs.declared.Half.{Half}
-
--- ---- names for what functions give
-abbrev pub refusedAt : Cause → ℕ → ℕ → ModelRead
-refusedAt c p q = record { refusal = inModel c p q; model = emptyModel }
-
-abbrev pub acceptedAs : Model → ModelRead
-acceptedAs m = record { refusal = noRefusal; model = m }
-
-abbrev pub noItems : Stand
-noItems = record { last = 0; modes = 0; initial = 0; threads = 0; inputs = 0; outputs = 0; locals = 0; connections = 0; switches = 0 }
-
-abbrev pub begun : ℕ → Stand → Timing → Start
-begun p n t = record { cause = None; at = p; end = p; stand = n; timing = t }
-
-abbrev pub stopped : Cause → ℕ → ℕ → Stand → Timing → Start
-stopped c p q n t = record { cause = c; at = p; end = q; stand = n; timing = t }
-
-abbrev pub four : Assignment → Assignment → Assignment → Assignment → Four
-four a b c d = record { first = a; second = b; third = c; fourth = d }
-
-abbrev pub two : Assignment → Assignment → Half
-two a b = record { first = a; second = b }
-
-abbrev pub transitionsAfter : ℕ → ℕ → ℕ
-transitionsAfter n k = cond (eqb k 8) (n + 1) n
-
-abbrev pub lastOf : ℕ → ℕ
-lastOf n = n - 1
+use Rattle.model_faults.specs.Causes.{foundIn}
+use Rattle.model_words.specs.Words.{threadsFrom, inputsFrom, outputsFrom, localsFrom, connectionsFrom, switchesFrom, transitionsFrom, atomsFrom, assignmentsFrom, modesPlace, initialPlace, threadsPlace, inputsPlace, outputsPlace, localsPlace, connectionsPlace, switchesPlace, transitionsPlace, modelWords, timingIn, behaviorIn, modelIn}
+use Rattle.model_writer.specs.Adds.{cleared-all}
+use Rattle.model_writer.specs.Laws.{Changed, number-kept, threads-kept, inputs-kept, outputs-kept, locals-kept, connections-kept, switches-kept, transitions-kept, atoms-kept, assignments-kept}
+use Rattle.model_causes.specs.Readings.{readingIn}
+use Rattle.model_reader.specs.Reads.{readAs, readRefusal, ReadInto}
 
 -- ---- the part at a place
 abbrev pub endAt : List ℕ → ℕ → ℕ
@@ -86,297 +60,237 @@ end-within s p q h e =
 pub record-slice : (s : List ℕ) (p q : ℕ) → q ≡ endAt s p → recordOf (take (q - p) (drop p s)) ≡ recordAt s p
 record-slice s p q e = rw (e, slice-part s p (partLengthAt notations.Model s p))
 
--- ---- where a reader stands, with the items of t
-abbrev pub standing : Stand → Timing → Behavior → Reading
-standing n t b = record { last = n .last; model = record { timing = timingOf n t; behavior = b } }
+-- ---- a record that is taken: added where it has no cause
+unfoldable pub taken : Cause → Model → Record → Model
+taken c m r = cond (isNone c) (addRecord m r) m
 
--- what is read from there on
+module _ (c : Cause) (m : Model) (r : Record) where
+  pub taken-not : isNone c ≡ false → m ≡ taken c m r
+  unfolding taken
+  taken-not h = rw h
+
+  pub taken-as : (x : Model) (v : Record) → isNone c ≡ true → r ≡ v → x ≡ addRecord m v → x ≡ taken c m r
+  unfolding taken
+  taken-as x v h e f = f ∙ rw (h, e)
+
+-- the record r is taken into the model of l, after one of the rank `last`: its cause, and the model of the list x after it
+abbrev pub Took : ℕ → List ℕ → Record → Cause → List ℕ → Type 0
+Took last l r c x = (c ≡ causeOf (readingIn last l) r) × (modelIn x ≡ taken c (modelIn l) r)
+
+pub took-as : (last : ℕ) (l : List ℕ) (r v : Record) (c : Cause) (x : List ℕ) → Took last l r c x → r ≡ v → Took last l v c x
+took-as last l r v c x t e = rw (← e) t
+
+-- what is no record is refused
+pub took-unknown : (last : ℕ) (l : List ℕ) (r : Record) → Unknown ≡ r → Took last l r WrongKind l
+unfolding causeOf taken numberOf
+took-unknown last l r e = rw (← e) (refl, refl)
+
+pub took-cut : (last : ℕ) (l : List ℕ) (r : Record) → Cut ≡ r → Took last l r CutRecord l
+unfolding causeOf taken numberOf
+took-cut last l r e = rw (← e) (refl, refl)
+
+-- ---- ranks: that of a record with no cause is its kind
+rank-of-whole : (k : ℕ) (x : List ℕ) → (recordSize notations.Model k ≡ 0 → ⊥) → k ≡ rankOf (recordOfWhole k x)
+unfolding rankOf recordSize
+rank-of-whole k x h = one (ℕ-discrete k 1) (ℕ-discrete k 2) (ℕ-discrete k 3) (ℕ-discrete k 4) (ℕ-discrete k 5) (ℕ-discrete k 6) (ℕ-discrete k 7) (ℕ-discrete k 8) (ℕ-discrete k 9) (ℕ-discrete k 10)
+  where
+    one : Dec (k ≡ 1) → Dec (k ≡ 2) → Dec (k ≡ 3) → Dec (k ≡ 4) → Dec (k ≡ 5) → Dec (k ≡ 6) → Dec (k ≡ 7) → Dec (k ≡ 8) → Dec (k ≡ 9) → Dec (k ≡ 10) → k ≡ rankOf (recordOfWhole k x)
+    one (yes e) b c d f g i j l m = rw e
+    one (no a) (yes e) c d f g i j l m = rw e
+    one (no a) (no b) (yes e) d f g i j l m = rw e
+    one (no a) (no b) (no c) (yes e) f g i j l m = rw e
+    one (no a) (no b) (no c) (no d) (yes e) g i j l m = rw e
+    one (no a) (no b) (no c) (no d) (no f) (yes e) i j l m = rw e
+    one (no a) (no b) (no c) (no d) (no f) (no g) (yes e) j l m = rw e
+    one (no a) (no b) (no c) (no d) (no f) (no g) (no i) (yes e) l m = rw e
+    one (no a) (no b) (no c) (no d) (no f) (no g) (no i) (no j) (yes e) m = rw e
+    one (no a) (no b) (no c) (no d) (no f) (no g) (no i) (no j) (no l) (yes e) = rw e
+    one (no a) (no b) (no c) (no d) (no f) (no g) (no i) (no j) (no l) (no m) =
+        absurd (h (rw (ne-eqb k 1 a, ne-eqb k 2 b, ne-eqb k 3 c, ne-eqb k 4 d, ne-eqb k 5 f, ne-eqb k 6 g, ne-eqb k 7 i, ne-eqb k 8 j, ne-eqb k 9 l, ne-eqb k 10 m)))
+
+no-cause-unknown : (a : Reading) → isNone (causeOf a Unknown) ≡ true → ⊥
+unfolding causeOf numberOf
+no-cause-unknown a k = let y : _≡_ {A = ℕ} 0 1 = cc in absurd (omega arith)
+
+no-cause-cut : (a : Reading) → isNone (causeOf a Cut) ≡ true → ⊥
+unfolding causeOf numberOf
+no-cause-cut a k = let y : _≡_ {A = ℕ} 0 1 = cc in absurd (omega arith)
+
+pub rank-of-part : (a : Reading) (x : List ℕ) (k : ℕ) → k ≡ getD x 0 0 → isNone (causeOf a (recordOf x)) ≡ true → k ≡ rankOf (recordOf x)
+rank-of-part a x k e h = go (ℕ-discrete m 0) (decLt (length x) m)
+  where
+    m : ℕ
+    m = recordSize notations.Model k
+
+    go : Dec (m ≡ 0) → Dec (length x < m) → k ≡ rankOf (recordOf x)
+    go (yes z) l = absurd (no-cause-unknown a (rw (← record-unknown x k m e refl z) at h))
+    go (no z) (yes l) = absurd (no-cause-cut a (rw (← record-cut x k m e refl z l) at h))
+    go (no z) (no l) = rank-of-whole k x z ∙ ap rankOf (record-whole x k m e refl z (omega arith))
+
+-- what a record without a cause leaves room for
+module _ (last : ℕ) (l : List ℕ) (r : Record) (c : Cause) (e : c ≡ causeOf (readingIn last l) r) (h : isNone c ≡ true) where
+  passed : isNone (causeOf (readingIn last l) r) ≡ true
+  passed = rw (← e) h
+
+  pub thread-room : (x : Thread) → r ≡ ThreadRecord x → timingIn l .threads < maxThreads
+  unfolding causeOf
+  thread-room x d = leb-false _ _ (faultless _ (rw d at passed) .excess)
+
+  pub input-room : (x : ℕ) → r ≡ InputRecord x → timingIn l .inputs < maxInputs
+  unfolding causeOf
+  input-room x d = leb-false _ _ (faultless _ (rw d at passed) .excess)
+
+  pub output-room : (x : ℕ) → r ≡ OutputRecord x → timingIn l .outputs < maxOutputs
+  unfolding causeOf
+  output-room x d = leb-false _ _ (faultless _ (rw d at passed) .excess)
+
+  pub local-room : (x : Local) → r ≡ LocalRecord x → timingIn l .locals < maxLocals
+  unfolding causeOf
+  local-room x d = leb-false _ _ (faultless _ (rw d at passed) .excess)
+
+  pub connection-room : (x : Connection) → r ≡ ConnectionRecord x → timingIn l .connections < maxConnections
+  unfolding causeOf
+  connection-room x d = leb-false _ _ (faultless _ (rw d at passed) .excess)
+
+  pub switch-room : (x : ModeTransition) → r ≡ ModeRecord x → timingIn l .switches < maxSwitches
+  unfolding causeOf
+  switch-room x d = leb-false _ _ (faultless _ (rw d at passed) .excess)
+
+  pub transition-room : (x : Transition) → r ≡ TransitionRecord x → behaviorIn l .transitions < maxTransitions
+  unfolding causeOf
+  transition-room x d = leb-false _ _ (faultless _ (rw d at passed) .excess)
+
+  pub atom-room : (x : Atom) → r ≡ AtomRecord x → transitionAt (behaviorIn l) (lastTransition (behaviorIn l)) .atoms < maxEach
+  unfolding causeOf
+  atom-room x d = leb-false _ _ (faultless _ (rw d at passed) .excess)
+
+  pub assignment-room : (x : Assignment) → r ≡ AssignmentRecord x → transitionAt (behaviorIn l) (lastTransition (behaviorIn l)) .assignments < maxEach
+  unfolding causeOf
+  assignment-room x d = leb-false _ _ (faultless _ (rw d at passed) .excess)
+
+  -- and hyperperiods that 32 bits hold
+  module _ (x : ModeTransition) (d : r ≡ ModeRecord x) (f : Found) (g : f ≡ foundIn (timingIn l) r) where
+    pub found-periods : (f .h1 ≡ h1Of (timingIn l) (x .from)) × (f .h2 ≡ h2Of (timingIn l) (x .from) (x .to))
+    unfolding foundIn
+    found-periods = (rw (g, d), rw (g, d))
+
+    pub short-periods : (f .h1 ≤ lastClock) × (f .h2 ≤ lastClock)
+    unfolding causeOf
+    short-periods =
+        let p = both-false _ _ (faultless _ (rw d at passed) .hyperperiod) in
+        (rw (found-periods .0) (ltb-false _ _ (p .0)), rw (found-periods .1) (ltb-false _ _ (p .1)))
+
+    pub switch-periods : (a b : Duration) → a ≡ duration (f .h1) → b ≡ duration (f .h2) → (a .0 ≡ h1Of (timingIn l) (x .from)) × (b .0 ≡ h2Of (timingIn l) (x .from) (x .to))
+    switch-periods a b i j = (rw i (found-periods .0), rw j (found-periods .1))
+
+-- ---- what is read from a place on
 abbrev pub readAt : List ℕ → ℕ → Reading → ModelRead
 readAt s p a = readFrom a p (parts notations.Model (drop p s))
 
-abbrev pub readOn : List ℕ → ℕ → Stand → Timing → ModelRead
-readOn s p n t = readAt s p (standing n t (emptyModel .behavior))
+abbrev pub refusedAt : Cause → ℕ → ℕ → ModelRead
+refusedAt c p q = record { refusal = inModel c p q; model = emptyModel }
 
--- the record there is not of kinds 01 to 07, unless one of a later kind has been
-abbrev pub Late : List ℕ → ℕ → Stand → Type 0
-Late s p n = p < length s → n .last < 8 → 8 ≤ rankOf (recordAt s p)
+-- the same where a list that stands for a refused model is not yet clear again
+abbrev pub readWith : Refusal → List ℕ → ModelRead
+readWith r l = record { refusal = r; model = cond (isNone (r .cause)) (modelIn l) emptyModel }
 
-pub record Begun (s : List ℕ) (h : Start) : Type 0 where
-  pub whole : isNone (h .cause) ≡ true → readOn s (h .at) (h .stand) (h .timing) ≡ readModel s
-  pub refused : isNone (h .cause) ≡ false → refusedAt (h .cause) (h .at) (h .end) ≡ readModel s
-  pub late : isNone (h .cause) ≡ true → Late s (h .at) (h .stand)
+pub read-begin : (s l : List ℕ) → modelIn l ≡ emptyModel → readAt s 0 (readingIn 0 l) ≡ readModel s
+unfolding readModel
+read-begin s l e = ap (λ (m : Model). readFrom (record { last = 0; model = m }) 0 (parts notations.Model s)) e
 
-pub read-begin : (s : List ℕ) (n : Stand) (t : Timing) → n ≡ noItems → t ≡ emptyModel .timing → readOn s 0 n t ≡ readModel s
-unfolding readModel emptyModel
-read-begin s n t e f = rw (e, f)
+module _ (s : List ℕ) (p q last : ℕ) (l : List ℕ) (c : Cause) (l′ : List ℕ) (h : p < length s) (e : q ≡ endAt s p) (t : Took last l (recordOf (take (q - p) (drop p s))) c l′) where
+  took-at : Took last l (recordAt s p) c l′
+  took-at = took-as last l _ _ c l′ t (record-slice s p q e)
 
-none-is : isNone None ≡ false → ⊥
-unfolding numberOf
-none-is h = let y : _≡_ {A = ℕ} 0 1 = cc in absurd (omega arith)
+  pub read-on : (k : ℕ) → k ≡ getD (take (q - p) (drop p s)) 0 0 → isNone c ≡ true → readAt s q (readingIn k l′) ≡ readAt s p (readingIn last l)
+  unfolding readFrom taken
+  read-on k i n =
+      let g = took-at .0 in
+      let f : k ≡ rankOf (recordAt s p) = rank-of-part (readingIn last l) _ k i (rw (← t .0) n) ∙ ap rankOf (record-slice s p q e) in
+      let b : readingIn k l′ ≡ nextReading (readingIn last l) (recordAt s p) = rw f (ap (λ (m : Model). record { last = rankOf (recordAt s p); model = m }) (took-at .1 ∙ rw n)) in
+      rw (e, parts-at notations.Model s p _ h refl, ← g, n, part-size notations.Model s p _ h refl, b)
 
-module _ (s : List ℕ) (p : ℕ) (n : Stand) (t : Timing) (h : Start) where
-  module _ (e : h ≡ begun p n t) (i : readOn s p n t ≡ readModel s) where
-    pub begun-late : (r : Record) (k : ℕ) → r ≡ recordAt s p → k ≡ rankOf r → 8 ≤ k → Begun s h
-    begun-late r k f g l = rw e (record { whole = λ z. i; refused = λ z. absurd (none-is z); late = λ z y x. rw (← f, ← g) l })
+  pub read-refused : (y : Refusal) → isNone c ≡ false → y ≡ inModel c p q → readWith y l′ ≡ readAt s p (readingIn last l)
+  unfolding readFrom
+  read-refused y n i =
+      let g = took-at .0 in
+      let z : refusedAt c p q ≡ readAt s p (readingIn last l) = rw (e, parts-at notations.Model s p _ h refl, ← g, n, part-size notations.Model s p _ h refl) in
+      ap (λ (w : Refusal). readWith w l′) i ∙ ap (λ (b : Bool). record { refusal = inModel c p q; model = cond b (modelIn l′) emptyModel }) n ∙ z
 
-    pub begun-end : length s ≤ p → Begun s h
-    begun-end l = rw e (record { whole = λ z. i; refused = λ z. absurd (none-is z); late = λ z y x. absurd (omega arith) })
+module _ (s : List ℕ) (p last : ℕ) (l : List ℕ) (h : length s ≤ p) where
+  pub read-none : (y : Refusal) → last ≡ 0 → y ≡ inModel WrongKind p p → readWith y l ≡ readAt s p (readingIn last l)
+  unfolding readFrom numberOf
+  read-none y e i =
+      let z : refusedAt WrongKind p p ≡ readAt s p (readingIn last l) = rw (parts-end notations.Model s p h, eq-eqb last 0 e) in
+      ap (λ (w : Refusal). readWith w l) i ∙ z
 
-  pub stopped-at : (q : ℕ) (c : Cause) → h ≡ stopped c p q n t → isNone c ≡ false → refusedAt c p q ≡ readModel s → Begun s h
-  stopped-at q c e l i =
-      let z : isNone c ≡ true → ⊥ = λ x. let w : _≡_ {A = Bool} true false = sym x ∙ l in let y : _≡_ {A = ℕ} 0 1 = cc in absurd (omega arith) in
-      rw e (record { whole = λ x. absurd (z x); refused = λ x. i; late = λ x. absurd (z x) })
+  pub read-all : (y : Refusal) → (last ≡ 0 → ⊥) → y ≡ noRefusal → readWith y l ≡ readAt s p (readingIn last l)
+  unfolding readFrom numberOf
+  read-all y e i =
+      let z : record { refusal = noRefusal; model = modelIn l } ≡ readAt s p (readingIn last l) = rw (parts-end notations.Model s p h, ne-eqb last 0 e) in
+      ap (λ (w : Refusal). readWith w l) i ∙ z
 
-module _ (s : List ℕ) (p : ℕ) (a : Reading) where
-  pub read-end : length s ≤ p → readFrom a p [] ≡ readAt s p a
-  read-end h = rw (parts-end notations.Model s p h)
+-- a reading as it is handed back: with the model, with a list that is clear again, or alone
+module _ (s l : List ℕ) (r : Refusal) (e : readWith r l ≡ readModel s) where
+  pub read-whole : (b : Bool) → b ≡ isNone (r .cause) → b ≡ true → readAs r l ≡ readModel s
+  read-whole b f h = ap (λ (k : Bool). record { refusal = r; model = cond k (modelIn l) emptyModel }) (sym h ∙ f) ∙ e
 
-  module _ (q : ℕ) (r : Record) (c : Cause) (h : p < length s) (e : q ≡ endAt s p) (f : r ≡ recordAt s p) (g : c ≡ causeOf a r) where
-    pub read-on : (b : Reading) → b ≡ nextReading a r → isNone c ≡ true → readAt s q b ≡ readAt s p a
-    unfolding readFrom
-    read-on b i n = rw (e, parts-at notations.Model s p _ h refl, ← f, ← g, n, part-size notations.Model s p _ h refl, i)
+  pub read-emptied : (b : Bool) (l′ : List ℕ) → b ≡ isNone (r .cause) → b ≡ false → modelIn l′ ≡ emptyModel → readAs r l′ ≡ readModel s
+  read-emptied b l′ f h g =
+      ap (λ (m : Model). record { refusal = r; model = m }) g ∙ ap (λ (k : Bool). record { refusal = r; model = cond k (modelIn l) emptyModel }) (sym h ∙ f) ∙ e
 
-    pub read-refused : isNone c ≡ false → refusedAt c p q ≡ readAt s p a
-    unfolding readFrom
-    read-refused n = rw (e, parts-at notations.Model s p _ h refl, ← f, ← g, n, part-size notations.Model s p _ h refl)
+  pub read-refusal : r ≡ readModel s .refusal
+  read-refusal = ap (λ (x : ModelRead). x .refusal) e
 
--- ---- a record that is accepted
--- the place of an item of kind k, and the room of that kind
-unfoldable pub placeOf : Stand → ℕ → ℕ
-placeOf n k =
-    cond (eqb k 2) (n .threads) (cond (eqb k 3) (n .inputs) (cond (eqb k 4) (n .outputs) (cond (eqb k 5) (n .locals) (cond (eqb k 6) (n .connections) (cond (eqb k 7) (n .switches) 0)))))
+-- a list of zeros is clear
+pub zeros-empty : modelIn (replicate modelWords 0) ≡ emptyModel
+zeros-empty =
+    let n = length-replicate {A = ℕ} modelWords 0 in
+    cleared-all (replicate modelWords 0) modelWords (record { zeros = λ q b. getD-replicate modelWords q 0 0 b }) (omega (arith, n))
 
-unfoldable pub roomOf : ℕ → ℕ
-roomOf k = cond (eqb k 2 || eqb k 7) 16 32
+-- ---- a model in the front of a list
+or-true : (b : Bool) → (b || true) ≡ true
+or-true true = refl
+or-true false = refl
 
-unfoldable pub counted : Stand → ℕ → Stand
-counted n k = record {
-  last = k;
-  modes = n .modes;
-  initial = n .initial;
-  threads = cond (eqb k 2) (n .threads + 1) (n .threads);
-  inputs = cond (eqb k 3) (n .inputs + 1) (n .inputs);
-  outputs = cond (eqb k 4) (n .outputs + 1) (n .outputs);
-  locals = cond (eqb k 5) (n .locals + 1) (n .locals);
-  connections = cond (eqb k 6) (n .connections + 1) (n .connections);
-  switches = cond (eqb k 7) (n .switches + 1) (n .switches);
-}
+same-front : (k d : List ℕ) → modelWords ≤ length k → Changed k (k ++ d) modelWords (modelWords + length (k ++ d))
+same-front k d h q n = go (decLt q modelWords)
+  where
+    go : Dec (q < modelWords) → getD (k ++ d) q 0 ≡ getD k q 0
+    go (yes l) = List·getD-append k d 0 q (omega arith)
+    go (no l) = outside (decLt q (modelWords + length (k ++ d)))
+      where
+        outside : Dec (q < modelWords + length (k ++ d)) → getD (k ++ d) q 0 ≡ getD k q 0
+        outside (yes b) = absurd (n (omega arith) b)
+        outside (no b) =
+            let z = length-append k d in
+            List·getD-eq-default (k ++ d) 0 (omega arith) ∙ sym (List·getD-eq-default k 0 (omega arith))
 
-abbrev pub headed : Stand → Head → Stand
-headed n x = record { last = n .last; modes = x .modes; initial = x .initial; threads = n .threads; inputs = n .inputs; outputs = n .outputs; locals = n .locals; connections = n .connections; switches = n .switches }
+model-front : (k d : List ℕ) → modelWords ≤ length k → modelIn (k ++ d) ≡ modelIn k
+unfolding timingIn behaviorIn
+model-front k d h =
+    let b : ℕ = modelWords + length (k ++ d) in
+    let w : Changed k (k ++ d) modelWords b = same-front k d h in
+    rw (number-kept k (k ++ d) modelWords b w modesPlace (or-true (leb b modesPlace)), number-kept k (k ++ d) modelWords b w initialPlace (or-true (leb b initialPlace)), number-kept k (k ++ d) modelWords b w threadsPlace (or-true (leb b threadsPlace)), number-kept k (k ++ d) modelWords b w inputsPlace (or-true (leb b inputsPlace)), number-kept k (k ++ d) modelWords b w outputsPlace (or-true (leb b outputsPlace)), number-kept k (k ++ d) modelWords b w localsPlace (or-true (leb b localsPlace)), number-kept k (k ++ d) modelWords b w connectionsPlace (or-true (leb b connectionsPlace)), number-kept k (k ++ d) modelWords b w switchesPlace (or-true (leb b switchesPlace)), number-kept k (k ++ d) modelWords b w transitionsPlace (or-true (leb b transitionsPlace)), threads-kept k (k ++ d) modelWords b w (or-true (leb b threadsFrom)), inputs-kept k (k ++ d) modelWords b w (or-true (leb b inputsFrom)), outputs-kept k (k ++ d) modelWords b w (or-true (leb b outputsFrom)), locals-kept k (k ++ d) modelWords b w (or-true (leb b localsFrom)), connections-kept k (k ++ d) modelWords b w (or-true (leb b connectionsFrom)), switches-kept k (k ++ d) modelWords b w (or-true (leb b switchesFrom)), transitions-kept k (k ++ d) modelWords b w (or-true (leb b transitionsFrom)), atoms-kept k (k ++ d) modelWords b w (or-true (leb b atomsFrom)), assignments-kept k (k ++ d) modelWords b w (or-true (leb b assignmentsFrom)))
 
-abbrev pub withPeriods : ModeTransition → Found → ModeTransition
-withPeriods x f = record { from = x .from; to = x .to; h1 = duration (f .h1); h2 = duration (f .h2) }
+module _ (s l : List ℕ) (r : Refusal) where
+  pub into-short : length l < modelWords → r ≡ inModel ShortOutput (length s) (length s) → ReadInto s l l r
+  unfolding readRefusal
+  into-short h e = record { refusal = e ∙ rw (lt-ltb (length l) modelWords h); model = λ g. absurd (omega arith); rest = λ g. absurd (omega arith); kept = λ g. refl }
 
-module _ (n : Stand) (k : ℕ) (h : placeOf n k < roomOf k) where
-  pub thread-room : k ≡ 2 → n .threads < 16
-  unfolding placeOf roomOf
-  thread-room e = rw e at h
+  pub into-whole : (k : List ℕ) → modelWords ≤ length l → length k ≡ length (take modelWords l) → readAs r k ≡ readModel s → ReadInto s l (k ++ drop modelWords l) r
+  unfolding readRefusal
+  into-whole k h y e = let z : length k ≡ modelWords = y ∙ length-take-le modelWords l h in record {
+    refusal = ap (λ (x : ModelRead). x .refusal) e ∙ rw (le-ltb (length l) modelWords h);
+    model = λ g. model-front k (drop modelWords l) (omega arith) ∙ ap (λ (x : ModelRead). x .model) e;
+    rest = λ g. drop-at k (drop modelWords l) modelWords z;
+    kept = λ g. absurd (omega arith);
+  }
 
-  pub input-room : k ≡ 3 → n .inputs < 32
-  unfolding placeOf roomOf
-  input-room e = rw e at h
+-- a list that has room for the model
+pub whole-read : {s l l′ : List ℕ} {r : Refusal} → modelWords ≤ length l → ReadInto s l l′ r → readAs r l′ ≡ readModel s
+unfolding readRefusal
+whole-read {s} {l} h i = rw (i .refusal, le-ltb (length l) modelWords h, i .model h)
 
-  pub output-room : k ≡ 4 → n .outputs < 32
-  unfolding placeOf roomOf
-  output-room e = rw e at h
-
-  pub local-room : k ≡ 5 → n .locals < 32
-  unfolding placeOf roomOf
-  local-room e = rw e at h
-
-  pub connection-room : k ≡ 6 → n .connections < 32
-  unfolding placeOf roomOf
-  connection-room e = rw e at h
-
-  pub switch-room : k ≡ 7 → n .switches < 16
-  unfolding placeOf roomOf
-  switch-room e = rw e at h
-
-pub nothing-found : (m : Timing) (r : Record) (k : ℕ) → k ≡ rankOf r → (eqb k 6 || eqb k 7) ≡ false → nothing ≡ foundIn m r
-unfolding foundIn rankOf
-nothing-found m (HeadRecord x) k e h = refl
-nothing-found m (ThreadRecord x) k e h = refl
-nothing-found m (InputRecord o) k e h = refl
-nothing-found m (OutputRecord o) k e h = refl
-nothing-found m (LocalRecord x) k e h = refl
-nothing-found m (ConnectionRecord x) k e h = let z = rw e at h in let y : _≡_ {A = ℕ} 0 1 = cc in absurd (omega arith)
-nothing-found m (ModeRecord x) k e h = let z = rw e at h in let y : _≡_ {A = ℕ} 0 1 = cc in absurd (omega arith)
-nothing-found m (TransitionRecord x) k e h = refl
-nothing-found m (AtomRecord x) k e h = refl
-nothing-found m (AssignmentRecord x) k e h = refl
-nothing-found m Cut k e h = refl
-nothing-found m Unknown k e h = refl
-
--- a record without a cause has room
-pub timing-room : (n : Stand) (f : Found) (r : Record) → isNone (timingCause n f r) ≡ true → placeOf n (rankOf r) < roomOf (rankOf r)
-unfolding timingCause placeOf roomOf rankOf
-timing-room n f (HeadRecord x) h = omega arith
-timing-room n f (ThreadRecord x) h = leb-false _ _ (faultless _ h .excess)
-timing-room n f (InputRecord o) h = leb-false _ _ (faultless _ h .excess)
-timing-room n f (OutputRecord o) h = leb-false _ _ (faultless _ h .excess)
-timing-room n f (LocalRecord x) h = leb-false _ _ (faultless _ h .excess)
-timing-room n f (ConnectionRecord x) h = leb-false _ _ (faultless _ h .excess)
-timing-room n f (ModeRecord x) h = leb-false _ _ (faultless _ h .excess)
-timing-room n f (TransitionRecord x) h = omega arith
-timing-room n f (AtomRecord x) h = omega arith
-timing-room n f (AssignmentRecord x) h = omega arith
-timing-room n f Cut h = omega arith
-timing-room n f Unknown h = omega arith
-
--- and hyperperiods that are not past the last clock
-pub short-periods : (n : Stand) (f : Found) (x : ModeTransition) → isNone (timingCause n f (ModeRecord x)) ≡ true → (f .h1 ≤ lastClock) × (f .h2 ≤ lastClock)
-unfolding timingCause
-short-periods n f x h =
-    let p = both-false _ _ (faultless _ h .hyperperiod) in
-    (ltb-false _ _ (p .0), ltb-false _ _ (p .1))
-
--- ---- what it adds to the timing: stores into the items
-abbrev pub withThread : Timing → ℕ → Thread → Timing
-withThread t i x = record { modes = t .modes; initial = t .initial; threads = t .threads; thread = set (t .thread) i x; inputs = t .inputs; input = t .input; outputs = t .outputs; output = t .output; locals = t .locals; local = t .local; connections = t .connections; connection = t .connection; switches = t .switches; switch = t .switch }
-
-abbrev pub withInput : Timing → ℕ → ℕ → Timing
-withInput t i x = record { modes = t .modes; initial = t .initial; threads = t .threads; thread = t .thread; inputs = t .inputs; input = set (t .input) i x; outputs = t .outputs; output = t .output; locals = t .locals; local = t .local; connections = t .connections; connection = t .connection; switches = t .switches; switch = t .switch }
-
-abbrev pub withOutput : Timing → ℕ → ℕ → Timing
-withOutput t i x = record { modes = t .modes; initial = t .initial; threads = t .threads; thread = t .thread; inputs = t .inputs; input = t .input; outputs = t .outputs; output = set (t .output) i x; locals = t .locals; local = t .local; connections = t .connections; connection = t .connection; switches = t .switches; switch = t .switch }
-
-abbrev pub withLocal : Timing → ℕ → Local → Timing
-withLocal t i x = record { modes = t .modes; initial = t .initial; threads = t .threads; thread = t .thread; inputs = t .inputs; input = t .input; outputs = t .outputs; output = t .output; locals = t .locals; local = set (t .local) i x; connections = t .connections; connection = t .connection; switches = t .switches; switch = t .switch }
-
-abbrev pub withConnection : Timing → ℕ → Connection → Timing
-withConnection t i x = record { modes = t .modes; initial = t .initial; threads = t .threads; thread = t .thread; inputs = t .inputs; input = t .input; outputs = t .outputs; output = t .output; locals = t .locals; local = t .local; connections = t .connections; connection = set (t .connection) i x; switches = t .switches; switch = t .switch }
-
-abbrev pub withSwitch : Timing → ℕ → ModeTransition → Timing
-withSwitch t i x = record { modes = t .modes; initial = t .initial; threads = t .threads; thread = t .thread; inputs = t .inputs; input = t .input; outputs = t .outputs; output = t .output; locals = t .locals; local = t .local; connections = t .connections; connection = t .connection; switches = t .switches; switch = set (t .switch) i x }
-
-pub timing-cause-is : (n : Stand) (t : Timing) (f : Found) (r : Record) (k : ℕ) (c : Cause) → k ≡ rankOf r → k < 8 → f ≡ foundIn (timingOf n t) r →
-    c ≡ timingCause n f r → c ≡ causeOf (standing n t (emptyModel .behavior)) r
-timing-cause-is n t f r k c e h g i = i ∙ rw g (timing-judged (standing n t (emptyModel .behavior)) r (rw (← e) h))
-
-pub place-within : (n : Stand) (f : Found) (r v : Record) (k i : ℕ) → i ≡ placeOf n k → k ≡ rankOf r → isNone (timingCause n f r) ≡ true → r ≡ v → i < roomOf (rankOf v)
-place-within n f r v k i a b h e = rw (a, b, ← e) (timing-room n f r h)
-
--- r of kind k is accepted: n becomes m, and t becomes u
-module _ (n m : Stand) (t u : Timing) (b : Behavior) (f : Found) (r : Record) (k i : ℕ) (e : k ≡ rankOf r) (g : i ≡ placeOf n k) (h : isNone (timingCause n f r) ≡ true) where
-  pub head-added : (w : Stand) (x : Head) → w ≡ counted n k → r ≡ HeadRecord x → m ≡ headed w x → u ≡ t → standing m u b ≡ nextReading (standing n t b) r
-  unfolding counted addRecord addHead rankOf
-  head-added w x a d c v = rw (c, v, a, e, d)
-
-  pub thread-added : (x : Thread) → r ≡ ThreadRecord x → m ≡ counted n k → u ≡ withThread t i x → standing m u b ≡ nextReading (standing n t b) r
-  unfolding counted placeOf roomOf addRecord addThread rankOf
-  thread-added x d c v = rw (c, v, g, e, d, lt-ltb (n .threads) maxThreads (rw (g, e, d) at (place-within n f r (ThreadRecord x) k i g e h d)))
-
-  pub input-added : (o : ℕ) → r ≡ InputRecord o → m ≡ counted n k → u ≡ withInput t i o → standing m u b ≡ nextReading (standing n t b) r
-  unfolding counted placeOf roomOf addRecord addInput rankOf
-  input-added o d c v = rw (c, v, g, e, d, lt-ltb (n .inputs) maxInputs (rw (g, e, d) at (place-within n f r (InputRecord o) k i g e h d)))
-
-  pub output-added : (o : ℕ) → r ≡ OutputRecord o → m ≡ counted n k → u ≡ withOutput t i o → standing m u b ≡ nextReading (standing n t b) r
-  unfolding counted placeOf roomOf addRecord addOutput rankOf
-  output-added o d c v = rw (c, v, g, e, d, lt-ltb (n .outputs) maxOutputs (rw (g, e, d) at (place-within n f r (OutputRecord o) k i g e h d)))
-
-  pub local-added : (x : Local) → r ≡ LocalRecord x → m ≡ counted n k → u ≡ withLocal t i x → standing m u b ≡ nextReading (standing n t b) r
-  unfolding counted placeOf roomOf addRecord addLocal rankOf
-  local-added x d c v = rw (c, v, g, e, d, lt-ltb (n .locals) maxLocals (rw (g, e, d) at (place-within n f r (LocalRecord x) k i g e h d)))
-
-  pub connection-added : (x : Connection) → r ≡ ConnectionRecord x → m ≡ counted n k → u ≡ withConnection t i x → standing m u b ≡ nextReading (standing n t b) r
-  unfolding counted placeOf roomOf addRecord addConnection rankOf
-  connection-added x d c v = rw (c, v, g, e, d, lt-ltb (n .connections) maxConnections (rw (g, e, d) at (place-within n f r (ConnectionRecord x) k i g e h d)))
-
-  pub switch-added : (x y : ModeTransition) → r ≡ ModeRecord x → f ≡ foundIn (timingOf n t) r → y ≡ withPeriods x f → m ≡ counted n k → u ≡ withSwitch t i y → standing m u b ≡ nextReading (standing n t b) r
-  unfolding counted placeOf roomOf addRecord addSwitch foundIn rankOf
-  switch-added x y d p q c v = rw (c, v, g, e, q, p, d, lt-ltb (n .switches) maxSwitches (rw (g, e, d) at (place-within n f r (ModeRecord x) k i g e h d)))
-
--- ---- the behaviours
-pub behavior-begin : (s : List ℕ) (p : ℕ) (n : Stand) (t : Timing) (b : Behavior) → b ≡ emptyModel .behavior → Late s p n →
-    (b .transitions ≤ maxTransitions) × Late s p n × (readAt s p (standing n t b) ≡ readOn s p n t)
-unfolding emptyModel
-behavior-begin s p n t b e l = (rw e (omega arith), l, rw e)
-
--- the transition that atoms and assignments belong to, and its assignments, as items of the arrays
-module _ (b : Behavior) (l : ℕ) (e : l ≡ lastOf (b .transitions)) (h : b .transitions ≤ maxTransitions) where
-  open-is : (x : Transition) → x ≡ getD (b .transition) l noTransition → x ≡ openIn b
-  unfolding transitionAt
-  open-is x f = f ∙ rw (e, lt-ltb (b .transitions - 1) maxTransitions (omega arith))
-
-  item-is : (j : ℕ) → j < 4 → getD (b .assignment) (l * 4 + j) noAssignment ≡ assignmentAt b (lastTransition b) j
-  unfolding assignmentAt
-  item-is j k = rw (e, lt-ltb ((b .transitions - 1) * maxEach + j) maxTimes (omega arith))
-
-  first-is : getD (b .assignment) (l * 4) noAssignment ≡ assignmentAt b (lastTransition b) 0
-  first-is = let z : l * 4 + 0 ≡ l * 4 = omega arith in rw (← z) (item-is 0 (omega arith))
-
-  pub behavior-cause-is : (n : Stand) (t : Timing) (o : List ℕ) (r : Record) (x : Transition) (q : Four) (c : Cause) → Owners t o → x ≡ getD (b .transition) l noTransition →
-      q ≡ four (getD (b .assignment) (l * 4) noAssignment) (getD (b .assignment) (l * 4 + 1) noAssignment) (getD (b .assignment) (l * 4 + 2) noAssignment) (getD (b .assignment) (l * 4 + 3) noAssignment) →
-      (n .last < 8 → 8 ≤ rankOf r) → c ≡ behaviorCause n (b .transitions) x q o r → c ≡ causeOf (standing n t b) r
-  behavior-cause-is n t o r x q c w f g d i =
-      i ∙ rw (open-is x f, g, first-is, item-is 1 (omega arith), item-is 2 (omega arith), item-is 3 (omega arith))
-      (behavior-judged (standing n t b) o (record { inputs = w .inputs; locals = w .locals; outputs = w .outputs }) r d)
-
-late-kind : (n : Stand) (m : ℕ) (x : Transition) (q : Four) (o : List ℕ) (r : Record) → isNone (behaviorCause n m x q o r) ≡ true → 8 ≤ rankOf r
-unfolding behaviorCause rankOf numberOf
-late-kind n m x q o (HeadRecord z) h = let y : _≡_ {A = ℕ} 0 1 = cc in absurd (omega arith)
-late-kind n m x q o (ThreadRecord z) h = let y : _≡_ {A = ℕ} 0 1 = cc in absurd (omega arith)
-late-kind n m x q o (InputRecord z) h = let y : _≡_ {A = ℕ} 0 1 = cc in absurd (omega arith)
-late-kind n m x q o (OutputRecord z) h = let y : _≡_ {A = ℕ} 0 1 = cc in absurd (omega arith)
-late-kind n m x q o (LocalRecord z) h = let y : _≡_ {A = ℕ} 0 1 = cc in absurd (omega arith)
-late-kind n m x q o (ConnectionRecord z) h = let y : _≡_ {A = ℕ} 0 1 = cc in absurd (omega arith)
-late-kind n m x q o (ModeRecord z) h = let y : _≡_ {A = ℕ} 0 1 = cc in absurd (omega arith)
-late-kind n m x q o (TransitionRecord z) h = omega arith
-late-kind n m x q o (AtomRecord z) h = omega arith
-late-kind n m x q o (AssignmentRecord z) h = omega arith
-late-kind n m x q o Cut h = let y : _≡_ {A = ℕ} 0 1 = cc in absurd (omega arith)
-late-kind n m x q o Unknown h = let y : _≡_ {A = ℕ} 0 1 = cc in absurd (omega arith)
-
-late-room : (n : Stand) (k : ℕ) → 8 ≤ k → placeOf n k < roomOf k
-unfolding placeOf roomOf
-late-room n k h =
-    simp (ne-eqb k 2 (λ z. absurd (omega arith)), ne-eqb k 3 (λ z. absurd (omega arith)), ne-eqb k 4 (λ z. absurd (omega arith)), ne-eqb k 5 (λ z. absurd (omega arith)), ne-eqb k 6 (λ z. absurd (omega arith)), ne-eqb k 7 (λ z. absurd (omega arith))) (omega arith)
-
--- a record without a cause
-module _ (n : Stand) (m : ℕ) (x : Transition) (q : Four) (o : List ℕ) (r : Record) (c : Cause) (i : c ≡ behaviorCause n m x q o r) (h : isNone c ≡ true) where
-  passed : isNone (behaviorCause n m x q o r) ≡ true
-  passed = rw (← i) h
-
-  pub behavior-late : 8 ≤ rankOf r
-  behavior-late = late-kind n m x q o r passed
-
-  pub behavior-room : (k : ℕ) → k ≡ rankOf r → placeOf n k < roomOf k
-  behavior-room k e = let l = behavior-late in late-room n k (rw e l)
-
-  pub transition-room : (y : Transition) → r ≡ TransitionRecord y → m < maxTransitions
-  unfolding behaviorCause
-  transition-room y e = leb-false _ _ (faultless _ (rw e at passed) .excess)
-
-  pub atom-room : (a : Atom) → r ≡ AtomRecord a → x .atoms < maxEach
-  unfolding behaviorCause
-  atom-room a e = leb-false _ _ (faultless _ (rw e at passed) .excess)
-
-  pub assignment-room : (a : Assignment) → r ≡ AssignmentRecord a → x .assignments < maxEach
-  unfolding behaviorCause
-  assignment-room a e = leb-false _ _ (faultless _ (rw e at passed) .excess)
-
--- r is accepted: n becomes m, and b becomes d, with u transitions
-module _ (n m : Stand) (t : Timing) (b d : Behavior) (r : Record) (k l u : ℕ) (x : Transition) (e : k ≡ rankOf r) (c : m ≡ counted n k) (o : u ≡ transitionsAfter (b .transitions) (m .last))
-    (h : b .transitions ≤ maxTransitions) (g : l ≡ lastOf (b .transitions)) (f : x ≡ getD (b .transition) l noTransition) where
-  abbrev Added : Type 0
-  Added = (d .transitions ≤ maxTransitions) × (standing m t d ≡ nextReading (standing n t b) r)
-
-  pub transition-added : (y : Transition) → r ≡ TransitionRecord y → b .transitions < maxTransitions →
-      d ≡ record { transitions = u; transition = set (b .transition) (b .transitions) y; atom = b .atom; assignment = b .assignment } → Added
-  unfolding counted addRecord addTransition rankOf
-  transition-added y p q v = (rw (v, o, c, e, p) (omega arith), rw (v, o, c, e, p, lt-ltb (b .transitions) maxTransitions q))
-
-  pub atom-added : (a : Atom) (y : Transition) (j : ℕ) → r ≡ AtomRecord a → x .atoms < maxEach → y ≡ withCounts x (x .atoms + 1) (x .assignments) → j ≡ x .atoms →
-      d ≡ record { transitions = u; transition = set (b .transition) l y; atom = set (b .atom) (l * 4 + j) a; assignment = b .assignment } → Added
-  unfolding counted addRecord addAtom rankOf
-  atom-added a y j p z q i v = (rw (v, o, c, e, p) h, rw (v, o, c, e, p, q, i, ← open-is b l g h x f, g, lt-ltb (b .transitions - 1) maxTransitions (omega arith), lt-ltb ((b .transitions - 1) * maxEach + x .atoms) maxTimes (omega arith)))
-
-  pub assignment-added : (a : Assignment) (y : Transition) (j : ℕ) → r ≡ AssignmentRecord a → x .assignments < maxEach → y ≡ withCounts x (x .atoms) (x .assignments + 1) → j ≡ x .assignments →
-      d ≡ record { transitions = u; transition = set (b .transition) l y; atom = b .atom; assignment = set (b .assignment) (l * 4 + j) a } → Added
-  unfolding counted addRecord addAssignment rankOf
-  assignment-added a y j p z q i v = (rw (v, o, c, e, p) h, rw (v, o, c, e, p, q, i, ← open-is b l g h x f, g, lt-ltb (b .transitions - 1) maxTransitions (omega arith), lt-ltb ((b .transitions - 1) * maxEach + x .assignments) maxTimes (omega arith)))
-
-pub late-next : (s : List ℕ) (p : ℕ) (n m : Stand) (k : ℕ) (r : Record) → m ≡ counted n k → k ≡ rankOf r → 8 ≤ rankOf r → Late s p m
-unfolding counted
-late-next s p n m k r c e h = rw (c, e) (λ z l. absurd (omega arith))
+pub read-new : {s l′ : List ℕ} {r : Refusal} → ReadInto s (replicate modelWords 0) l′ r → readAs r l′ ≡ readModel s
+read-new i = whole-read (let n = length-replicate {A = ℕ} modelWords 0 in omega (arith, n)) i

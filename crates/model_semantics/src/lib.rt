@@ -11,11 +11,16 @@ pub use codes::STEADY;
 pub use codes::WAITING_DISPATCH;
 pub use codes::WAITING_EXECUTION;
 pub use codes::WAITING_MODE;
+use model_format::MAX_CONNECTIONS;
+use model_format::MAX_INPUTS;
+use model_format::MAX_LOCALS;
+use model_format::MAX_OUTPUTS;
+use model_format::MAX_THREADS;
 use numbers::Duration;
 use numbers::Value;
 use records::Cause;
 
-// `now` and `entered` are Now and EnteredAt. `pending` and `cpu` are 255 where there is none.
+// `now` and `entered` are Now and EnteredAt. `pending` and `cpu` are NONE where there is none.
 pub struct Clock {
     pub now: Duration,
     pub entered: Duration,
@@ -27,27 +32,27 @@ pub struct Clock {
 
 // By thread. `code` is the state code, `dispatched` the time of dispatch, `behavior` the behaviour state.
 pub struct Threads {
-    pub active: [bool; 16],
-    pub code: [u8; 16],
-    pub dispatched: [Duration; 16],
-    pub length: [Duration; 16],
-    pub spent: [Duration; 16],
-    pub behavior: [u8; 16],
-    pub missed: [u32; 16],
+    pub active: [bool; MAX_THREADS],
+    pub code: [u8; MAX_THREADS],
+    pub dispatched: [Duration; MAX_THREADS],
+    pub length: [Duration; MAX_THREADS],
+    pub spent: [Duration; MAX_THREADS],
+    pub behavior: [u8; MAX_THREADS],
+    pub missed: [u32; MAX_THREADS],
 }
 
 pub struct Ports {
-    pub input: [Value; 32],
-    pub buffer: [Value; 32],
-    pub output: [Value; 32],
-    pub local: [Value; 32],
+    pub input: [Value; MAX_INPUTS],
+    pub buffer: [Value; MAX_INPUTS],
+    pub output: [Value; MAX_OUTPUTS],
+    pub local: [Value; MAX_LOCALS],
 }
 
 // `live` is Flag, by connection.
 pub struct State {
     pub clock: Clock,
     pub threads: Threads,
-    pub live: [bool; 32],
+    pub live: [bool; MAX_CONNECTIONS],
     pub ports: Ports,
 }
 

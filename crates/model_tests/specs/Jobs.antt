@@ -90,10 +90,6 @@ beside v j = besideRuns v j || besideComes v j
 unfoldable pub sourceOf : Timing → State → Connection → ThreadView
 sourceOf m s x = threadViewOf m s (item maxOutputs (m .output) (x .source) 0)
 
--- the connection x, live or not, is a live one of a kind into thread t, where owner is that of its target
-unfoldable pub leadsTo : Connection → ℕ → Bool → ℕ → ℕ → Bool
-leadsTo x owner live kind t = eqb (x .kind) kind && (eqb owner t && live)
-
 -- connection c holds thread t's DISPATCH back, or its START
 unfoldable pub holdsDispatch : Timing → State → ℕ → ℕ → Bool
 holdsDispatch m s t c = feeds m s delayed t c && (hasJob (codeOf s (sourceThread m c)) && isDue m s (sourceThread m c))

@@ -1,3 +1,5 @@
 pub mod Parts
 pub mod Jobs
+pub mod Rooms
+pub mod JobLaws
 pub mod TestLaws

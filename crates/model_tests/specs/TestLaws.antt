@@ -1,282 +1,140 @@
--- Laws of the tests, in the forms in which the code has them.
-use mathlib.Core.Path.{_≡_, refl, sym, _∙_}
-use mathlib.Core.Bool.{Bool, true, false, cond, _&&_, _||_, not}
-use Prim.Native.Nat.{ℕ, zero, suc, _<_, _≤_, min}
-use native.Mathlib.Omega.{arith}
-use native.Mathlib.Decide.{ℕ-discrete, decLt}
+-- Laws of the tests on lists of numbers, in the forms in which the code has them.
+use mathlib.Core.Path.{_≡_, refl, sym, _∙_, ap}
+use mathlib.Core.Bool.{Bool, true, false, _&&_, _||_, not}
+use Prim.Native.Nat.{ℕ}
 use lib.Dec.{eqb, ltb, leb}
-use lib.ListN.{getD}
-use borrow.Author.Tests.{lt-ltb, le-ltb, ne-eqb, not-true, not-false}
-use Rattle.numbers.specs.Lists.{item, anyBelow}
-use Rattle.numbers.specs.ListLaws.{any-none, any-some}
+use borrow.Author.Tests.{ne-eqb, eq-eqb, not-true, not-false}
 use Rattle.numbers.specs.Values.{duration}
 use Rattle.model_format.specs.declared.Thread.{Thread}
 use Rattle.model_format.specs.declared.Connection.{Connection}
-use Rattle.model_format.specs.declared.ModeTransition.{ModeTransition}
 use Rattle.model_format.specs.declared.Timing.{Timing}
-use Rattle.model_format.specs.Model.{maxThreads, maxInputs, maxOutputs, maxConnections, noThread, noConnection, connectionAt, inputOwner, outputOwner, threadAt, switchAt, immediate, delayed, sourceThread}
-use Rattle.model_semantics.specs.declared.Threads.{Threads}
+use Rattle.model_format.specs.Model.{connectionAt, inputOwner, outputOwner, threadAt, immediate, delayed, sourceThread, targetThread}
+use Rattle.model_semantics.specs.declared.Clock.{Clock}
 use Rattle.model_semantics.specs.declared.State.{State}
+use Rattle.model_semantics.specs.State.{isActive, codeOf, dispatchTime, lengthOf, spentOf, isLive}
+use Rattle.model_semantics.specs.Tests.{isWaiting, isUnfinished, hasJob, dueOf, isDue, feeds, awaitsDelayed, canDispatch, runsBeside, comesBeside, awaitsImmediate, startFault, threadBusy}
 use Rattle.model_tests.specs.declared.Job.{Job}
 use Rattle.model_tests.specs.declared.ThreadView.{ThreadView}
-use Rattle.model_semantics.specs.State.{none, isActive, codeOf, dispatchTime, lengthOf, spentOf, isLive}
 use Rattle.model_tests.specs.Parts.{jobOf}
-use Rattle.model_semantics.specs.Tests.{isWaiting, isUnfinished, hasJob, dueOf, isDue, isPeriodic, feeds, canActivate, canDeactivate, awaitsDelayed, canDispatch, runsBeside, comesBeside, awaitsImmediate, startFault, canComplete, canMeetDeadline, canMiss, canEnter, canLeave, threadBusy, switchBusy, isBusy}
-use Rattle.model_tests.specs.Jobs.{threadViewOf, activates, deactivates, completes, dispatchesAlone, startsAlone, faultOf, meets, misses, mayAct, dueWithJob, besideRuns, besideComes, sourceOf, leadsTo, holdsDispatch, holdsStart, enters, leaves}
+use Rattle.model_tests.specs.Jobs.{threadViewOf, dispatchesAlone, startsAlone, faultOf, mayAct, dueWithJob, besideRuns, besideComes, sourceOf, holdsDispatch, holdsStart}
+use Rattle.model_tests.specs.JobLaws.{dispatch-by, start-by, fault-state, fault-processor, fault-connections, fault-none, fault-length, calm}
 
--- ---- Bools
-pub false-true : {A : Type 0} → false ≡ true → A
-false-true e = let z : _≡_ {A = ℕ} 0 1 = cc in absurd (omega arith)
+-- ---- a job and a view, part by part
+pub job-by : (s : State) (t code : ℕ) (active : Bool) (d l p : ℕ) → active ≡ isActive s t → code ≡ codeOf s t → d ≡ dispatchTime s t → l ≡ lengthOf s t → p ≡ spentOf s t →
+    record { active = active; code = code; dispatched = duration d; length = duration l; spent = duration p } ≡ jobOf (s .threads) t
+unfolding jobOf isActive codeOf dispatchTime lengthOf spentOf
+job-by s t code active d l p e f g h i = rw (e, f, g, h, i)
 
-pub and-false : (b : Bool) → (b && false) ≡ false
-and-false true = refl
-and-false false = refl
+pub view-by : (m : Timing) (s : State) (t : ℕ) (k : Clock) (x : Thread) (j : Job) → k ≡ s .clock → x ≡ threadAt m t → j ≡ jobOf (s .threads) t →
+    record { clock = k; thread = x; job = j } ≡ threadViewOf m s t
+unfolding threadViewOf
+view-by m s t k x j e f g = rw (e, f, g)
 
-and-assoc : (a b c d : Bool) → ((a && (b && c)) && d) ≡ (a && (b && (c && d)))
-and-assoc true true c d = refl
-and-assoc true false c d = refl
-and-assoc false b c d = refl
-
--- ---- a thread's job and its view
-module _ (s : State) (t : ℕ) (j : Job) (f : j ≡ jobOf (s .threads) t) where
-  pub activate-by : activates j ≡ canActivate s t
-  unfolding canActivate isActive codeOf jobOf
-  activate-by = rw f
-
-  pub deactivate-by : deactivates j ≡ canDeactivate s t
-  unfolding canDeactivate isActive codeOf jobOf
-  deactivate-by = rw f
-
-  pub complete-by : completes j ≡ canComplete s t
-  unfolding canComplete codeOf lengthOf spentOf jobOf
-  complete-by = rw f
-
-  pub view-by : (m : Timing) (x : Thread) → x ≡ threadAt m t → record { clock = s .clock; thread = x; job = j } ≡ threadViewOf m s t
-  unfolding threadViewOf
-  view-by m x e = rw (e, f)
-
-module _ (m : Timing) (s : State) (t : ℕ) (v : ThreadView) (f : v ≡ threadViewOf m s t) where
-  pub meet-by : meets v ≡ canMeetDeadline m s t
-  unfolding threadViewOf canMeetDeadline dueOf codeOf dispatchTime jobOf
-  meet-by = rw f
-
-  pub miss-by : misses v ≡ canMiss m s t
-  unfolding threadViewOf canMiss dueOf codeOf dispatchTime lengthOf spentOf jobOf
-  miss-by = rw f
-
-  pub dispatch-by : (w : Bool) → w ≡ awaitsDelayed m s t → (dispatchesAlone v && not w) ≡ canDispatch m s t
-  unfolding threadViewOf canDispatch codeOf isActive jobOf
-  dispatch-by w e = rw (e, f) (and-assoc (eqb (codeOf s t) 1) (isActive s t) (isPeriodic m s t) (not (awaitsDelayed m s t)))
-
-  pub start-by : (n : ℕ) (w : Bool) → w ≡ awaitsImmediate m s t → faultOf v (ltb t (m .threads) && startsAlone v) w n ≡ startFault m s t n
-  unfolding threadViewOf faultOf startFault dueOf codeOf dispatchTime jobOf
-  start-by n w e = rw (e, f)
-
--- ---- the steps of START's test
-module _ (v : ThreadView) (ready waits : Bool) (n : ℕ) where
-  pub fault-state : not ready ≡ true → 1 ≡ faultOf v ready waits n
-  unfolding faultOf
-  fault-state h = rw (not-true ready h)
-
-  module _ (h : not ready ≡ false) where
-    pub fault-processor : (v .clock .cpu ≡ 255 → ⊥) → 2 ≡ faultOf v ready waits n
-    unfolding faultOf
-    fault-processor g = rw (not-false ready h, ne-eqb (v .clock .cpu) 255 g)
-
-    module _ (g : v .clock .cpu ≡ 255) where
-      pub fault-connections : waits ≡ true → 3 ≡ faultOf v ready waits n
-      unfolding faultOf
-      fault-connections w = rw (not-false ready h, g, w)
-
-      module _ (w : waits ≡ false) where
-        pub fault-none : (leb (v .thread .bcet .0) n && leb n (v .thread .wcet .0)) ≡ true → 0 ≡ faultOf v ready waits n
-        unfolding faultOf
-        fault-none k = rw (not-false ready h, g, w, k)
-
-        pub fault-length : (leb (v .thread .bcet .0) n && leb n (v .thread .wcet .0)) ≡ false → 4 ≡ faultOf v ready waits n
-        unfolding faultOf
-        fault-length k = rw (not-false ready h, g, w, k)
-
--- ---- connections
-pub source-by : (m : Timing) (s : State) (x : Connection) (i o u : ℕ) (v : ThreadView) → i ≡ x .source → o ≡ item maxOutputs (m .output) i 0 → u ≡ o → v ≡ threadViewOf m s u →
+-- i is the source of x, o its owner
+pub source-by : (m : Timing) (s : State) (x : Connection) (i o u : ℕ) (v : ThreadView) → i ≡ x .source → o ≡ outputOwner m i → u ≡ o → v ≡ threadViewOf m s u →
     v ≡ sourceOf m s x
-unfolding sourceOf
+unfolding sourceOf outputOwner
 source-by m s x i o u v e f g h = h ∙ rw (g, f, e)
 
-module _ (m : Timing) (s : State) (t c : ℕ) (b : Bool) where
-  dispatch-unfed : b ≡ feeds m s delayed t c → b ≡ false → false ≡ holdsDispatch m s t c
-  unfolding holdsDispatch
-  dispatch-unfed e h = rw (← e, h)
+-- ---- connections: a the kind fits, b the target is the thread's, l the connection is live, r what its source does
+off : (a b l r : Bool) → not (a && l) ≡ true → false ≡ ((a && (b && l)) && r)
+off true b true r h = cc
+off true true false r h = refl
+off true false false r h = refl
+off false b l r h = refl
 
-  start-unfed : b ≡ feeds m s immediate t c → b ≡ false → false ≡ holdsStart m s t c
-  unfolding holdsStart
-  start-unfed e h = rw (← e, h)
+away : (a b l r : Bool) → b ≡ false → false ≡ ((a && (b && l)) && r)
+away true false l r h = refl
+away false false l r h = refl
+away a true l r h = cc
 
-  -- v is the view of the source
-  module _ (v : ThreadView) (f : v ≡ threadViewOf m s (sourceThread m c)) where
-    dispatch-fed : b ≡ feeds m s delayed t c → b ≡ true → dueWithJob v ≡ holdsDispatch m s t c
-    unfolding holdsDispatch threadViewOf hasJob isUnfinished dueOf codeOf dispatchTime jobOf
-    dispatch-fed e h = rw (← e, h, f)
+on : (a b l r : Bool) → not (a && l) ≡ false → b ≡ true → r ≡ ((a && (b && l)) && r)
+on true true true r h e = refl
+on a false l r h e = cc
+on true true false r h e = cc
+on false true l r h e = cc
 
-    start-fed : (j : Job) → j ≡ jobOf (s .threads) t → b ≡ feeds m s immediate t c → b ≡ true → (besideRuns v j || besideComes v j) ≡ holdsStart m s t c
-    unfolding holdsStart threadViewOf runsBeside comesBeside isUnfinished isWaiting isActive codeOf dispatchTime jobOf
-    start-fed j g e h = rw (← e, h, f, g)
+abbrev sourceDue : Timing → State → ℕ → Bool
+sourceDue m s c = hasJob (codeOf s (sourceThread m c)) && isDue m s (sourceThread m c)
 
--- ---- mode transitions
-module _ (m : Timing) (s : State) (q : ℕ) (x : ModeTransition) (e : x ≡ switchAt m q) where
-  pub enter-by : enters (s .clock) x q ≡ canEnter m s q
-  unfolding enters canEnter
-  enter-by = rw e
+abbrev sourceBeside : Timing → State → ℕ → ℕ → Bool
+sourceBeside m s t c = runsBeside s (sourceThread m c) t || comesBeside m s (sourceThread m c) t
 
-  pub leave-by : leaves (s .clock) x q ≡ canLeave m s q
-  unfolding leaves canLeave
-  leave-by = rw e
+module _ (m : Timing) (s : State) (t c : ℕ) (x : Connection) (live : Bool) (e : x ≡ connectionAt m c) (f : live ≡ isLive s c) where
+  pub dispatch-off : not (eqb (x .kind) delayed && live) ≡ true → false ≡ holdsDispatch m s t c
+  unfolding holdsDispatch feeds
+  dispatch-off h = off (eqb (connectionAt m c .kind) delayed) (eqb (targetThread m c) t) (isLive s c) (sourceDue m s c) (rw (e, f) at h)
 
-pub switch-by : (m : Timing) (s : State) (q : ℕ) (a b : Bool) → a ≡ canEnter m s q → b ≡ canLeave m s q → (a || b) ≡ switchBusy m s q
-unfolding switchBusy
-switch-by m s q a b e f = rw (e, f)
-
--- ---- loops that look for a number below z and stop at an array's room, past which there is none; n is where they stop
-module _ (z room n c : ℕ) (p : ℕ → Bool) (e : n ≡ min z room) where
-  found : (b : Bool) → c < n → b ≡ p c → b ≡ true → true ≡ anyBelow z p
-  found b l g h = sym (any-some z p c (omega arith) (sym g ∙ h))
-
-  not-found : ((k : ℕ) → room ≤ k → p k ≡ false) → n ≤ c → ((k : ℕ) → k < c → p k ≡ false) → false ≡ anyBelow z p
-  not-found past l h = sym (any-none z p (λ k i. go k i (decLt k c)))
-    where
-      go : (k : ℕ) → k < z → Dec (k < c) → p k ≡ false
-      go k i (yes j) = h k j
-      go k i (no j) = past k (omega arith)
-
-module _ (m : Timing) (s : State) (t n c : ℕ) (e : n ≡ min (m .connections) maxConnections) where
-  pub delayed-some : (b : Bool) → c < n → b ≡ holdsDispatch m s t c → b ≡ true → true ≡ awaitsDelayed m s t
-  unfolding awaitsDelayed holdsDispatch
-  delayed-some = found (m .connections) maxConnections n c (holdsDispatch m s t) e
-
-  pub delayed-none : n ≤ c → ((k : ℕ) → k < c → holdsDispatch m s t k ≡ false) → false ≡ awaitsDelayed m s t
-  unfolding awaitsDelayed holdsDispatch feeds isLive
-  delayed-none = not-found (m .connections) maxConnections n c (holdsDispatch m s t) e (λ k h. rw (le-ltb k maxConnections h) (simp and-false))
-
-  pub immediate-some : (b : Bool) → c < n → b ≡ holdsStart m s t c → b ≡ true → true ≡ awaitsImmediate m s t
-  unfolding awaitsImmediate holdsStart
-  immediate-some = found (m .connections) maxConnections n c (holdsStart m s t) e
-
-  pub immediate-none : n ≤ c → ((k : ℕ) → k < c → holdsStart m s t k ≡ false) → false ≡ awaitsImmediate m s t
-  unfolding awaitsImmediate holdsStart feeds isLive
-  immediate-none = not-found (m .connections) maxConnections n c (holdsStart m s t) e (λ k h. rw (le-ltb k maxConnections h) (simp and-false))
+  pub start-off : not (eqb (x .kind) immediate && live) ≡ true → false ≡ holdsStart m s t c
+  unfolding holdsStart feeds
+  start-off h = off (eqb (connectionAt m c .kind) immediate) (eqb (targetThread m c) t) (isLive s c) (sourceBeside m s t c) (rw (e, f) at h)
 
   -- o is the owner of its target, at i
-  module _ (kind i o : ℕ) (b : Bool) (l : c < n) (f : i ≡ getD (m .connection) c noConnection .target) (g : o ≡ item maxInputs (m .input) i 0)
-      (h : b ≡ leadsTo (getD (m .connection) c noConnection) o (getD (s .live) c false) kind t) where
-    feeds-at : b ≡ feeds m s kind t c
-    unfolding leadsTo feeds isLive connectionAt inputOwner
-    feeds-at = h ∙ rw (g, f, lt-ltb c maxConnections (omega arith))
+  module _ (i o u : ℕ) (g : i ≡ x .target) (k : o ≡ inputOwner m i) (w : u ≡ o) where
+    target-is : u ≡ targetThread m c
+    target-is = w ∙ k ∙ ap (inputOwner m) (g ∙ ap (λ (y : Connection). y .target) e)
+
+    pub dispatch-away : (u ≡ t → ⊥) → false ≡ holdsDispatch m s t c
+    unfolding holdsDispatch feeds
+    dispatch-away h = away (eqb (connectionAt m c .kind) delayed) (eqb (targetThread m c) t) (isLive s c) (sourceDue m s c) (ne-eqb (targetThread m c) t (λ z. h (target-is ∙ z)))
+
+    pub start-away : (u ≡ t → ⊥) → false ≡ holdsStart m s t c
+    unfolding holdsStart feeds
+    start-away h = away (eqb (connectionAt m c .kind) immediate) (eqb (targetThread m c) t) (isLive s c) (sourceBeside m s t c) (ne-eqb (targetThread m c) t (λ z. h (target-is ∙ z)))
 
     -- and v the view of its source
-    source-at : (v : ThreadView) → v ≡ sourceOf m s (getD (m .connection) c noConnection) → v ≡ threadViewOf m s (sourceThread m c)
-    unfolding sourceOf outputOwner connectionAt
-    source-at v p = p ∙ rw (lt-ltb c maxConnections (omega arith))
+    module _ (h : u ≡ t) (v : ThreadView) (p : v ≡ sourceOf m s x) where
+      at-target : eqb (targetThread m c) t ≡ true
+      at-target = eq-eqb (targetThread m c) t (sym target-is ∙ h)
 
-    pub delayed-fed : (v : ThreadView) → v ≡ sourceOf m s (getD (m .connection) c noConnection) → kind ≡ delayed → b ≡ true → dueWithJob v ≡ holdsDispatch m s t c
-    delayed-fed v p j w = dispatch-fed m s t c b v (source-at v p) (rw j at feeds-at) w
+      source-is : v ≡ threadViewOf m s (sourceThread m c)
+      unfolding sourceOf outputOwner
+      source-is = p ∙ rw e
 
-    pub immediate-fed : (v : ThreadView) (j : Job) → v ≡ sourceOf m s (getD (m .connection) c noConnection) → j ≡ jobOf (s .threads) t → kind ≡ immediate → b ≡ true →
-        (besideRuns v j || besideComes v j) ≡ holdsStart m s t c
-    immediate-fed v j p q k w = start-fed m s t c b v (source-at v p) j q (rw k at feeds-at) w
+      pub dispatch-held : not (eqb (x .kind) delayed && live) ≡ false → dueWithJob v ≡ holdsDispatch m s t c
+      unfolding holdsDispatch feeds threadViewOf hasJob isUnfinished dueOf codeOf dispatchTime jobOf
+      dispatch-held z = rw source-is (on (eqb (connectionAt m c .kind) delayed) (eqb (targetThread m c) t) (isLive s c) (sourceDue m s c) (rw (e, f) at z) at-target)
 
-    pub delayed-past : kind ≡ delayed → b ≡ false → holdsDispatch m s t c ≡ false
-    delayed-past j w = sym (dispatch-unfed m s t c b (rw j at feeds-at) w)
+      pub start-held : (j : Job) → j ≡ jobOf (s .threads) t → not (eqb (x .kind) immediate && live) ≡ false → (besideRuns v j || besideComes v j) ≡ holdsStart m s t c
+      unfolding holdsStart feeds threadViewOf runsBeside comesBeside isUnfinished isWaiting isActive codeOf dispatchTime jobOf
+      start-held j q z = rw (source-is, q) (on (eqb (connectionAt m c .kind) immediate) (eqb (targetThread m c) t) (isLive s c) (sourceBeside m s t c) (rw (e, f) at z) at-target)
 
-    pub immediate-past : kind ≡ immediate → b ≡ false → holdsStart m s t c ≡ false
-    immediate-past j w = sym (start-unfed m s t c b (rw j at feeds-at) w)
+-- ---- DISPATCH and START, step by step
+module _ (m : Timing) (s : State) (t : ℕ) (v : ThreadView) (f : v ≡ threadViewOf m s t) where
+  pub dispatch-unready : (a : Bool) → a ≡ dispatchesAlone v → not a ≡ true → false ≡ canDispatch m s t
+  dispatch-unready a e h = go (dispatchesAlone v) (ap not (sym e) ∙ h) (dispatch-by m s t v f (awaitsDelayed m s t) refl)
+    where
+      go : (b : Bool) → not b ≡ true → (b && not (awaitsDelayed m s t)) ≡ canDispatch m s t → false ≡ canDispatch m s t
+      go b g w = rw (not-true b g) at w
 
--- ---- a calm thread has no event: a Active, k the code
-calm-of : (a : Bool) (k : ℕ) (due done periodic free delay wait known fits : Bool) →
-    cond (eqb k 0) a (cond (eqb k 1) (not a || periodic) (cond (eqb k 2) (free || due) (cond (eqb k 3) (done || due) (cond (eqb k 4) due false)))) ≡ false →
-    ((a && eqb k 0) || ((not a && eqb k 1) || ((eqb k 1 && (a && (periodic && not delay))) ||
-    (eqb (cond (known && (eqb k 2 && not due)) (cond free (cond wait 3 (cond fits 0 4)) 2) 1) 0 ||
-    ((eqb k 3 && done) || ((eqb k 4 && due) || (due && (eqb k 2 || (eqb k 3 && not done))))))))) ≡ false
-calm-of true zero due done periodic free delay wait known fits h = false-true (sym h)
-calm-of false zero due done periodic free delay wait known fits h = simp and-false
-calm-of false (suc zero) due done periodic free delay wait known fits h = false-true (sym h)
-calm-of true (suc zero) due done true free delay wait known fits h = false-true (sym h)
-calm-of true (suc zero) due done false free delay wait known fits h = simp and-false
-calm-of a (suc (suc zero)) due done periodic true delay wait known fits h = false-true (sym h)
-calm-of a (suc (suc zero)) true done periodic false delay wait known fits h = false-true (sym h)
-calm-of true (suc (suc zero)) false done periodic false delay wait true fits h = refl
-calm-of true (suc (suc zero)) false done periodic false delay wait false fits h = refl
-calm-of false (suc (suc zero)) false done periodic false delay wait true fits h = refl
-calm-of false (suc (suc zero)) false done periodic false delay wait false fits h = refl
-calm-of a (suc (suc (suc zero))) due true periodic free delay wait known fits h = false-true (sym h)
-calm-of a (suc (suc (suc zero))) true false periodic free delay wait known fits h = false-true (sym h)
-calm-of a (suc (suc (suc zero))) false false periodic free delay wait known fits h = simp and-false
-calm-of a (suc (suc (suc (suc zero)))) true done periodic free delay wait known fits h = false-true (sym h)
-calm-of a (suc (suc (suc (suc zero)))) false done periodic free delay wait known fits h = simp and-false
-calm-of a (suc (suc (suc (suc (suc k))))) due done periodic free delay wait known fits h =
-    let n = suc (suc (suc (suc (suc k)))) in
-    rw (ne-eqb n 0 (λ e. omega arith), ne-eqb n 1 (λ e. omega arith), ne-eqb n 2 (λ e. omega arith), ne-eqb n 3 (λ e. omega arith), ne-eqb n 4 (λ e. omega arith)) (simp and-false)
+  pub dispatch-ready : (a w : Bool) → a ≡ dispatchesAlone v → not a ≡ false → w ≡ awaitsDelayed m s t → not w ≡ canDispatch m s t
+  dispatch-ready a w e h p = go (dispatchesAlone v) (ap not (sym e) ∙ h) (dispatch-by m s t v f w p)
+    where
+      go : (b : Bool) → not b ≡ false → (b && not w) ≡ canDispatch m s t → not w ≡ canDispatch m s t
+      go b g z = rw (not-false b g) at z
 
-pub calm : (m : Timing) (s : State) (t : ℕ) → mayAct (s .clock) (threadAt m t) (jobOf (s .threads) t) ≡ false → threadBusy m s t ≡ false
-unfolding mayAct jobOf threadBusy canActivate canDeactivate canDispatch startFault canComplete canMeetDeadline canMiss dueOf isActive codeOf dispatchTime lengthOf spentOf threadAt
-calm m s t h =
-    calm-of (isActive s t) (codeOf s t) (isDue m s t) (eqb (spentOf s t) (lengthOf s t)) (isPeriodic m s t) (eqb (s .clock .cpu) none)
-    (awaitsDelayed m s t) (awaitsImmediate m s t) (ltb t (m .threads)) (leb (threadAt m t .bcet .0) (threadAt m t .bcet .0) && leb (threadAt m t .bcet .0) (threadAt m t .wcet .0)) h
+  module _ (n a : ℕ) (alone : Bool) (g : a ≡ m .threads) (h : alone ≡ startsAlone v) where
+    whole : (w : Bool) → w ≡ awaitsImmediate m s t → faultOf v (ltb t a && alone) w n ≡ startFault m s t n
+    whole w p = rw (g, h) (start-by m s t v f n w p)
 
--- t lies past the arrays: nothing is there
-calm-past : (m : Timing) (s : State) (t : ℕ) → 16 ≤ t → threadBusy m s t ≡ false
-unfolding mayAct jobOf
-calm-past m s t h = calm m s t (rw (le-ltb t 16 h))
+    pub start-state : not (ltb t a && alone) ≡ true → 1 ≡ startFault m s t n
+    start-state z = fault-state v (ltb t a && alone) (awaitsImmediate m s t) n z ∙ whole (awaitsImmediate m s t) refl
 
--- and the job that the code puts together
-abbrev pub jobHere : Threads → ℕ → Job
-jobHere y t = record {
-  active = getD (y .active) t false;
-  code = getD (y .code) t 0;
-  dispatched = getD (y .dispatched) t (duration 0);
-  length = getD (y .length) t (duration 0);
-  spent = getD (y .spent) t (duration 0);
-}
+    module _ (z : not (ltb t a && alone) ≡ false) where
+      pub start-processor : (v .clock .cpu ≡ 255 → ⊥) → 2 ≡ startFault m s t n
+      start-processor q = fault-processor v (ltb t a && alone) (awaitsImmediate m s t) n z q ∙ whole (awaitsImmediate m s t) refl
 
-pub calm-here : (m : Timing) (s : State) (t : ℕ) (b : Bool) → t < 16 → b ≡ mayAct (s .clock) (getD (m .thread) t noThread) (jobHere (s .threads) t) → b ≡ false → threadBusy m s t ≡ false
-unfolding jobOf threadAt
-calm-here m s t b h e f = calm m s t (rw (lt-ltb t 16 h) (sym e ∙ f))
+      module _ (q : v .clock .cpu ≡ 255) (w : Bool) (p : w ≡ awaitsImmediate m s t) where
+        pub start-connections : w ≡ true → 3 ≡ startFault m s t n
+        start-connections i = fault-connections v (ltb t a && alone) w n z q i ∙ whole w p
 
-module _ (m : Timing) (s : State) (n c : ℕ) (e : n ≡ min (m .threads) maxThreads) where
-  pub threads-some : (b : Bool) → c < n → b ≡ threadBusy m s c → b ≡ true → true ≡ anyBelow (m .threads) (threadBusy m s)
-  threads-some = found (m .threads) maxThreads n c (threadBusy m s) e
+        pub start-none : w ≡ false → (leb (v .thread .bcet .0) n && leb n (v .thread .wcet .0)) ≡ true → 0 ≡ startFault m s t n
+        start-none i j = fault-none v (ltb t a && alone) w n z q i j ∙ whole w p
 
-  pub threads-none : n ≤ c → ((k : ℕ) → k < c → threadBusy m s k ≡ false) → false ≡ anyBelow (m .threads) (threadBusy m s)
-  threads-none = not-found (m .threads) maxThreads n c (threadBusy m s) e (calm-past m s)
+        pub start-length : w ≡ false → (leb (v .thread .bcet .0) n && leb n (v .thread .wcet .0)) ≡ false → 4 ≡ startFault m s t n
+        start-length i j = fault-length v (ltb t a && alone) w n z q i j ∙ whole w p
 
-pub busy-by : (m : Timing) (s : State) (t n : ℕ) (x : Thread) (a b c d e f : Bool) → x ≡ threadAt m t → n ≡ startFault m s t (x .bcet .0) →
-    a ≡ canActivate s t → b ≡ canDeactivate s t → c ≡ canDispatch m s t → d ≡ canComplete s t → e ≡ canMeetDeadline m s t → f ≡ canMiss m s t →
-    (a || (b || (c || (eqb n 0 || (d || (e || f)))))) ≡ threadBusy m s t
-unfolding threadBusy
-busy-by m s t n x a b c d e f p q ha hb hc hd he hf = rw (ha, hb, hc, q, p, hd, he, hf)
-
--- ---- all of it: only the pending mode transition can have an event
-pub other-switch : (m : Timing) (s : State) (q : ℕ) → (s .clock .pending ≡ q → ⊥) → switchBusy m s q ≡ false
-unfolding switchBusy canEnter canLeave
-other-switch m s q h = rw (ne-eqb (s .clock .pending) q h) (simp and-false)
-
-module _ (m : Timing) (s : State) (a : Bool) (e : a ≡ anyBelow (m .threads) (threadBusy m s)) where
-  pub busy-thread : a ≡ true → true ≡ isBusy m s
-  unfolding isBusy
-  busy-thread h = rw (← e, h)
-
-  module _ (h : a ≡ false) (q : ℕ) (g : q ≡ s .clock .pending) where
-    pub busy-nothing : m .switches ≤ q → false ≡ isBusy m s
-    unfolding isBusy
-    busy-nothing l = rw (← e, h) (sym (any-none (m .switches) (switchBusy m s) (λ k i. other-switch m s k (λ d. omega arith))))
-
-    pub busy-pending : (b : Bool) → q < m .switches → b ≡ switchBusy m s q → b ≡ isBusy m s
-    unfolding isBusy
-    busy-pending b l f = rw (← e, h) (f ∙ go (switchBusy m s q) refl)
-      where
-        go : (c : Bool) → switchBusy m s q ≡ c → c ≡ anyBelow (m .switches) (switchBusy m s)
-        go true d = sym (any-some (m .switches) (switchBusy m s) q l d)
-        go false d = sym (any-none (m .switches) (switchBusy m s) (λ k i. by k (ℕ-discrete q k)))
-          where
-            by : (k : ℕ) → Dec (q ≡ k) → switchBusy m s k ≡ false
-            by k (yes z) = rw (← z) d
-            by k (no z) = other-switch m s k (λ w. z (g ∙ w))
+-- ---- a calm thread, from what the code reads of it
+pub calm-by : (m : Timing) (s : State) (t : ℕ) (k : Clock) (x : Thread) (j : Job) (b : Bool) → k ≡ s .clock → x ≡ threadAt m t → j ≡ jobOf (s .threads) t →
+    b ≡ mayAct k x j → not b ≡ true → threadBusy m s t ≡ false
+calm-by m s t k x j b e f g h z = calm m s t (rw (← e, ← f, ← g) (sym h ∙ not-true b z))

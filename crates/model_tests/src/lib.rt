@@ -1,52 +1,27 @@
-// The test of each event, on a state by value.
+// The test of each event, on a model and a state as lists of numbers.
 
-mod parts;
-mod setters;
-mod tests;
+mod jobs;
+mod modes;
+mod rooms;
+mod threads;
+mod views;
 
 use model_format::Thread;
 use model_semantics::Clock;
+pub use modes::can_enter;
+pub use modes::can_leave;
+pub use modes::is_busy;
 use numbers::Duration;
-pub use parts::behavior_of;
-pub use parts::job_of;
-pub use parts::missed_of;
-pub use parts::value_at;
-pub use parts::with_behavior;
-pub use parts::with_dispatch;
-pub use parts::with_job;
-pub use parts::with_missed;
-pub use setters::owner_at;
-pub use setters::put_buffer;
-pub use setters::put_input;
-pub use setters::put_local;
-pub use setters::put_output;
-pub use setters::with_cpu;
-pub use setters::with_phase;
-pub use setters::with_thread_code;
-pub use setters::within;
-pub use tests::activates;
-pub use tests::beside_comes;
-pub use tests::beside_runs;
-pub use tests::can_activate;
-pub use tests::can_complete;
-pub use tests::can_deactivate;
-pub use tests::can_dispatch;
-pub use tests::can_enter;
-pub use tests::can_leave;
-pub use tests::can_meet_deadline;
-pub use tests::can_miss;
-pub use tests::completes;
-pub use tests::deactivates;
-pub use tests::dispatches_alone;
-pub use tests::due_with_job;
-pub use tests::enters;
-pub use tests::is_busy;
-pub use tests::leaves;
-pub use tests::may_act;
-pub use tests::meets;
-pub use tests::misses;
-pub use tests::start_fault;
-pub use tests::starts_alone;
+pub use rooms::within;
+pub use threads::NO_FAULT;
+pub use threads::can_activate;
+pub use threads::can_complete;
+pub use threads::can_deactivate;
+pub use threads::can_dispatch;
+pub use threads::can_meet_deadline;
+pub use threads::can_miss;
+pub use threads::start_fault;
+pub use views::job_of;
 
 // A thread's job, as the tests ask for it.
 pub struct Job {

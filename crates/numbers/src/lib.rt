@@ -16,7 +16,7 @@ pub struct Duration(pub u32);
 pub struct Value(pub i32);
 
 // The number that 32 bits stand for. A cast keeps its value, so bits of the upper half are turned over.
-pub fn of_bits(u: u32) -> i32
+fn of_bits(u: u32) -> i32
     ensures { λ r. ⌜ r ≡ values.signed u ⌝ }
 {
     if u < 2147483648 {
@@ -27,7 +27,7 @@ pub fn of_bits(u: u32) -> i32
 }
 
 // The 32 bits of a number.
-pub fn to_bits(v: i32) -> u32
+fn to_bits(v: i32) -> u32
     ensures { λ r. ⌜ r ≡ values.bitsOf v ⌝ }
 {
     if v >= 0 {
@@ -73,7 +73,7 @@ pub fn plus(a: Value, b: Value) -> Value
     value_of(std::num::wrapping_add_u32(x, y))
 }
 
-pub fn minus(a: Value, b: Value) -> Value
+fn minus(a: Value, b: Value) -> Value
     ensures { λ r. ⌜ r ≡ values.minus a b ⌝ }
 {
     let x = bits(a);

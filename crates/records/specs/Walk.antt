@@ -13,6 +13,7 @@ use Rattle.records.specs.declared.Notation.{Notation}
 use Rattle.records.specs.declared.Notation.the-variants.{Script}
 use Rattle.records.specs.declared.Cause.{Cause}
 use Rattle.records.specs.declared.Event.{Event}
+use Rattle.records.specs.declared.Listed.{Listed}
 use Rattle.records.specs.Format.{recordSize, partLength, partLengthAt, partsFrom, parts}
 use Rattle.records.specs.Refusals.{isNone, inScript, noRefusal}
 use Rattle.records.specs.Events.{noEvent, eventOf, listedAt}
@@ -153,3 +154,35 @@ listed-within s p n e f g =
     let h : p + n - p ≡ n = omega arith in
     let k : e ≡ eventOf (take n (drop p s)) = rw h at g in
     rw (k, f) refl
+
+-- ---- the event l that stands at p of a script
+module _ (s : List ℕ) (p : ℕ) {l : Listed} (i : l ≡ listedAt s p) where
+  event-at : l .event ≡ eventOf (take (partLengthAt Script s p) (drop p s))
+  unfolding listedAt
+  event-at = ap (λ (x : Listed). x .event) i
+
+  end-at : l .end ≡ p + partLengthAt Script s p
+  unfolding listedAt
+  end-at = ap (λ (x : Listed). x .end) i
+
+  pub next-listed : p < length s → (p < l .end) × (l .end ≤ length s)
+  next-listed h = let n = next-place Script s p (partLengthAt Script s p) h refl in let f = end-at in omega arith
+
+  -- a run: state a before it, answer c, state b after it
+  module _ {S : Type 0} (mac : Machine S) (a : S) (h : p < length s) where
+    pub listed-on : (k : ℕ) (c : Cause) (b : S) → c ≡ mac .answer a (l .event) → b ≡ mac .after a (l .event) → isNone c ≡ true →
+        runFrom mac b (k + 1) (l .end) (parts Script (drop (l .end) s)) ≡ runFrom mac a k p (parts Script (drop p s))
+    listed-on k c b g j n = rw end-at (run-on mac s p a (partLengthAt Script s p) (l .event) h refl event-at k c b g j n)
+
+    pub listed-refused : (k : ℕ) (c : Cause) → c ≡ mac .answer a (l .event) → isNone c ≡ false →
+        record { taken = k; refusal = inScript c p (l .end); state = a } ≡ runFrom mac a k p (parts Script (drop p s))
+    listed-refused k c g n = rw end-at (run-refused mac s p a (partLengthAt Script s p) (l .event) h refl event-at k c g n)
+
+    -- the loop that goes on after refusals
+    pub listed-taken : (k r : ℕ) (c : Cause) (b : S) → c ≡ mac .answer a (l .event) → b ≡ mac .after a (l .event) → isNone c ≡ true →
+        tallyFrom b (k + 1) r (stagesFrom mac b (l .end) (parts Script (drop (l .end) s))) ≡ tallyFrom a k r (stagesFrom mac a p (parts Script (drop p s)))
+    listed-taken k r c b g j n = rw end-at (tally-taken mac s p a (partLengthAt Script s p) (l .event) h refl event-at k r c b g j n)
+
+    pub listed-passed : (k r : ℕ) (c : Cause) (b : S) → c ≡ mac .answer a (l .event) → b ≡ mac .after a (l .event) → isNone c ≡ false →
+        tallyFrom b k (r + 1) (stagesFrom mac b (l .end) (parts Script (drop (l .end) s))) ≡ tallyFrom a k r (stagesFrom mac a p (parts Script (drop p s)))
+    listed-passed k r c b g j n = rw end-at (tally-refused mac s p a (partLengthAt Script s p) (l .event) h refl event-at k r c b g j n)

@@ -39,7 +39,7 @@ ghost use Prim.Native.Nat.{_-_, _≤_, _<_, min};
 ghost use lib.ListN.{take, drop};
 ghost use Rattle.records.specs.declared.Notation.the-variants as notations;
 ghost use Rattle.records.specs.Format.{recordSize, partLength, partLengthAt, isWhole, operandAt};
-ghost use Rattle.records.specs.Refusals.{numberOf, isNone, partOf};
+ghost use Rattle.records.specs.Refusals.{numberOf, isNone, inModel, inScript, noRefusal, partOf};
 ghost use Rattle.records.specs.Events.{eventOf, listedAt, figureOf, isBroken};
 
 // The three languages of records: each has kinds of its own.
@@ -156,7 +156,7 @@ pub fn record_size(w: Notation, k: u8) -> usize
 }
 
 // How many of the n bytes that are left belong to the record whose kind is k.
-pub fn part_length(w: Notation, k: u8, n: usize) -> usize
+fn part_length(w: Notation, k: u8, n: usize) -> usize
     ensures { λ r. ⌜ r ≡ partLength w k n ⌝ }
 {
     let m = record_size(w, k);
@@ -175,7 +175,7 @@ pub fn part_length_at(w: Notation, s: &[u8], at: usize) -> usize
     }
 }
 
-pub fn is_whole(w: Notation, x: &[u8]) -> bool
+fn is_whole(w: Notation, x: &[u8]) -> bool
     ensures { λ r. ⌜ r ≡ isWhole w (now (x .entry)) ⌝ }
 {
     let k = numbers::byte_at(x, 0);
@@ -222,6 +222,39 @@ pub fn is_none(c: Cause) -> bool
     ensures { λ r. ⌜ r ≡ isNone c ⌝ }
 {
     number_of(c) == 0
+}
+
+// ---- refusals
+// The refusal of a part of the model, or of the table.
+pub fn in_model(cause: Cause, start: usize, end: usize) -> Refusal
+    ensures { λ r. ⌜ r ≡ inModel cause start end ⌝ }
+{
+    let holder = Holder::Model;
+    Refusal {
+        cause: cause,
+        holder: holder,
+        start: start,
+        end: end,
+    }
+}
+
+// The refusal of an event of the script.
+pub fn in_script(cause: Cause, start: usize, end: usize) -> Refusal
+    ensures { λ r. ⌜ r ≡ inScript cause start end ⌝ }
+{
+    let holder = Holder::Script;
+    Refusal {
+        cause: cause,
+        holder: holder,
+        start: start,
+        end: end,
+    }
+}
+
+pub fn no_refusal() -> Refusal
+    ensures { λ r. ⌜ r ≡ noRefusal ⌝ }
+{
+    in_model(Cause::None, 0, 0)
 }
 
 fn smaller(a: usize, b: usize) -> usize

@@ -19,18 +19,30 @@ pub use ops::SUM;
 pub use ops::VARIABLE_TAG;
 use records::ACTIVATE;
 use records::Cause;
-use records::Holder;
 use records::LEAVE;
 use records::Notation;
 use records::Operand;
 use records::Refusal;
+pub use variables::ACTIVE;
+pub use variables::BEHAVIOR;
+pub use variables::BUFFER;
+pub use variables::CLOCK_VARIABLES;
 pub use variables::CPU;
+pub use variables::DISPATCH_TIME;
+pub use variables::DUE;
+pub use variables::END;
 pub use variables::ENTERED;
+pub use variables::FLAG;
+pub use variables::INPUT;
+pub use variables::LOCAL;
+pub use variables::MISSED;
 pub use variables::MODE;
 pub use variables::NO_VARIABLE;
 pub use variables::NOW;
+pub use variables::OUTPUT;
 pub use variables::PENDING;
 pub use variables::PHASE;
+pub use variables::STATE;
 pub use variables::VARIABLES;
 pub use variables::active_var;
 pub use variables::behavior_var;
@@ -50,7 +62,6 @@ ghost use lib.Dec.{eqb};
 ghost use lib.IntN.{pos};
 ghost use lib.Signed.{leZ, ltZ};
 ghost use Rattle.records.specs.Events.{startKind};
-ghost use Rattle.records.specs.Refusals.{inModel};
 ghost use Rattle.table_format.specs.Variables.{isVariable};
 ghost use Rattle.table_format.specs.RuleKinds.{hasRules};
 ghost use Rattle.table_format.specs.Format.{initialOf, headOf, atomOf, updateOf, recordOf};
@@ -137,7 +148,7 @@ pub fn head_of(x: &[u8]) -> RuleHead
     }
 }
 
-pub fn atom_of(x: &[u8]) -> Atom
+fn atom_of(x: &[u8]) -> Atom
     ensures { λ r. ⌜ r ≡ atomOf (now (x .entry)) ⌝ }
 {
     let o = numbers::byte_at(x, 1);
@@ -150,7 +161,7 @@ pub fn atom_of(x: &[u8]) -> Atom
     }
 }
 
-pub fn update_of(x: &[u8]) -> Update
+fn update_of(x: &[u8]) -> Update
     ensures { λ r. ⌜ r ≡ updateOf (now (x .entry)) ⌝ }
 {
     let c = numbers::u16_at(x, 1);
@@ -243,7 +254,7 @@ fn names_variable(v: Value) -> bool
 }
 
 // `may_choose`: the operand may be the chosen length.
-pub fn operand_fits(may_choose: bool, o: Operand) -> bool
+fn operand_fits(may_choose: bool, o: Operand) -> bool
     ensures { λ r. ⌜ r ≡ operandFits «may_choose» o ⌝ }
 {
     let t = o.tag;
@@ -257,7 +268,7 @@ pub fn operand_fits(may_choose: bool, o: Operand) -> bool
     may_choose & (t == 2)
 }
 
-pub fn initial_fits(least: u32, x: InitialValue) -> bool
+fn initial_fits(least: u32, x: InitialValue) -> bool
     ensures { λ r. ⌜ r ≡ initialFits least x ⌝ }
 {
     let n = x.variable as u32;
@@ -278,7 +289,7 @@ fn has_rules(kind: u8) -> bool
     (ACTIVATE <= kind) & (kind <= LEAVE)
 }
 
-pub fn head_fits(h: RuleHead) -> bool
+fn head_fits(h: RuleHead) -> bool
     ensures { λ r. ⌜ r ≡ headFits h ⌝ }
 {
     let k = h.kind;
@@ -296,7 +307,7 @@ fn above_zero(v: Value) -> bool
     0 < z
 }
 
-pub fn atom_fits(a: Atom) -> bool
+fn atom_fits(a: Atom) -> bool
     ensures { λ r. ⌜ r ≡ atomFits a ⌝ }
 {
     let o = a.op;
@@ -313,7 +324,7 @@ pub fn atom_fits(a: Atom) -> bool
     (o < 8) & (b & ((t == 0) & r))
 }
 
-pub fn update_fits(kind: u8, u: Update) -> bool
+fn update_fits(kind: u8, u: Update) -> bool
     ensures { λ r. ⌜ r ≡ updateFits kind u ⌝ }
 {
     let c = u.condition;
@@ -341,7 +352,7 @@ fn judged(in_order: bool, fits: bool) -> Cause
     Cause::WrongKind
 }
 
-pub fn cause_of(c: Context, x: Record) -> Cause
+fn cause_of(c: Context, x: Record) -> Cause
     ensures { λ r. ⌜ r ≡ causeOf c x ⌝ }
 {
     let p = c.place;
@@ -379,7 +390,7 @@ fn placed(place: u8, least: u32, kind: u8) -> Context
 }
 
 // Where the reader stands after a record.
-pub fn next_context(c: Context, x: Record) -> Context
+fn next_context(c: Context, x: Record) -> Context
     ensures { λ r. ⌜ r ≡ nextContext c x ⌝ }
 {
     match x {
@@ -399,25 +410,12 @@ pub fn next_context(c: Context, x: Record) -> Context
     }
 }
 
-fn refusal(cause: Cause, start: usize, end: usize) -> Refusal
-    ensures { λ r. ⌜ r ≡ inModel cause start end ⌝ }
-{
-    let h = Holder::Model;
-    Refusal {
-        cause: cause,
-        holder: h,
-        start: start,
-        end: end,
-    }
-}
-
 // The first refused record of a table, and its part; a table that is too long is refused as a whole, before any record is read.
 pub fn read_table(s: &[u8]) -> Refusal
     ensures { λ r. ⌜ r ≡ readTable (now (s .entry)) ⌝ }
 {
     if LONGEST_TABLE < s.len() {
-        let long = Cause::TooMany;
-        return refusal(long, 0, s.len());
+        return records::in_model(Cause::TooMany, 0, s.len());
     }
     let mut c = placed(0, 1, 0);
     let mut at: usize = 0;
@@ -428,11 +426,10 @@ pub fn read_table(s: &[u8]) -> Refusal
         let x = record_of(&s[at..next]);
         let k = cause_of(c, x);
         if !records::is_none(k) {
-            return refusal(k, at, next);
+            return records::in_model(k, at, next);
         }
         c = next_context(c, x);
         at = next;
     }
-    let none = Cause::None;
-    refusal(none, 0, 0)
+    records::no_refusal()
 }

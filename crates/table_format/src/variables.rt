@@ -22,47 +22,74 @@ pub const CPU: u16 = 5;
 
 pub const NO_VARIABLE: u16 = 65535;
 
+// How many belong to no item; and of each block, thread by thread, connection by connection, port by port, the first.
+pub const CLOCK_VARIABLES: u16 = 6;
+
+pub const ACTIVE: u16 = 16;
+
+pub const STATE: u16 = 32;
+
+pub const DISPATCH_TIME: u16 = 48;
+
+pub const DUE: u16 = 64;
+
+pub const END: u16 = 80;
+
+pub const BEHAVIOR: u16 = 96;
+
+pub const MISSED: u16 = 112;
+
+pub const FLAG: u16 = 128;
+
+pub const INPUT: u16 = 160;
+
+pub const BUFFER: u16 = 192;
+
+pub const OUTPUT: u16 = 224;
+
+pub const LOCAL: u16 = 256;
+
 // Of thread t.
 pub fn active_var(t: u8) -> u16
     ensures { λ r. ⌜ r ≡ variables.activeVar t ⌝ }
 {
-    16 + (t as u16)
+    ACTIVE + (t as u16)
 }
 
 pub fn state_var(t: u8) -> u16
     ensures { λ r. ⌜ r ≡ variables.stateVar t ⌝ }
 {
-    32 + (t as u16)
+    STATE + (t as u16)
 }
 
 pub fn dispatch_var(t: u8) -> u16
     ensures { λ r. ⌜ r ≡ variables.dispatchVar t ⌝ }
 {
-    48 + (t as u16)
+    DISPATCH_TIME + (t as u16)
 }
 
 pub fn due_var(t: u8) -> u16
     ensures { λ r. ⌜ r ≡ variables.dueVar t ⌝ }
 {
-    64 + (t as u16)
+    DUE + (t as u16)
 }
 
 pub fn end_var(t: u8) -> u16
     ensures { λ r. ⌜ r ≡ variables.endVar t ⌝ }
 {
-    80 + (t as u16)
+    END + (t as u16)
 }
 
 pub fn behavior_var(t: u8) -> u16
     ensures { λ r. ⌜ r ≡ variables.behaviorVar t ⌝ }
 {
-    96 + (t as u16)
+    BEHAVIOR + (t as u16)
 }
 
 pub fn missed_var(t: u8) -> u16
     ensures { λ r. ⌜ r ≡ variables.missedVar t ⌝ }
 {
-    112 + (t as u16)
+    MISSED + (t as u16)
 }
 
 // Of connection c.
@@ -70,7 +97,7 @@ pub fn flag_var(c: u16) -> u16
     requires { ⌜ c < variables.connectionRoom ⌝ }
     ensures { λ r. ⌜ r ≡ variables.flagVar c ⌝ }
 {
-    128 + c
+    FLAG + c
 }
 
 // Of input port i, its buffer, output port o, local v.
@@ -78,26 +105,26 @@ pub fn input_var(i: u16) -> u16
     requires { ⌜ i < variables.inputRoom ⌝ }
     ensures { λ r. ⌜ r ≡ variables.inputVar i ⌝ }
 {
-    160 + i
+    INPUT + i
 }
 
 pub fn buffer_var(i: u16) -> u16
     requires { ⌜ i < variables.inputRoom ⌝ }
     ensures { λ r. ⌜ r ≡ variables.bufferVar i ⌝ }
 {
-    192 + i
+    BUFFER + i
 }
 
 pub fn output_var(o: u16) -> u16
     requires { ⌜ o < variables.outputRoom ⌝ }
     ensures { λ r. ⌜ r ≡ variables.outputVar o ⌝ }
 {
-    224 + o
+    OUTPUT + o
 }
 
 pub fn local_var(v: u16) -> u16
     requires { ⌜ v < variables.localRoom ⌝ }
     ensures { λ r. ⌜ r ≡ variables.localVar v ⌝ }
 {
-    256 + v
+    LOCAL + v
 }

@@ -2,7 +2,6 @@
 
 use records::Cause;
 use records::Event;
-use records::Holder;
 use records::Notation;
 use records::Refusal;
 use records::TABLE_START;
@@ -11,7 +10,6 @@ use table_format::InitialValue;
 use table_format::VARIABLES;
 use table_index::WORDS;
 use table_semantics::Ran;
-use table_semantics::Stepped;
 use table_semantics::Tallied;
 use table_semantics::Variables;
 ghost use mathlib.Core.Path.{_≡_};
@@ -62,20 +60,6 @@ pub fn step_on(table: &[u8], index: &[usize], bits: &mut [u32; VARIABLES], event
     ensures { λ r. ⌜ steppedTo r (now (bits .exit)) ≡ stepBy (now (table .entry)) (now (index .entry)) (variablesOf (now (bits .entry))) event ⌝ }
 {
     step_by(table, index, bits, event)
-}
-
-// One event on variables by value. No rule is listed: the table is walked.
-pub fn step(table: &[u8], s: Variables, event: Event) -> Stepped
-    ensures { λ r. ⌜ r ≡ machine.step (tableOf (now (table .entry)) .rules) s event ⌝ }
-{
-    let none = [0; 1];
-    let mut bits = table_rules::all_bits(s);
-    let c = step_on(table, &none, &mut bits, event);
-    let q = table_rules::variables_of(bits);
-    Stepped {
-        answer: c,
-        state: q,
-    }
 }
 
 // ---- the start, the clock, a run
@@ -130,47 +114,38 @@ pub fn clock_in(bits: &[u32; VARIABLES]) -> u32
     numbers::bits(table_rules::value_in(bits, 0))
 }
 
-fn ended(taken: usize, c: Cause, h: Holder, start: usize, end: usize, s: Variables) -> Ran
-    ensures { λ r. ⌜ r ≡ record { taken = taken; refusal = record { cause = c; holder = h; start = start; end = end }; state = s } ⌝ }
+fn ended(taken: usize, refusal: Refusal, bits: [u32; VARIABLES]) -> Ran
+    ensures { λ r. ⌜ endedOf r ≡ record { taken = taken; refusal = refusal; state = variablesOf bits } ⌝ }
 {
-    let r = Refusal {
-        cause: c,
-        holder: h,
-        start: start,
-        end: end,
-    };
+    let state = table_rules::variables_of(bits);
     Ran {
         taken: taken,
-        refusal: r,
-        state: s,
+        refusal: refusal,
+        state: state,
     }
 }
 
-// The run of the table that the bytes t hold over a script, up to its first refused event.
+// The run of the table that the bytes hold over a script, up to its first refused event.
 pub fn run_table(table: &[u8], script: &[u8]) -> Ran
     ensures { λ r. ⌜ endedOf r ≡ machine.runTable (now (table .entry)) (now (script .entry)) ⌝ }
 {
     let mut index = [0; INDEX];
     table_index::list_rules(table, &mut index);
     let mut bits = table_rules::all_bits(start_variables(table));
-    let mut k: usize = 0;
+    let mut taken: usize = 0;
     let mut at: usize = 0;
     while at < script.len() {
-        let w = Notation::Script;
-        let n = records::part_length_at(w, script, at);
-        let end = at + n;
-        let event = records::event_of(&script[at..end]);
-        let c = step_on(table, &index, &mut bits, event);
-        if !records::is_none(c) {
-            let h = Holder::Script;
-            return ended(k, c, h, at, end, table_rules::variables_of(bits));
+        let listed = records::event_at(script, at);
+        let event = listed.event;
+        let end = listed.end;
+        let answer = step_on(table, &index, &mut bits, event);
+        if !records::is_none(answer) {
+            return ended(taken, records::in_script(answer, at, end), bits);
         }
-        k += 1;
+        taken += 1;
         at = end;
     }
-    let c = Cause::None;
-    let h = Holder::Model;
-    ended(k, c, h, 0, 0, table_rules::variables_of(bits))
+    ended(taken, records::no_refusal(), bits)
 }
 
 // The run that goes on after refusals: each event on the variables that the one before it left, taken or refused.
@@ -180,26 +155,24 @@ pub fn run_on(table: &[u8], script: &[u8]) -> Tallied
     let mut index = [0; INDEX];
     table_index::list_rules(table, &mut index);
     let mut bits = table_rules::all_bits(start_variables(table));
-    let mut k: usize = 0;
-    let mut r: usize = 0;
+    let mut taken: usize = 0;
+    let mut refused: usize = 0;
     let mut at: usize = 0;
     while at < script.len() {
-        let w = Notation::Script;
-        let n = records::part_length_at(w, script, at);
-        let next = at + n;
-        let event = records::event_of(&script[at..next]);
-        let c = step_on(table, &index, &mut bits, event);
-        at = next;
-        if records::is_none(c) {
-            k += 1;
+        let listed = records::event_at(script, at);
+        let event = listed.event;
+        let answer = step_on(table, &index, &mut bits, event);
+        at = listed.end;
+        if records::is_none(answer) {
+            taken += 1;
         } else {
-            r += 1;
+            refused += 1;
         }
     }
-    let s = table_rules::variables_of(bits);
+    let state = table_rules::variables_of(bits);
     Tallied {
-        taken: k,
-        refused: r,
-        state: s,
+        taken: taken,
+        refused: refused,
+        state: state,
     }
 }

@@ -4,8 +4,9 @@
 ghost use Rattle.io.specs.Counts.{Counts};
 use checking_loop::View;
 use libc::STDOUT_FILENO;
-use model_format::Model;
-use model_semantics::State;
+use model_by_value::ModelWords;
+use model_by_value::StateWords;
+use model_words::MODEL_WORDS;
 use records::Cause;
 use table_format::Record;
 use table_reader::Found;
@@ -114,7 +115,7 @@ fn print_turn(answer: Cause, view: View) {
 }
 
 // The checking loop: it goes on after a refused event.
-fn check(model: Model, start: State, script: &[u8]) {
+fn check(model: ModelWords, start: StateWords, script: &[u8]) {
     let mut state = start;
     let mut view = checking_loop::view_of(state);
     let mut at: usize = 0;
@@ -123,20 +124,20 @@ fn check(model: Model, start: State, script: &[u8]) {
         let event = listed.event;
         let end = listed.end;
         let turn = checking_loop::take_turn(view, model, state, event);
-        let stepped = turn.stepped;
+        let answered = turn.answered;
         view = turn.view;
-        state = stepped.state;
-        let answer = stepped.answer;
+        state = answered.state;
+        let answer = answered.answer;
         print_turn(answer, view);
         at = end;
     }
 }
 
 fn check_run(bytes: &[u8], script: &[u8]) {
-    let read = model_reader::read_model(bytes);
-    let model = read.model;
-    let timing = model.timing;
-    let start = model_machine::start_state(timing);
+    let mut words: [u32; MODEL_WORDS] = [0; MODEL_WORDS];
+    model_reader::read_model_into(bytes, &mut words);
+    let model = ModelWords { word: words };
+    let start = model_by_value::start(model);
     check(model, start, script);
 }
 

@@ -55,21 +55,20 @@ fn print_answer(cause: Cause, start: usize, end: usize) {
     print_two(start, end);
 }
 
-// Every event of the script, going on after refused ones.
+// Every event of the script, going on after refused ones. No rule is listed: the table is walked.
 fn print_trace(table: &[u8], script: &[u8]) {
-    let mut variables = table_machine::start_variables(table);
+    let none = [0; 1];
+    let mut bits = table_rules::all_bits(table_machine::start_variables(table));
     print(b"- 0 0");
-    print_variables(variables);
+    print_variables(table_rules::variables_of(bits));
     let mut at: usize = 0;
     while at < script.len() {
         let listed = records::event_at(script, at);
         let event = listed.event;
         let end = listed.end;
-        let stepped = table_machine::step(table, variables, event);
-        let answer = stepped.answer;
-        variables = stepped.state;
+        let answer = table_machine::step_on(table, &none, &mut bits, event);
         print_answer(answer, at, end);
-        print_variables(variables);
+        print_variables(table_rules::variables_of(bits));
         at = end;
     }
 }

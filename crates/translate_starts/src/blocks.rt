@@ -18,11 +18,22 @@ use model_words::locals;
 use model_words::outputs;
 use model_words::threads;
 use numbers::Value;
+use table_format::ACTIVE;
+use table_format::BEHAVIOR;
+use table_format::BUFFER;
+use table_format::CLOCK_VARIABLES;
+use table_format::DISPATCH_TIME;
 use table_format::ENTERED;
+use table_format::FLAG;
+use table_format::INPUT;
+use table_format::LOCAL;
+use table_format::MISSED;
 use table_format::MODE;
 use table_format::NOW;
+use table_format::OUTPUT;
 use table_format::PENDING;
 use table_format::PHASE;
+use table_format::STATE;
 ghost use mathlib.Core.Path.{_≡_};
 ghost use Prim.Native.Nat.{_-_};
 ghost use Rattle.numbers.specs.Values.{bitsOf, natural};
@@ -30,29 +41,6 @@ ghost use Rattle.model_state.specs.Words.{stateIn};
 ghost use Rattle.model_words.specs.Words.{timingIn};
 ghost use Rattle.translation.specs.Shown.{bit, inBlock, clockNumber, standsFor};
 ghost use Rattle.translate_starts.specs.Blocks as blocks;
-
-// How many variables belong to no item, and the first of each block.
-const CLOCK_VARIABLES: u16 = 6;
-
-const ACTIVE: u16 = 16;
-
-const STATE: u16 = 32;
-
-const DISPATCH_TIME: u16 = 48;
-
-const BEHAVIOR: u16 = 96;
-
-const MISSED: u16 = 112;
-
-const FLAG: u16 = 128;
-
-const INPUT: u16 = 160;
-
-const BUFFER: u16 = 192;
-
-const OUTPUT: u16 = 224;
-
-const LOCAL: u16 = 256;
 
 fn in_block(base: u16, n: usize, j: u16) -> bool
     ensures { λ r. ⌜ r ≡ inBlock base n j ⌝ }

@@ -11,12 +11,12 @@ ghost use Rattle.table_writer.specs.WroteRules.{WroteInitial};
 ghost use Rattle.translate_starts.specs.Starts.{start, startsIn};
 use blocks::is_shown;
 pub use blocks::shown;
-use engine_start::start_in;
+use model_start::start_in;
 use model_state::STATE_WORDS;
 use numbers::Value;
 use table_format::InitialValue;
 
-const VARIABLES: u16 = 288;
+const VARIABLES: u16 = table_format::VARIABLES as u16;
 
 // Variable j, unless its value is 0.
 fn put_start(output: &mut [u8], at: usize, j: u16, value: Value) -> usize

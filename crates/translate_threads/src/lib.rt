@@ -1,10 +1,6 @@
 // The rules of one thread for every event but COMPLETE, written into a lent slice.
 
-mod connections;
 mod parts;
-mod ports;
-mod sends;
-mod waits;
 
 use model_format::DELAYED;
 use model_semantics::COMPLETED;
@@ -20,15 +16,12 @@ use parts::put_job_ends;
 use parts::put_missed;
 use parts::put_state;
 use parts::put_state_is;
-use ports::put_dispatch_ports;
-use ports::put_start_ports;
 use records::ACTIVATE;
 use records::DEACTIVATE;
 use records::DEADLINE;
 use records::DISPATCH;
 use records::MISS;
 use records::START;
-use sends::put_sends;
 use table_format::CPU;
 use table_format::NOW;
 use table_format::dispatch_var;
@@ -42,8 +35,11 @@ use table_writer::put_multiple;
 use table_writer::put_rule;
 use table_writer::put_set;
 use table_writer::put_sum;
-use waits::put_delayed_waits;
-use waits::put_immediate_waits;
+use translate_connections::put_delayed_waits;
+use translate_connections::put_dispatch_ports;
+use translate_connections::put_immediate_waits;
+use translate_connections::put_sends;
+use translate_connections::put_start_ports;
 ghost use mathlib.Core.List.{[], _∷_};
 ghost use Rattle.model_format.specs.WellFormed.{GoodTiming};
 ghost use Rattle.model_words.specs.Words.{timingIn};

@@ -11,15 +11,12 @@ use mir.Val.{Fits}
 use lib.Seq.{sets-eq}
 use lib.Dec.{ltb}
 use Rattle.records.specs.declared.Cause.the-variants.{ShortOutput}
-use Rattle.records.specs.declared.Refusal.{Refusal}
 use Rattle.records.specs.Refusals.{numberOf, isNone, inModel, noRefusal}
 use Rattle.model_format.specs.declared.Model.{Model}
 use Rattle.model_format.specs.declared.ModelRead.{ModelRead}
 use Rattle.model_format.specs.Reading.{readModel}
 use Rattle.model_format.specs.WellFormed.{Bytes, WellFormed}
 use Rattle.model_format.specs.Accepted.{accepted-well-formed}
-use Rattle.model_words.specs.Words.{modelIn, modelWords}
-use Rattle.model_reading.specs.Reads.{readRefusal, ReadInto}
 use Rattle.table_format.specs.Table.{rulesTo, initialTo}
 use Rattle.table_format.specs.BytesLaws.{initial-append}
 use Rattle.table_writer.specs.Written.{records-then}
@@ -31,6 +28,7 @@ use Rattle.translation.specs.Rules.{rulesOf}
 use Rattle.translation.specs.Translate.{initialOf, tableFrom, tableBytes, translated, outputAfter}
 use Rattle.translation.specs.TableLength.{longestMadeTable, table-most, table-short}
 use Rattle.simulation.specs.Simulation.{written-is, simulates}
+use Rattle.enabled_alike.specs.SameOffers.{offers}
 use Rattle.translator.specs.Translates.{Translates}
 
 -- the start records, then the rules
@@ -48,15 +46,6 @@ length-told m w x =
 pub bytes-known : (s : List ℕ) → ((i : ℕ) → Fits w8 (getD s i 0)) → Bytes s
 bytes-known s f i = f i .fits
 
--- what reading gave, the model in a list of numbers
-abbrev pub readAs : Refusal → List ℕ → ModelRead
-readAs r l = record { refusal = r; model = modelIn l }
-
--- a list that has room for the model
-pub read-whole : (model l l′ : List ℕ) (r : Refusal) → ReadInto model l l′ r → modelWords ≤ length l → readAs r l′ ≡ readModel model
-unfolding readRefusal
-read-whole model l l′ r i h = rw (i .refusal, le-ltb (length l) modelWords h, i .model h)
-
 -- ---- r is what reading the model gave, b whether it was accepted
 module _ (model out : List ℕ) (r : ModelRead) (b : Bool) (e : r ≡ readModel model) (g : b ≡ isNone (r .refusal .cause)) where
   -- nothing is made, and nothing to be simulated
@@ -66,6 +55,7 @@ module _ (model out : List ℕ) (r : ModelRead) (b : Bool) (e : r ≡ readModel 
     told = rw (← e, ← g, f);
     output = rw (← e, ← g, f, sym g ∙ f);
     simulated = λ s w. absurd (true≢false (sym w ∙ (sym g ∙ f)));
+    offered = λ s w. absurd (true≢false (sym w ∙ (sym g ∙ f)));
   }
 
   pub output-short : b ≡ true → (n : ℕ) → n ≡ length (tableBytes (r .model)) → length out < n →
@@ -75,6 +65,7 @@ module _ (model out : List ℕ) (r : ModelRead) (b : Bool) (e : r ≡ readModel 
     told = rw (← e, ← g, f, ← k, lt-ltb _ n l);
     output = rw (← e, ← g, f, ← k, lt-ltb _ n l);
     simulated = λ s w. absurd (true≢false (sym w));
+    offered = λ s w. absurd (true≢false (sym w));
   }
 
 -- and where the model was accepted
@@ -89,7 +80,12 @@ module _ (model out : List ℕ) (r : ModelRead) (b : Bool) (e : r ≡ readModel 
       let z : 0 + n ≡ n = omega arith in
       let told : record { refusal = noRefusal; bytes = n } ≡ translated model (length out) = rw (← e, ← g, f, ← k, le-ltb _ n l) in
       let output : after ≡ outputAfter model out = w .bytes ∙ sets-eq (tableBytes (r .model)) out 0 (omega arith) ∙ rw (← e, ← g, f, ← k, le-ltb _ n l, z) in
-      record { told = told; output = output; simulated = λ s made. simulates model out (record { refusal = noRefusal; bytes = n }) after told output made bytes s }
+      record {
+        told = told;
+        output = output;
+        simulated = λ s made. simulates model out (record { refusal = noRefusal; bytes = n }) after told output made bytes s;
+        offered = λ s made. offers model out (record { refusal = noRefusal; bytes = n }) after told output made bytes s;
+      }
 
   -- an output with room for any table
   pub table-made-at-once : b ≡ true → longestMadeTable ≤ length out → (after : List ℕ) (n : ℕ) → Wrote out 0 (tableBytes (r .model)) after n →

@@ -4,7 +4,6 @@
 ghost use mathlib.Core.Path.{_≡_};
 ghost use Prim.Native.Nat.{_<_, _≤_};
 ghost use lib.ListN.{getD, length};
-ghost use Rattle.records.specs.Refusals.{inModel};
 ghost use Rattle.model_format.specs.Reading.{readModel};
 ghost use Rattle.model_format.specs.WellFormed.{GoodTiming, WellFormed};
 ghost use Rattle.model_words.specs.Words.{timingIn, modelIn, modelWords};
@@ -15,7 +14,7 @@ ghost use Rattle.table_format.specs.RuleKinds.{ruleKinds};
 ghost use Rattle.translation.specs.Rules.{itemsOf, timingRules, rulesOf};
 ghost use Rattle.translation.specs.Translate.{tableBytes};
 ghost use Rattle.translator.specs.Groups.{groupRules, completesOf};
-ghost use Rattle.translator.specs.Tables.{readAs};
+ghost use Rattle.model_reader.specs.Reads.{readAs};
 ghost use Rattle.translator.specs.Translates.{Translates};
 use model_words::MODEL_WORDS;
 use records::ACTIVATE;
@@ -25,7 +24,6 @@ use records::DEACTIVATE;
 use records::DEADLINE;
 use records::DISPATCH;
 use records::ENTER;
-use records::Holder;
 use records::LEAVE;
 use records::MISS;
 use records::REQUEST;
@@ -154,24 +152,12 @@ fn table_length(m: &[u32]) -> usize
     put_table(&mut none, m)
 }
 
-fn refused(c: Cause, start: usize, end: usize) -> Refusal
-    ensures { λ r. ⌜ r ≡ inModel c start end ⌝ }
-{
-    let holder = Holder::Model;
-    Refusal {
-        cause: c,
-        holder: holder,
-        start: start,
-        end: end,
-    }
-}
-
 // A model read into a list that has room for it.
 fn read_into(model: &[u8], m: &mut [u32]) -> Refusal
     requires { ⌜ modelWords ≤ length (now m) ⌝ }
     ensures { λ r. ⌜ readAs r (now (m .exit)) ≡ readModel (now (model .entry)) ⌝ }
 {
-    model_reading::read_model_into(model, m)
+    model_reader::read_model_into(model, m)
 }
 
 // The table of an accepted model, at the beginning of the output, where it fits; else the output is as it was. With room for any table
@@ -190,8 +176,7 @@ pub fn translate(model: &[u8], output: &mut [u8]) -> Translation
     }
     if LONGEST_MADE_TABLE <= output.len() {
         let made = put_table(output, &m);
-        let none = Cause::None;
-        let accepted = refused(none, 0, 0);
+        let accepted = records::no_refusal();
         return Translation {
             refusal: accepted,
             bytes: made,
@@ -200,16 +185,14 @@ pub fn translate(model: &[u8], output: &mut [u8]) -> Translation
     let n = table_length(&m);
     if output.len() < n {
         let end = model.len();
-        let short = Cause::ShortOutput;
-        let told = refused(short, end, end);
+        let told = records::in_model(Cause::ShortOutput, end, end);
         return Translation {
             refusal: told,
             bytes: 0,
         };
     }
     put_table(output, &m);
-    let none = Cause::None;
-    let accepted = refused(none, 0, 0);
+    let accepted = records::no_refusal();
     Translation {
         refusal: accepted,
         bytes: n,

@@ -132,7 +132,7 @@ pub fn enabled(model: &Model, state: &State, kind: u8, id: u8) -> bool {
 }
 
 /// How many items an id of this kind can name.
-fn item_count(model: &Model, kind: u8) -> usize {
+pub fn item_count(model: &Model, kind: u8) -> usize {
     match kind {
         ACTIVATE..=MISS => model.threads.len(),
         REQUEST..=LEAVE => model.mode_transitions.len(),

@@ -5,7 +5,7 @@ mod machine;
 mod reader;
 
 pub use machine::{
-    due, enabled, start_state, step, State, ThreadState, COMPLETED, EXECUTION, NONE,
+    due, enabled, item_count, start_state, step, State, ThreadState, COMPLETED, EXECUTION, NONE,
     WAITING_DISPATCH, WAITING_EXECUTION, WAITING_MODE,
 };
 pub use reader::{hyperperiod, read};

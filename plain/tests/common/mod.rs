@@ -1,9 +1,10 @@
 //! The two machines run side by side, as several tests need them.
 
-use plain::model::{self, Model};
-use plain::script::{answer_one, run, Answer};
+use plain::model::{self, Model, State};
+use plain::offers;
+use plain::script::{answer_one, run, Answer, Event, TICK};
 use plain::show::first_difference;
-use plain::table::{self, Table, LONGEST_TABLE};
+use plain::table::{self, Table, Variables, LONGEST_TABLE};
 use plain::translate::translate;
 
 /// The accepted model and the table read back from the bytes made of it.
@@ -16,8 +17,8 @@ pub fn model_and_table(model_bytes: &[u8]) -> Result<(Model, Table), String> {
 }
 
 /// Runs a script on a model and on its table, going on after refused events.
-/// Answers, parts and variables must agree at the start and after each event,
-/// and so must the runs that stop at the first refusal. Gives all the answers.
+/// Answers, parts, variables and what is enabled must agree at the start and
+/// after each event, and so must the runs that stop at the first refusal. Gives all the answers.
 pub fn simulation(model_bytes: &[u8], script: &[u8]) -> Result<Vec<Answer>, String> {
     let (model, table) = model_and_table(model_bytes)?;
     let mut state = model::start_state(&model);
@@ -25,6 +26,7 @@ pub fn simulation(model_bytes: &[u8], script: &[u8]) -> Result<Vec<Answer>, Stri
     if let Some(variable) = first_difference(&model, &state, &variables) {
         return Err(format!("at the start: variable {variable}"));
     }
+    offers_agree(&model, &state, &table, &variables)?;
     let mut answers = Vec::new();
     let mut position = 0;
     while position < script.len() {
@@ -44,11 +46,36 @@ pub fn simulation(model_bytes: &[u8], script: &[u8]) -> Result<Vec<Answer>, Stri
                 "after the event at {position}: variable {variable}"
             ));
         }
+        offers_agree(&model, &state, &table, &variables)?;
         answers.push(of_model);
         position = of_model.end;
     }
     stopping_runs_agree(&model, &table, script, &answers)?;
     Ok(answers)
+}
+
+/// The same events are enabled in both, and a TICK where it is said to be.
+fn offers_agree(
+    model: &Model,
+    state: &State,
+    table: &Table,
+    variables: &Variables,
+) -> Result<(), String> {
+    let of_model = offers::of_model(model, state);
+    let of_table = offers::of_table(table, variables);
+    if of_model != of_table {
+        return Err(format!("enabled: {of_model:?} but {of_table:?}"));
+    }
+    let tick = Event {
+        kind: TICK,
+        id: 0,
+        length: 0,
+        ticks: 1,
+    };
+    if of_model.tick != model::step(model, state, &tick).is_ok() {
+        return Err(format!("TICK 1 is not answered as told by {of_model:?}"));
+    }
+    Ok(())
 }
 
 /// Both runs that stop at the first refusal end where the answers say.

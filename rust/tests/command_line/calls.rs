@@ -2,9 +2,9 @@
 
 use crate::tools::{example, run};
 
-const COMMANDS: [&str; 11] = [
-    "steps", "rules", "run", "table", "check", "compare", "trace", "timeline", "promela", "show",
-    "pack",
+const COMMANDS: [&str; 12] = [
+    "steps", "rules", "run", "table", "check", "compare", "trace", "timeline", "explore",
+    "promela", "show", "pack",
 ];
 
 #[test]

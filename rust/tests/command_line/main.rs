@@ -4,6 +4,7 @@
 mod any_files;
 mod calls;
 mod commands;
+mod explore;
 mod files;
 mod promela;
 mod random;

@@ -16,10 +16,10 @@ const RULE: u8 = 0x21;
 const NOW: usize = 0;
 
 /// A state by its variables.
-type States = BTreeSet<Vec<i32>>;
+pub type States = BTreeSet<Vec<i32>>;
 
 /// All states that the library reaches up to a clock, the start aside.
-fn reached(bytes: &[u8], last: i32) -> States {
+pub fn reached(bytes: &[u8], last: i32) -> States {
     let table = Table::read(bytes).expect("it is accepted");
     let events = events(bytes);
     let mut seen = HashSet::new();
@@ -39,7 +39,7 @@ fn reached(bytes: &[u8], last: i32) -> States {
 }
 
 /// Each event that a table has a rule for, with all lengths, and TICK 1.
-fn events(table: &[u8]) -> BTreeSet<Vec<u8>> {
+pub fn events(table: &[u8]) -> BTreeSet<Vec<u8>> {
     let mut events = BTreeSet::from([vec![11, 1, 0]]);
     let mut rest = table;
     while let [kind, body @ ..] = rest {
@@ -166,7 +166,7 @@ fn assert_same(folder: &Folder, name: &str, table: &[u8], last: i32) {
     );
 }
 
-fn table_of(file: &str) -> Vec<u8> {
+pub fn table_of(file: &str) -> Vec<u8> {
     translate_to_vec(&bytes_of(file)).expect("it is accepted")
 }
 
@@ -177,7 +177,13 @@ fn spin_reaches_the_same_states() {
     }
     let folder = Folder::new("promela");
     assert_same(&folder, "m", &table_of(&example("m/model.bin")), 12);
-    // The lesson with two threads, each of one length.
+    let model = small_lesson(&folder);
+    assert_same(&folder, "lesson", &table_of(&model), 21);
+    assert_same(&folder, "conflicts", &conflicts(&folder), 7);
+}
+
+/// The lesson with two threads, each of one length.
+pub fn small_lesson(folder: &Folder) -> String {
     let text = run(&["show", &example("lesson/model.bin")]).good();
     let small = text
         .replace("min 1 max 3", "min 1 max 1")
@@ -186,13 +192,12 @@ fn spin_reaches_the_same_states() {
         .replace("min 1 max 5 modes 0", "min 1 max 1 modes none");
     let model = folder.path("lesson.bin");
     run_with(&["pack", "-", &model], small.as_bytes()).good();
-    assert_same(&folder, "lesson", &table_of(&model), 21);
-    assert_same(&folder, "conflicts", &conflicts(&folder), 7);
+    model
 }
 
 /// Rules that meet, updates that meet, values exchanged, sums that go round.
 /// REQUESTs do not stop ticks.
-fn conflicts(folder: &Folder) -> Vec<u8> {
+pub fn conflicts(folder: &Folder) -> Vec<u8> {
     let text = "\
 table
 start Local(0) := 2147483646
@@ -234,7 +239,7 @@ rule 5 START thread 0 length 2..4
 }
 
 /// A small model: few threads of short periods, all kinds of records.
-fn small_model(random: &mut Random) -> Vec<u8> {
+pub fn small_model(random: &mut Random) -> Vec<u8> {
     let threads = 1 + random.below(2) as u8;
     let modes = 1 + random.below(2) as u8;
     let mut model = vec![1, modes, 0];

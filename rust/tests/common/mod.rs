@@ -28,11 +28,13 @@ pub const NOW: usize = 0;
 pub const ACTIVE: usize = 16;
 pub const STATE: usize = 32;
 pub const DUE: usize = 64;
+pub const END: usize = 80;
 
 /// What stands in an output before a call, to see what the call touched.
 pub const BYTE: u8 = 0xA5;
 pub const PLACE: usize = 0xA5A5_A5A5;
 pub const FIGURE: i32 = 0x5A5A_5A5A;
+pub const WORD: u32 = 0x5A5A_5A5A;
 
 pub fn table_of_m() -> Vec<u8> {
     futonkestrel::translate_to_vec(M).expect("M is accepted")

@@ -2,8 +2,8 @@
 use contract.Running.{givenOf, tables, tablesOf}
 use denote.Triple.Spec.{tripleOf}
 use denote.Triple.Table.{entered, cited}
-use Rattle.model_semantics.specs.Machine.{step}
-use Rattle.checking_loop.specs.View.{viewAfter}
+use Rattle.checking_loop.specs.View.{Steps, Turns}
+use Rattle.checking_loop.specs.Laws.{shown, viewIn, turns}
 use Rattle.checking_loop.proofs.Data.{model, state, event, answer, turn, model-laws, state-laws, event-laws, answer-laws, turn-laws, turnWith, is-turn}
 use Rattle.checking_loop.proofs.Lends.{Advance, lends-meets}
 use Rattle.checking_loop.proofs.advance.Symbol as advance
@@ -19,6 +19,6 @@ take-turn-spec 𝓤 H 𝓜 𝓖 𝓡 =
     let W = givenOf 𝓤 H 𝓜 𝓖 in
     entered 𝓤 H (tripleOf 𝓤 H (𝓖 .A) take-turn.signature (take-turn.spec 𝓤 H (𝓖 .A) (𝓜 .mem) (𝓡 .run)))
     (tables 𝓤 H 𝓜 𝓡 code.env .C) (tables 𝓤 H 𝓜 𝓡 code.env .Λ) key.name code.function (code.unfolded 𝓤 H 𝓜 𝓡)
-    (lends-meets model state event answer turn turnWith step viewAfter 𝓤 H (𝓖 .A) W (model-laws 𝓤 H (𝓖 .A) W) (state-laws 𝓤 H (𝓖 .A) W) (event-laws 𝓤 H (𝓖 .A) W) (answer-laws 𝓤 H (𝓖 .A) W) (turn-laws 𝓤 H (𝓖 .A) W) is-turn advance.name
+    (lends-meets model state event answer turn turnWith Steps shown viewIn Turns 𝓤 H (𝓖 .A) W (model-laws 𝓤 H (𝓖 .A) W) (state-laws 𝓤 H (𝓖 .A) W) (event-laws 𝓤 H (𝓖 .A) W) (answer-laws 𝓤 H (𝓖 .A) W) (turn-laws 𝓤 H (𝓖 .A) W) is-turn turns advance.name
     (tablesOf 𝓤 H 𝓜 (tables 𝓤 H 𝓜 𝓡 code.env))
-    (cited 𝓤 H (Advance model state event answer turn turnWith step viewAfter 𝓤 H (𝓖 .A)) 𝓜 𝓡 code.env advance.name advance.routine code.calls-checking-loop·advance (advance-thm.met 𝓤 H 𝓜 𝓖 𝓡)))
+    (cited 𝓤 H (Advance model state event answer turn turnWith Steps shown viewIn Turns 𝓤 H (𝓖 .A)) 𝓜 𝓡 code.env advance.name advance.routine code.calls-checking-loop·advance (advance-thm.met 𝓤 H 𝓜 𝓖 𝓡)))

@@ -13,8 +13,11 @@ returns c = after-refused _ _ _ (c .before .is-none .ensures) (not-true _ (c .if
 next-count-requires : tie.Need-next-count-requires
 next-count-requires c κs = search needs
 
+view-with-requires : tie.Need-view-with-requires
+view-with-requires c κs = search needs
+
 returns-2 : tie.Need-returns-2
-returns-2 c = after-taken _ _ _ (c .before .before .before .before .before .is-none .ensures) _ (not-false _ (c .before .before .before .before .if1 .left)) (c .next-count .ensures)
+returns-2 c = after-taken _ _ _ (c .before .before .before .before .is-none .ensures) _ _ (not-false _ (c .before .before .before .if1 .left)) (c .before .next-count .ensures) (c .view-with .ensures)
 
 pub view-after-spec : {M : Type 1} → statement M
-view-after-spec = tie.close (tie.spec is-none-requires returns next-count-requires returns-2)
+view-after-spec = tie.close (tie.spec is-none-requires returns next-count-requires view-with-requires returns-2)

@@ -27,8 +27,8 @@ element-copy-out-v c = search needs
 bits-requires : tie.Need-bits-requires Inv-loop μ-loop
 bits-requires c κs = search needs
 
-put-number-requires : tie.Need-put-number-requires Inv-loop μ-loop
-put-number-requires c κs = search needs
+put-word-requires : tie.Need-put-word-requires Inv-loop μ-loop
+put-word-requires c κs = search needs
 
 add-j : tie.Need-add-j Inv-loop μ-loop
 add-j c = search needs
@@ -37,7 +37,7 @@ loop-less : tie.Need-loop-less Inv-loop μ-loop
 loop-less c = search needs
 
 loop-again : tie.Need-loop-again Inv-loop μ-loop
-loop-again c = (omega arith, one-number-more _ (numbersOf (c .before .before .before .before .before .before .before .before .before .args .t2)) _ _ (c .before .before .before .before .before .before .before .loop .inv .1) (within (c .before .before .before .before .before .before .before .before .before .args .t2) _ (c .before .before .before .before .before .before .loop-test .taken) _ (c .before .before .before .bits .ensures)) (c .before .before .put-number .ensures))
+loop-again c = (omega arith, one-number-more _ (numbersOf (c .before .before .before .before .before .before .before .before .before .args .t2)) _ _ (c .before .before .before .before .before .before .before .loop .inv .1) (within (c .before .before .before .before .before .before .before .before .before .args .t2) _ (c .before .before .before .before .before .before .loop-test .taken) _ (c .before .before .before .bits .ensures)) (c .before .before .put-word .ensures))
 
 same-length : tie.Need-same-length Inv-loop μ-loop
 same-length c = same-size (c .before .before .before .args .lent .now) (numbersOf (c .before .before .before .args .t2)) _ (c .before .loop .inv .1)
@@ -55,7 +55,7 @@ put-variables-spec =
     mul-v
     element-copy-out-v
     bits-requires
-    put-number-requires
+    put-word-requires
     add-j
     loop-less
     loop-again

@@ -1,7 +1,8 @@
 use Rattle.model_semantics.specs.declared.State.{State}
 use Rattle.records.specs.Run.{Tally}
 use mathlib.Core.Path.{ap}
-use Rattle.futonkestrel_models.specs.Laws.{read-new, after-refused, after-short, after-shown}
+use Rattle.model_reader.specs.Laws.{read-new}
+use Rattle.futonkestrel_models.specs.Laws.{after-refused, after-short, after-shown}
 use borrow.Author.Tests.{not-true, not-false}
 use borrow.Author.Needs.{needs}
 use Rattle.futonkestrel_models.proofs.model_after.Statement.{statement}
@@ -17,10 +18,10 @@ is-none-requires : tie.Need-is-none-requires
 is-none-requires c κs = search needs
 
 returns : tie.Need-returns
-returns c = after-refused _ _ _ _ (read-new _ (c .before .before .before .read-model-into .ensures)) (c .before .is-none .ensures) (not-true _ (c .if1 .taken))
+returns c = after-refused _ _ _ _ (read-new (c .before .before .before .read-model-into .ensures)) (c .before .is-none .ensures) (not-true _ (c .if1 .taken))
 
 returns-2 : tie.Need-returns-2
-returns-2 c = after-short _ _ _ _ (read-new _ (c .before .before .before .before .read-model-into .ensures)) (c .before .before .is-none .ensures) (not-false _ (c .before .if1 .left)) (c .if2 .taken)
+returns-2 c = after-short _ _ _ _ (read-new (c .before .before .before .before .read-model-into .ensures)) (c .before .before .is-none .ensures) (not-false _ (c .before .if1 .left)) (c .if2 .taken)
 
 slice-aggregate-run-on-in : tie.Need-slice-aggregate-run-on-in
 slice-aggregate-run-on-in c = search needs
@@ -56,7 +57,7 @@ same-length : tie.Need-same-length
 same-length c = search needs
 
 returns-3 : tie.Need-returns-3
-returns-3 c = after-shown _ _ _ _ (read-new _ (c .before .before .before .before .before .before .before .before .before .before .before .before .before .before .before .before .before .before .before .read-model-into .ensures)) (c .before .before .before .before .before .before .before .before .before .before .before .before .before .before .before .before .before .is-none .ensures) (not-false _ (c .before .before .before .before .before .before .before .before .before .before .before .before .before .before .before .before .if1 .left)) (c .before .before .before .before .before .before .before .before .before .before .before .before .before .before .before .if2 .left) (rw (c .before .before .before .before .before .before .before .before .event-of .ensures, ap (λ (t : Tally State). t .state) (c .before .before .before .before .before .before .before .before .before .before .before .before .run-on-in .ensures)) at (c .before .before .before .before .before .before .before .step .ensures .same)) (c .before .before .put-shown .ensures)
+returns-3 c = after-shown _ _ _ _ (read-new (c .before .before .before .before .before .before .before .before .before .before .before .before .before .before .before .before .before .before .before .read-model-into .ensures)) (c .before .before .before .before .before .before .before .before .before .before .before .before .before .before .before .before .before .is-none .ensures) (not-false _ (c .before .before .before .before .before .before .before .before .before .before .before .before .before .before .before .before .if1 .left)) (c .before .before .before .before .before .before .before .before .before .before .before .before .before .before .before .if2 .left) (rw (c .before .before .before .before .before .before .before .before .event-of .ensures, ap (λ (t : Tally State). t .state) (c .before .before .before .before .before .before .before .before .before .before .before .before .run-on-in .ensures)) at (c .before .before .before .before .before .before .before .step .ensures .same)) (c .before .before .put-shown .ensures)
 
 pub model-after-spec : {M : Type 1} → statement M
 model-after-spec =

@@ -26,8 +26,8 @@ cast-number-shown c = search needs
 number-shown-requires : tie.Need-number-shown-requires Inv-loop μ-loop
 number-shown-requires c κs = search needs
 
-put-number-requires : tie.Need-put-number-requires Inv-loop μ-loop
-put-number-requires c κs = search needs
+put-word-requires : tie.Need-put-word-requires Inv-loop μ-loop
+put-word-requires c κs = search needs
 
 add-j : tie.Need-add-j Inv-loop μ-loop
 add-j c = search needs
@@ -36,7 +36,7 @@ loop-less : tie.Need-loop-less Inv-loop μ-loop
 loop-less c = search needs
 
 loop-again : tie.Need-loop-again Inv-loop μ-loop
-loop-again c = (omega arith, one-number-more _ (numbersShown (timingIn (c .before .before .before .before .before .before .before .before .before .before .args .m .now)) (stateIn (c .before .before .before .before .before .before .before .before .before .before .args .s .now))) _ _ (c .before .before .before .before .before .before .loop .inv .1) (c .before .before .before .before .number-shown .ensures) (c .before .before .put-number .ensures))
+loop-again c = (omega arith, one-number-more _ (numbersShown (timingIn (c .before .before .before .before .before .before .before .before .before .before .args .m .now)) (stateIn (c .before .before .before .before .before .before .before .before .before .before .args .s .now))) _ _ (c .before .before .before .before .before .before .loop .inv .1) (c .before .before .before .before .number-shown .ensures) (c .before .before .put-word .ensures))
 
 same-length : tie.Need-same-length Inv-loop μ-loop
 same-length c = same-size (c .before .before .before .before .before .args .lent .now) (numbersShown (timingIn (c .before .before .before .before .before .args .m .now)) (stateIn (c .before .before .before .before .before .args .s .now))) _ (c .before .loop .inv .1)
@@ -53,7 +53,7 @@ put-shown-spec =
     loop-holds
     cast-number-shown
     number-shown-requires
-    put-number-requires
+    put-word-requires
     add-j
     loop-less
     loop-again

@@ -1,6 +1,7 @@
 use Rattle.numbers.specs.declared.Duration.{Duration}
 use mathlib.Core.Path.{ap}
-use Rattle.futonkestrel_models.specs.Laws.{read-new, model-unread, model-run}
+use Rattle.model_reader.specs.Laws.{read-new}
+use Rattle.futonkestrel_models.specs.Laws.{model-unread, model-run}
 use borrow.Author.Tests.{not-true, not-false}
 use borrow.Author.Needs.{needs}
 use Rattle.futonkestrel_models.proofs.run_model.Statement.{statement}
@@ -22,7 +23,7 @@ same-length : tie.Need-same-length
 same-length c = search needs
 
 returns : tie.Need-returns
-returns c = model-unread _ _ (read-new _ (c .before .before .before .before .before .before .before .read-model-into .ensures)) (c .before .before .before .before .before .is-none .ensures) (not-true _ (c .before .before .before .before .if1 .taken)) (c .before .before .tell-run .ensures)
+returns c = model-unread _ _ (read-new (c .before .before .before .before .before .before .before .read-model-into .ensures)) (c .before .before .before .before .before .is-none .ensures) (not-true _ (c .before .before .before .before .if1 .taken)) (c .before .before .tell-run .ensures)
 
 slice-aggregate-run-in : tie.Need-slice-aggregate-run-in
 slice-aggregate-run-in c = search needs
@@ -46,7 +47,7 @@ same-length-2 : tie.Need-same-length-2
 same-length-2 c = search needs
 
 returns-2 : tie.Need-returns-2
-returns-2 c = model-run _ _ (read-new _ (c .before .before .before .before .before .before .before .before .before .before .before .before .before .before .read-model-into .ensures)) (c .before .before .before .before .before .before .before .before .before .before .before .before .is-none .ensures) (not-false _ (c .before .before .before .before .before .before .before .before .before .before .before .if1 .left)) (c .before .before .before .before .before .before .before .before .run-in .ensures) (ap (λ (d : Duration). d .0) (c .before .before .before .before .now-of .ensures)) (c .before .before .tell-run2 .ensures)
+returns-2 c = model-run _ _ (read-new (c .before .before .before .before .before .before .before .before .before .before .before .before .before .before .read-model-into .ensures)) (c .before .before .before .before .before .before .before .before .before .before .before .before .is-none .ensures) (not-false _ (c .before .before .before .before .before .before .before .before .before .before .before .if1 .left)) (c .before .before .before .before .before .before .before .before .run-in .ensures) (ap (λ (d : Duration). d .0) (c .before .before .before .before .now-of .ensures)) (c .before .before .tell-run2 .ensures)
 
 pub run-model-spec : {M : Type 1} → statement M
 run-model-spec =

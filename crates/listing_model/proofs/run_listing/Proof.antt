@@ -11,7 +11,8 @@ use Rattle.model_semantics.specs.Machine.{startState, machineOf, runModel}
 use Rattle.model_state.specs.Words.{stateIn, stateWords}
 use Rattle.model_words.specs.Words.{timingIn, modelIn}
 use Rattle.listing.specs.Listing.{listing}
-use Rattle.listing_writer.specs.Runs.{Running, next-listed, run-begin, run-on, run-refused, run-end}
+use Rattle.records.specs.Walk.{next-listed}
+use Rattle.listing_writer.specs.Runs.{Running, run-begin, run-on, run-refused, run-end}
 use borrow.Author.Needs.{needs}
 use Rattle.listing_model.proofs.run_listing.Statement.{statement}
 use Rattle.listing_model.proofs.run_listing.Tie as tie

@@ -1,5 +1,6 @@
 use borrow.Author.Needs.{needs}
-use Rattle.listing_model.specs.Steps.{read-whole, steps-run, steps-refused}
+use Rattle.model_reader.specs.Laws.{whole-read}
+use Rattle.listing_model.specs.Steps.{steps-run, steps-refused}
 use Rattle.listing_model.proofs.steps_listing.Statement.{statement}
 use Rattle.listing_model.proofs.steps_listing.Tie as tie
 
@@ -22,7 +23,7 @@ same-length : tie.Need-same-length
 same-length c = search needs
 
 returns : tie.Need-returns
-returns c = steps-run (c .before .before .before .before .before .before .before .before .before .before .before .before .before .args .model .now) (c .before .before .before .before .before .before .before .before .before .before .before .before .before .args .script .now) _ _ (read-whole (search needs) (c .before .before .before .before .before .before .before .before .read-model-into .ensures)) (c .before .before .before .before .before .before .is-none .ensures) (c .before .before .before .before .before .if1 .taken) (c .before .before .run-listing .ensures)
+returns c = steps-run (c .before .before .before .before .before .before .before .before .before .before .before .before .before .args .model .now) (c .before .before .before .before .before .before .before .before .before .before .before .before .before .args .script .now) _ _ (whole-read (search needs) (c .before .before .before .before .before .before .before .before .read-model-into .ensures)) (c .before .before .before .before .before .before .is-none .ensures) (c .before .before .before .before .before .if1 .taken) (c .before .before .run-listing .ensures)
 
 put-end-requires : tie.Need-put-end-requires
 put-end-requires c κs = search needs
@@ -31,7 +32,7 @@ same-length-2 : tie.Need-same-length-2
 same-length-2 c = search needs
 
 returns-2 : tie.Need-returns-2
-returns-2 c = steps-refused (c .before .before .before .before .before .before .before .before .before .before .before .before .args .model .now) (c .before .before .before .before .before .before .before .before .before .before .before .before .args .script .now) _ _ (read-whole (search needs) (c .before .before .before .before .before .before .before .read-model-into .ensures)) (c .before .before .before .before .before .is-none .ensures) (c .before .before .before .before .if1 .left) (c .before .before .put-end .ensures)
+returns-2 c = steps-refused (c .before .before .before .before .before .before .before .before .before .before .before .before .args .model .now) (c .before .before .before .before .before .before .before .before .before .before .before .before .args .script .now) _ _ (whole-read (search needs) (c .before .before .before .before .before .before .before .read-model-into .ensures)) (c .before .before .before .before .before .is-none .ensures) (c .before .before .before .before .if1 .left) (c .before .before .put-end .ensures)
 
 pub steps-listing-spec : {M : Type 1} → statement M
 steps-listing-spec =

@@ -11,7 +11,8 @@ use Rattle.table_index.specs.Index.{rulesBy}
 use Rattle.table_index.specs.IndexLaws.{rules-by-made, step-by-index}
 use Rattle.table_semantics.specs.MachineLaws.{answer-of, state-of, refused-same}
 use Rattle.listing.specs.Listing.{listing}
-use Rattle.listing_writer.specs.Runs.{Running, next-listed, run-begin, run-on, run-refused, run-end}
+use Rattle.records.specs.Walk.{next-listed}
+use Rattle.listing_writer.specs.Runs.{Running, run-begin, run-on, run-refused, run-end}
 use borrow.Author.Needs.{needs}
 use Rattle.listing_table.proofs.run_listing.Statement.{statement}
 use Rattle.listing_table.proofs.run_listing.Tie as tie

@@ -1,7 +1,11 @@
+use Rattle.model_format.specs.Format as format
 use Rattle.model_format.specs.Reading as reading
 use borrow.Author.Needs.{needs}
 use Rattle.model_causes.proofs.cause_of_assignment.Statement.{statement}
 use Rattle.model_causes.proofs.cause_of_assignment.Tie as tie
+
+in-order-requires : tie.Need-in-order-requires
+in-order-requires c κs = search needs
 
 last-transition-requires : tie.Need-last-transition-requires
 last-transition-requires c κs = search needs
@@ -31,13 +35,14 @@ assignment-cause-requires : tie.Need-assignment-cause-requires
 assignment-cause-requires c κs = search needs
 
 returns : tie.Need-returns
-unfolding reading.namesItem reading.isAssigned
-returns c = rw (c .assignment-cause .ensures, c .before .stand-of .ensures, c .before .before .is-assigned .ensures, c .before .before .before .operand-owned2 .ensures, c .before .before .before .before .operand-owned .ensures, c .before .before .before .before .before .is-owned-by .ensures, c .before .before .before .before .before .before .usize-of-u16 .ensures .0, c .before .before .before .before .before .before .before .transition-at .ensures, c .before .before .before .before .before .before .before .before .last-transition .ensures)
+unfolding reading.causeOf reading.namesItem reading.isAssigned format.rankOf
+returns c = rw (c .assignment-cause .ensures, c .before .stand-of .ensures, c .before .before .is-assigned .ensures, c .before .before .before .operand-owned2 .ensures, c .before .before .before .before .operand-owned .ensures, c .before .before .before .before .before .is-owned-by .ensures, c .before .before .before .before .before .before .usize-of-u16 .ensures .0, c .before .before .before .before .before .before .before .transition-at .ensures, c .before .before .before .before .before .before .before .before .last-transition .ensures, c .before .before .before .before .before .before .before .before .before .in-order .ensures)
 
 pub cause-of-assignment-spec : {M : Type 1} → statement M
 cause-of-assignment-spec =
     tie.close
     (tie.spec
+    in-order-requires
     last-transition-requires
     transition-at-requires
     usize-of-u16-requires

@@ -1,7 +1,11 @@
+use Rattle.model_format.specs.Format as format
 use Rattle.model_format.specs.Reading as reading
 use borrow.Author.Needs.{needs}
 use Rattle.model_causes.proofs.cause_of_atom.Statement.{statement}
 use Rattle.model_causes.proofs.cause_of_atom.Tie as tie
+
+in-order-requires : tie.Need-in-order-requires
+in-order-requires c κs = search needs
 
 last-transition-requires : tie.Need-last-transition-requires
 last-transition-requires c κs = search needs
@@ -25,13 +29,14 @@ atom-cause-requires : tie.Need-atom-cause-requires
 atom-cause-requires c κs = search needs
 
 returns : tie.Need-returns
-unfolding reading.namesItem
-returns c = rw (c .atom-cause .ensures, c .before .stand-of .ensures, c .before .before .operand-owned .ensures, c .before .before .before .is-owned-by .ensures, c .before .before .before .before .usize-of-u16 .ensures .0, c .before .before .before .before .before .transition-at .ensures, c .before .before .before .before .before .before .last-transition .ensures)
+unfolding reading.causeOf reading.namesItem format.rankOf
+returns c = rw (c .atom-cause .ensures, c .before .stand-of .ensures, c .before .before .operand-owned .ensures, c .before .before .before .is-owned-by .ensures, c .before .before .before .before .usize-of-u16 .ensures .0, c .before .before .before .before .before .transition-at .ensures, c .before .before .before .before .before .before .last-transition .ensures, c .before .before .before .before .before .before .before .in-order .ensures)
 
 pub cause-of-atom-spec : {M : Type 1} → statement M
 cause-of-atom-spec =
     tie.close
     (tie.spec
+    in-order-requires
     last-transition-requires
     transition-at-requires
     usize-of-u16-requires

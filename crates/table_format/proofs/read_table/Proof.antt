@@ -18,11 +18,11 @@ Inv-loop s c₀ at₀ c at = (at ≤ length s) × (readFrom c at (parts notation
 abbrev μ-loop : tie.MeasureT-loop
 μ-loop s c₀ at₀ c at = length s - at
 
-refusal-requires : tie.Need-refusal-requires Inv-loop μ-loop
-refusal-requires c κs = search needs
+in-model-requires : tie.Need-in-model-requires Inv-loop μ-loop
+in-model-requires c κs = search needs
 
 returns : tie.Need-returns Inv-loop μ-loop
-returns c = c .refusal .ensures ∙ table-long (c .before .before .before .args .s .now) (c .before .if1 .taken)
+returns c = c .in-model .ensures ∙ table-long (c .before .before .before .args .s .now) (c .before .if1 .taken)
 
 placed-requires : tie.Need-placed-requires Inv-loop μ-loop
 placed-requires c κs = search needs
@@ -58,12 +58,12 @@ cause-of-requires c κs = search needs
 is-none-requires : tie.Need-is-none-requires Inv-loop μ-loop
 is-none-requires c κs = search needs
 
-refusal-requires-2 : tie.Need-refusal-requires-2 Inv-loop μ-loop
-refusal-requires-2 c κs = search needs
+in-model-requires-2 : tie.Need-in-model-requires-2 Inv-loop μ-loop
+in-model-requires-2 c κs = search needs
 
 returns-2 : tie.Need-returns-2 Inv-loop μ-loop
 returns-2 c =
-    c .refusal2 .ensures ∙
+    c .in-model2 .ensures ∙
     read-refused (c .before .before .before .before .before .before .before .before .before .before .before .before .args .s .now) _ _ _ (c .before .before .before .before .before .before .before .loop-test .taken) (c .before .before .before .before .before .before .part-length-at .ensures) (c .before .before .before .before .record-of .ensures)
     (c .before .before .before .before .before .before .before .before .loop .c) _ (c .before .before .before .cause-of .ensures) (sym (c .before .before .is-none .ensures) ∙ not-true _ (c .before .if2 .taken)) ∙
     c .before .before .before .before .before .before .before .before .loop .inv .1
@@ -86,11 +86,11 @@ loop-again c =
           c .before .before .before .before .before .before .before .before .loop .inv .1),
     )
 
-refusal-requires-3 : tie.Need-refusal-requires-3 Inv-loop μ-loop
-refusal-requires-3 c κs = search needs
+no-refusal-requires : tie.Need-no-refusal-requires Inv-loop μ-loop
+no-refusal-requires c κs = search needs
 
 returns-3 : tie.Need-returns-3 Inv-loop μ-loop
-returns-3 c = c .refusal3 .ensures ∙ read-end (c .before .before .before .before .before .before .args .s .now) _ _ (c .before .loop-test .left) ∙ c .before .before .loop .inv .1
+returns-3 c = c .no-refusal .ensures ∙ read-end (c .before .before .before .before .before .before .args .s .now) _ _ (c .before .loop-test .left) ∙ c .before .before .loop .inv .1
 
 pub read-table-spec : {M : Type 1} → statement M
 read-table-spec =
@@ -98,7 +98,7 @@ read-table-spec =
     (tie.spec
     Inv-loop
     μ-loop
-    refusal-requires
+    in-model-requires
     returns
     placed-requires
     loop-holds
@@ -110,10 +110,10 @@ read-table-spec =
     record-of-requires
     cause-of-requires
     is-none-requires
-    refusal-requires-2
+    in-model-requires-2
     returns-2
     next-context-requires
     loop-less
     loop-again
-    refusal-requires-3
+    no-refusal-requires
     returns-3)

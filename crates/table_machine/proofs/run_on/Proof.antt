@@ -9,7 +9,7 @@ use Rattle.table_index.specs.IndexLaws.{rules-by-made, step-by-index}
 use Rattle.table_semantics.specs.MachineLaws.{answer-of, state-of}
 use Prim.Native.Nat.{_+_, _-_, _≤_}
 use Rattle.records.specs.Run.{stagesFrom, tallyFrom}
-use Rattle.records.specs.Walk.{next-place, slice-part, tally-end, tally-taken, tally-refused}
+use Rattle.records.specs.Walk.{next-listed, tally-end, listed-taken, listed-passed}
 use Rattle.table_semantics.specs.Machine.{machineOf, tallyTable}
 use Rattle.table_semantics.specs.Runs.{variablesOf}
 use borrow.Author.Needs.{needs}
@@ -38,23 +38,8 @@ loop-holds : tie.Need-loop-holds Inv-loop μ-loop
 unfolding tallyTable
 loop-holds c = (omega arith, omega arith, rules-by-made (c .before .before .before .before .before .before .before .args .table .now) (replicate 2050 0) _ (c .before .before .before .list-rules .ensures .1), rw (c .all-bits .ensures, c .before .start-variables .ensures))
 
-part-length-at-requires : tie.Need-part-length-at-requires Inv-loop μ-loop
-part-length-at-requires c κs = search needs
-
-add-next : tie.Need-add-next Inv-loop μ-loop
-add-next c = let n = next-place notations.Script (c .before .before .before .before .before .before .before .before .before .before .args .script .now) _ _ (c .before .loop-test .taken) (c .part-length-at .ensures) in record { fits = omega arith }
-
-sub-event-of : tie.Need-sub-event-of Inv-loop μ-loop
-sub-event-of c = search needs
-
-part-event-of-start : tie.Need-part-event-of-start Inv-loop μ-loop
-part-event-of-start c = search needs
-
-part-event-of-end : tie.Need-part-event-of-end Inv-loop μ-loop
-part-event-of-end c = let n = next-place notations.Script (c .before .before .before .before .before .before .before .before .before .before .args .script .now) _ _ (c .before .loop-test .taken) (c .part-length-at .ensures) in omega arith
-
-event-of-requires : tie.Need-event-of-requires Inv-loop μ-loop
-event-of-requires c κs = search needs
+event-at-requires : tie.Need-event-at-requires Inv-loop μ-loop
+event-at-requires c κs = search needs
 
 slice-aggregate-step-on : tie.Need-slice-aggregate-step-on Inv-loop μ-loop
 slice-aggregate-step-on c = search needs
@@ -65,23 +50,23 @@ step-on-requires c κs = search needs
 is-none-requires : tie.Need-is-none-requires Inv-loop μ-loop
 is-none-requires c κs = search needs
 
-add-k : tie.Need-add-k Inv-loop μ-loop
-add-k c = let a = c .before .before .before .before .before .before .before .before .before .loop .inv .0 in let b = c .before .before .before .before .before .before .before .before .before .loop .inv .1 in let l = c .before .before .before .before .before .before .before .before .loop-test .taken in let q = c .before .before .before .before .before .before .before .before .before .before .before .before .before .before .before .before .before .good .1 .0 in record { fits = omega arith }
+add-taken : tie.Need-add-taken Inv-loop μ-loop
+add-taken c = let a = c .before .before .before .before .before .before .before .before .loop .inv .0 in let b = c .before .before .before .before .before .before .before .before .loop .inv .1 in let l = c .before .before .before .before .before .before .before .loop-test .taken in let q = c .before .before .before .before .before .before .before .before .before .before .before .before .before .before .before .before .good .1 .0 in record { fits = omega arith }
 
 loop-less : tie.Need-loop-less Inv-loop μ-loop
-loop-less c = let n = next-place notations.Script (c .before .before .before .before .before .before .before .before .before .before .before .before .before .before .before .before .before .args .script .now) _ _ (c .before .before .before .before .before .before .before .before .loop-test .taken) (c .before .before .before .before .before .before .before .part-length-at .ensures) in omega arith
+loop-less c = let n = next-listed (c .before .before .before .before .before .before .before .before .before .before .before .before .before .before .before .before .args .script .now) _ (c .before .before .before .before .before .before .event-at .ensures) (c .before .before .before .before .before .before .before .loop-test .taken) in omega arith
 
 loop-again : tie.Need-loop-again Inv-loop μ-loop
-loop-again c = let n = next-place notations.Script (c .before .before .before .before .before .before .before .before .before .before .before .before .before .before .before .before .before .args .script .now) _ _ (c .before .before .before .before .before .before .before .before .loop-test .taken) (c .before .before .before .before .before .before .before .part-length-at .ensures) in (omega arith, omega arith, c .before .before .before .before .before .before .before .before .before .loop .inv .2, tally-taken (machineOf (tableOf (c .before .before .before .before .before .before .before .before .before .before .before .before .before .before .before .before .before .args .table .now) .rules)) (c .before .before .before .before .before .before .before .before .before .before .before .before .before .before .before .before .before .args .script .now) _ (variablesOf (c .before .before .before .before .before .before .before .before .before .loop .bits)) _ _ (c .before .before .before .before .before .before .before .before .loop-test .taken) (c .before .before .before .before .before .before .before .part-length-at .ensures) (rw slice-part at (c .before .before .before .before .before .event-of .ensures)) _ _ _ _ (answer-of _ _ _ _ _ (c .before .before .step-on .ensures ∙ step-by-index _ _ (c .before .before .before .before .before .before .before .before .before .loop .inv .2) _ _)) (state-of _ _ _ _ _ (c .before .before .step-on .ensures ∙ step-by-index _ _ (c .before .before .before .before .before .before .before .before .before .loop .inv .2) _ _)) (sym (c .before .is-none .ensures) ∙ c .if1 .taken) ∙ c .before .before .before .before .before .before .before .before .before .loop .inv .3)
+loop-again c = let n = next-listed (c .before .before .before .before .before .before .before .before .before .before .before .before .before .before .before .before .args .script .now) _ (c .before .before .before .before .before .before .event-at .ensures) (c .before .before .before .before .before .before .before .loop-test .taken) in let a = c .before .before .before .before .before .before .before .before .loop .inv .0 in (omega arith, n .1, c .before .before .before .before .before .before .before .before .loop .inv .2, listed-taken (c .before .before .before .before .before .before .before .before .before .before .before .before .before .before .before .before .args .script .now) _ (c .before .before .before .before .before .before .event-at .ensures) (machineOf (tableOf (c .before .before .before .before .before .before .before .before .before .before .before .before .before .before .before .before .args .table .now) .rules)) (variablesOf (c .before .before .before .before .before .before .before .before .loop .bits)) (c .before .before .before .before .before .before .before .loop-test .taken) _ _ _ _ (answer-of _ _ _ _ _ (c .before .before .step-on .ensures ∙ step-by-index _ _ (c .before .before .before .before .before .before .before .before .loop .inv .2) _ _)) (state-of _ _ _ _ _ (c .before .before .step-on .ensures ∙ step-by-index _ _ (c .before .before .before .before .before .before .before .before .loop .inv .2) _ _)) (sym (c .before .is-none .ensures) ∙ c .if1 .taken) ∙ c .before .before .before .before .before .before .before .before .loop .inv .3)
 
-add-r : tie.Need-add-r Inv-loop μ-loop
-add-r c = let a = c .before .before .before .before .before .before .before .before .before .loop .inv .0 in let b = c .before .before .before .before .before .before .before .before .before .loop .inv .1 in let l = c .before .before .before .before .before .before .before .before .loop-test .taken in let q = c .before .before .before .before .before .before .before .before .before .before .before .before .before .before .before .before .before .good .1 .0 in record { fits = omega arith }
+add-refused : tie.Need-add-refused Inv-loop μ-loop
+add-refused c = let a = c .before .before .before .before .before .before .before .before .loop .inv .0 in let b = c .before .before .before .before .before .before .before .before .loop .inv .1 in let l = c .before .before .before .before .before .before .before .loop-test .taken in let q = c .before .before .before .before .before .before .before .before .before .before .before .before .before .before .before .before .good .1 .0 in record { fits = omega arith }
 
 loop-less-2 : tie.Need-loop-less-2 Inv-loop μ-loop
-loop-less-2 c = let n = next-place notations.Script (c .before .before .before .before .before .before .before .before .before .before .before .before .before .before .before .before .before .args .script .now) _ _ (c .before .before .before .before .before .before .before .before .loop-test .taken) (c .before .before .before .before .before .before .before .part-length-at .ensures) in omega arith
+loop-less-2 c = let n = next-listed (c .before .before .before .before .before .before .before .before .before .before .before .before .before .before .before .before .args .script .now) _ (c .before .before .before .before .before .before .event-at .ensures) (c .before .before .before .before .before .before .before .loop-test .taken) in omega arith
 
 loop-again-2 : tie.Need-loop-again-2 Inv-loop μ-loop
-loop-again-2 c = let n = next-place notations.Script (c .before .before .before .before .before .before .before .before .before .before .before .before .before .before .before .before .before .args .script .now) _ _ (c .before .before .before .before .before .before .before .before .loop-test .taken) (c .before .before .before .before .before .before .before .part-length-at .ensures) in (omega arith, omega arith, c .before .before .before .before .before .before .before .before .before .loop .inv .2, tally-refused (machineOf (tableOf (c .before .before .before .before .before .before .before .before .before .before .before .before .before .before .before .before .before .args .table .now) .rules)) (c .before .before .before .before .before .before .before .before .before .before .before .before .before .before .before .before .before .args .script .now) _ (variablesOf (c .before .before .before .before .before .before .before .before .before .loop .bits)) _ _ (c .before .before .before .before .before .before .before .before .loop-test .taken) (c .before .before .before .before .before .before .before .part-length-at .ensures) (rw slice-part at (c .before .before .before .before .before .event-of .ensures)) _ _ _ _ (answer-of _ _ _ _ _ (c .before .before .step-on .ensures ∙ step-by-index _ _ (c .before .before .before .before .before .before .before .before .before .loop .inv .2) _ _)) (state-of _ _ _ _ _ (c .before .before .step-on .ensures ∙ step-by-index _ _ (c .before .before .before .before .before .before .before .before .before .loop .inv .2) _ _)) (sym (c .before .is-none .ensures) ∙ c .if1 .left) ∙ c .before .before .before .before .before .before .before .before .before .loop .inv .3)
+loop-again-2 c = let n = next-listed (c .before .before .before .before .before .before .before .before .before .before .before .before .before .before .before .before .args .script .now) _ (c .before .before .before .before .before .before .event-at .ensures) (c .before .before .before .before .before .before .before .loop-test .taken) in let a = c .before .before .before .before .before .before .before .before .loop .inv .0 in (omega arith, n .1, c .before .before .before .before .before .before .before .before .loop .inv .2, listed-passed (c .before .before .before .before .before .before .before .before .before .before .before .before .before .before .before .before .args .script .now) _ (c .before .before .before .before .before .before .event-at .ensures) (machineOf (tableOf (c .before .before .before .before .before .before .before .before .before .before .before .before .before .before .before .before .args .table .now) .rules)) (variablesOf (c .before .before .before .before .before .before .before .before .loop .bits)) (c .before .before .before .before .before .before .before .loop-test .taken) _ _ _ _ (answer-of _ _ _ _ _ (c .before .before .step-on .ensures ∙ step-by-index _ _ (c .before .before .before .before .before .before .before .before .loop .inv .2) _ _)) (state-of _ _ _ _ _ (c .before .before .step-on .ensures ∙ step-by-index _ _ (c .before .before .before .before .before .before .before .before .loop .inv .2) _ _)) (sym (c .before .is-none .ensures) ∙ c .if1 .left) ∙ c .before .before .before .before .before .before .before .before .loop .inv .3)
 
 variables-of-requires : tie.Need-variables-of-requires Inv-loop μ-loop
 variables-of-requires c κs = search needs
@@ -100,19 +85,14 @@ run-on-spec =
     start-variables-requires
     all-bits-requires
     loop-holds
-    part-length-at-requires
-    add-next
-    sub-event-of
-    part-event-of-start
-    part-event-of-end
-    event-of-requires
+    event-at-requires
     slice-aggregate-step-on
     step-on-requires
     is-none-requires
-    add-k
+    add-taken
     loop-less
     loop-again
-    add-r
+    add-refused
     loop-less-2
     loop-again-2
     variables-of-requires

@@ -10,7 +10,7 @@ use Rattle.table_semantics.specs.MachineLaws.{answer-of, state-of, refused-same
 use Prim.Native.Nat.{_-_, _≤_}
 use borrow.Author.Tests.{not-true, not-false}
 use Rattle.records.specs.Run.{runFrom}
-use Rattle.records.specs.Walk.{next-place, slice-part, run-end, run-on, run-refused}
+use Rattle.records.specs.Walk.{next-listed, run-end, listed-on, listed-refused}
 use Rattle.table_semantics.specs.Machine.{machineOf, runTable}
 use Rattle.table_semantics.specs.Runs.{variablesOf}
 use borrow.Author.Needs.{needs}
@@ -39,23 +39,8 @@ loop-holds : tie.Need-loop-holds Inv-loop μ-loop
 unfolding runTable
 loop-holds c = (omega arith, omega arith, rules-by-made (c .before .before .before .before .before .before .before .args .table .now) (replicate 2050 0) _ (c .before .before .before .list-rules .ensures .1), rw (c .all-bits .ensures, c .before .start-variables .ensures))
 
-part-length-at-requires : tie.Need-part-length-at-requires Inv-loop μ-loop
-part-length-at-requires c κs = search needs
-
-add-end : tie.Need-add-end Inv-loop μ-loop
-add-end c = let n = next-place notations.Script (c .before .before .before .before .before .before .before .before .before .before .args .script .now) _ _ (c .before .loop-test .taken) (c .part-length-at .ensures) in record { fits = omega arith }
-
-sub-event-of : tie.Need-sub-event-of Inv-loop μ-loop
-sub-event-of c = search needs
-
-part-event-of-start : tie.Need-part-event-of-start Inv-loop μ-loop
-part-event-of-start c = search needs
-
-part-event-of-end : tie.Need-part-event-of-end Inv-loop μ-loop
-part-event-of-end c = let n = next-place notations.Script (c .before .before .before .before .before .before .before .before .before .before .args .script .now) _ _ (c .before .loop-test .taken) (c .part-length-at .ensures) in omega arith
-
-event-of-requires : tie.Need-event-of-requires Inv-loop μ-loop
-event-of-requires c κs = search needs
+event-at-requires : tie.Need-event-at-requires Inv-loop μ-loop
+event-at-requires c κs = search needs
 
 slice-aggregate-step-on : tie.Need-slice-aggregate-step-on Inv-loop μ-loop
 slice-aggregate-step-on c = search needs
@@ -66,32 +51,32 @@ step-on-requires c κs = search needs
 is-none-requires : tie.Need-is-none-requires Inv-loop μ-loop
 is-none-requires c κs = search needs
 
-variables-of-requires : tie.Need-variables-of-requires Inv-loop μ-loop
-variables-of-requires c κs = search needs
+in-script-requires : tie.Need-in-script-requires Inv-loop μ-loop
+in-script-requires c κs = search needs
 
 ended-requires : tie.Need-ended-requires Inv-loop μ-loop
 ended-requires c κs = search needs
 
 returns : tie.Need-returns Inv-loop μ-loop
-returns c = rw (c .ended .ensures, c .before .variables-of .ensures, refused-same _ _ _ _ _ (c .before .before .before .before .step-on .ensures ∙ step-by-index _ _ (c .before .before .before .before .before .before .before .before .before .before .before .loop .inv .2) _ _) (sym (c .before .before .before .is-none .ensures) ∙ not-true (c .before .before .before .is-none .result) (c .before .before .if1 .taken))) (run-refused (machineOf (tableOf (c .before .before .before .before .before .before .before .before .before .before .before .before .before .before .before .before .before .before .before .args .table .now) .rules)) (c .before .before .before .before .before .before .before .before .before .before .before .before .before .before .before .before .before .before .before .args .script .now) _ (variablesOf (c .before .before .before .before .before .before .before .before .before .before .before .loop .bits)) _ _ (c .before .before .before .before .before .before .before .before .before .before .loop-test .taken) (c .before .before .before .before .before .before .before .before .before .part-length-at .ensures) (rw slice-part at (c .before .before .before .before .before .before .before .event-of .ensures)) _ _ (answer-of _ _ _ _ _ (c .before .before .before .before .step-on .ensures ∙ step-by-index _ _ (c .before .before .before .before .before .before .before .before .before .before .before .loop .inv .2) _ _)) (sym (c .before .before .before .is-none .ensures) ∙ not-true (c .before .before .before .is-none .result) (c .before .before .if1 .taken)) ∙ c .before .before .before .before .before .before .before .before .before .before .before .loop .inv .3)
+returns c = c .ended .ensures ∙ rw (c .before .in-script .ensures, refused-same _ _ _ _ _ (c .before .before .before .before .step-on .ensures ∙ step-by-index _ _ (c .before .before .before .before .before .before .before .before .before .before .loop .inv .2) _ _) (sym (c .before .before .before .is-none .ensures) ∙ not-true (c .before .before .before .is-none .result) (c .before .before .if1 .taken))) (listed-refused (c .before .before .before .before .before .before .before .before .before .before .before .before .before .before .before .before .before .before .args .script .now) _ (c .before .before .before .before .before .before .before .before .event-at .ensures) (machineOf (tableOf (c .before .before .before .before .before .before .before .before .before .before .before .before .before .before .before .before .before .before .args .table .now) .rules)) (variablesOf (c .before .before .before .before .before .before .before .before .before .before .loop .bits)) (c .before .before .before .before .before .before .before .before .before .loop-test .taken) _ _ (answer-of _ _ _ _ _ (c .before .before .before .before .step-on .ensures ∙ step-by-index _ _ (c .before .before .before .before .before .before .before .before .before .before .loop .inv .2) _ _)) (sym (c .before .before .before .is-none .ensures) ∙ not-true (c .before .before .before .is-none .result) (c .before .before .if1 .taken)) ∙ c .before .before .before .before .before .before .before .before .before .before .loop .inv .3)
 
-add-k : tie.Need-add-k Inv-loop μ-loop
-add-k c = let a = c .before .before .before .before .before .before .before .before .before .loop .inv .0 in let b = c .before .before .before .before .before .before .before .before .before .loop .inv .1 in let l = c .before .before .before .before .before .before .before .before .loop-test .taken in let q = c .before .before .before .before .before .before .before .before .before .before .before .before .before .before .before .before .before .good .1 .0 in record { fits = omega arith }
+add-taken : tie.Need-add-taken Inv-loop μ-loop
+add-taken c = let a = c .before .before .before .before .before .before .before .before .loop .inv .0 in let b = c .before .before .before .before .before .before .before .before .loop .inv .1 in let l = c .before .before .before .before .before .before .before .loop-test .taken in let q = c .before .before .before .before .before .before .before .before .before .before .before .before .before .before .before .before .good .1 .0 in record { fits = omega arith }
 
 loop-less : tie.Need-loop-less Inv-loop μ-loop
-loop-less c = let n = next-place notations.Script (c .before .before .before .before .before .before .before .before .before .before .before .before .before .before .before .before .before .args .script .now) _ _ (c .before .before .before .before .before .before .before .before .loop-test .taken) (c .before .before .before .before .before .before .before .part-length-at .ensures) in omega arith
+loop-less c = let n = next-listed (c .before .before .before .before .before .before .before .before .before .before .before .before .before .before .before .before .args .script .now) _ (c .before .before .before .before .before .before .event-at .ensures) (c .before .before .before .before .before .before .before .loop-test .taken) in omega arith
 
 loop-again : tie.Need-loop-again Inv-loop μ-loop
-loop-again c = let n = next-place notations.Script (c .before .before .before .before .before .before .before .before .before .before .before .before .before .before .before .before .before .args .script .now) _ _ (c .before .before .before .before .before .before .before .before .loop-test .taken) (c .before .before .before .before .before .before .before .part-length-at .ensures) in (omega arith, n .1, c .before .before .before .before .before .before .before .before .before .loop .inv .2, run-on (machineOf (tableOf (c .before .before .before .before .before .before .before .before .before .before .before .before .before .before .before .before .before .args .table .now) .rules)) (c .before .before .before .before .before .before .before .before .before .before .before .before .before .before .before .before .before .args .script .now) _ (variablesOf (c .before .before .before .before .before .before .before .before .before .loop .bits)) _ _ (c .before .before .before .before .before .before .before .before .loop-test .taken) (c .before .before .before .before .before .before .before .part-length-at .ensures) (rw slice-part at (c .before .before .before .before .before .event-of .ensures)) _ _ _ (answer-of _ _ _ _ _ (c .before .before .step-on .ensures ∙ step-by-index _ _ (c .before .before .before .before .before .before .before .before .before .loop .inv .2) _ _)) (state-of _ _ _ _ _ (c .before .before .step-on .ensures ∙ step-by-index _ _ (c .before .before .before .before .before .before .before .before .before .loop .inv .2) _ _)) (sym (c .before .is-none .ensures) ∙ not-false _ (c .if1 .left)) ∙ c .before .before .before .before .before .before .before .before .before .loop .inv .3)
+loop-again c = let n = next-listed (c .before .before .before .before .before .before .before .before .before .before .before .before .before .before .before .before .args .script .now) _ (c .before .before .before .before .before .before .event-at .ensures) (c .before .before .before .before .before .before .before .loop-test .taken) in let a = c .before .before .before .before .before .before .before .before .loop .inv .0 in (omega arith, n .1, c .before .before .before .before .before .before .before .before .loop .inv .2, listed-on (c .before .before .before .before .before .before .before .before .before .before .before .before .before .before .before .before .args .script .now) _ (c .before .before .before .before .before .before .event-at .ensures) (machineOf (tableOf (c .before .before .before .before .before .before .before .before .before .before .before .before .before .before .before .before .args .table .now) .rules)) (variablesOf (c .before .before .before .before .before .before .before .before .loop .bits)) (c .before .before .before .before .before .before .before .loop-test .taken) _ _ _ (answer-of _ _ _ _ _ (c .before .before .step-on .ensures ∙ step-by-index _ _ (c .before .before .before .before .before .before .before .before .loop .inv .2) _ _)) (state-of _ _ _ _ _ (c .before .before .step-on .ensures ∙ step-by-index _ _ (c .before .before .before .before .before .before .before .before .loop .inv .2) _ _)) (sym (c .before .is-none .ensures) ∙ not-false _ (c .if1 .left)) ∙ c .before .before .before .before .before .before .before .before .loop .inv .3)
 
-variables-of-requires-2 : tie.Need-variables-of-requires-2 Inv-loop μ-loop
-variables-of-requires-2 c κs = search needs
+no-refusal-requires : tie.Need-no-refusal-requires Inv-loop μ-loop
+no-refusal-requires c κs = search needs
 
 ended-requires-2 : tie.Need-ended-requires-2 Inv-loop μ-loop
 ended-requires-2 c κs = search needs
 
 returns-2 : tie.Need-returns-2 Inv-loop μ-loop
-returns-2 c = rw (c .ended2 .ensures, c .before .variables-of2 .ensures) (run-end (machineOf (tableOf (c .before .before .before .before .before .before .before .before .before .before .before .args .table .now) .rules)) (c .before .before .before .before .before .before .before .before .before .before .before .args .script .now) _ (variablesOf (c .before .before .before .loop .bits)) _ (c .before .before .loop-test .left) ∙ c .before .before .before .loop .inv .3)
+returns-2 c = c .ended2 .ensures ∙ rw (c .before .no-refusal .ensures) (run-end (machineOf (tableOf (c .before .before .before .before .before .before .before .before .before .before .before .args .table .now) .rules)) (c .before .before .before .before .before .before .before .before .before .before .before .args .script .now) _ (variablesOf (c .before .before .before .loop .bits)) _ (c .before .before .loop-test .left) ∙ c .before .before .before .loop .inv .3)
 
 pub run-table-spec : {M : Type 1} → statement M
 run-table-spec =
@@ -104,21 +89,16 @@ run-table-spec =
     start-variables-requires
     all-bits-requires
     loop-holds
-    part-length-at-requires
-    add-end
-    sub-event-of
-    part-event-of-start
-    part-event-of-end
-    event-of-requires
+    event-at-requires
     slice-aggregate-step-on
     step-on-requires
     is-none-requires
-    variables-of-requires
+    in-script-requires
     ended-requires
     returns
-    add-k
+    add-taken
     loop-less
     loop-again
-    variables-of-requires-2
+    no-refusal-requires
     ended-requires-2
     returns-2)

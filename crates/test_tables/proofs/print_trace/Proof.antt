@@ -11,19 +11,25 @@ use Rattle.test_tables.proofs.print_trace.Statement.{statement}
 use Rattle.test_tables.proofs.print_trace.Tie as tie
 
 abbrev Inv-loop : tie.InvT-loop
-Inv-loop table script variables₀ at₀ variables at = at ≤ length script
+Inv-loop table script none bits₀ at₀ bits at = at ≤ length script
 
 abbrev μ-loop : tie.MeasureT-loop
-μ-loop table script variables₀ at₀ variables at = length script - at
+μ-loop table script none bits₀ at₀ bits at = length script - at
 
 start-variables-requires : tie.Need-start-variables-requires Inv-loop μ-loop
 start-variables-requires c κs = search needs
+
+all-bits-requires : tie.Need-all-bits-requires Inv-loop μ-loop
+all-bits-requires c κs = search needs
 
 slice-aggregate-print : tie.Need-slice-aggregate-print Inv-loop μ-loop
 slice-aggregate-print c = search needs
 
 print-requires : tie.Need-print-requires Inv-loop μ-loop
 print-requires c κs = search needs
+
+variables-of-requires : tie.Need-variables-of-requires Inv-loop μ-loop
+variables-of-requires c κs = search needs
 
 print-variables-requires : tie.Need-print-variables-requires Inv-loop μ-loop
 print-variables-requires c κs = search needs
@@ -34,11 +40,17 @@ loop-holds c = search needs
 event-at-requires : tie.Need-event-at-requires Inv-loop μ-loop
 event-at-requires c κs = search needs
 
-step-requires : tie.Need-step-requires Inv-loop μ-loop
-step-requires c κs = search needs
+slice-aggregate-step-on : tie.Need-slice-aggregate-step-on Inv-loop μ-loop
+slice-aggregate-step-on c = search needs
+
+step-on-requires : tie.Need-step-on-requires Inv-loop μ-loop
+step-on-requires c κs = search needs
 
 print-answer-requires : tie.Need-print-answer-requires Inv-loop μ-loop
 print-answer-requires c κs = search needs
+
+variables-of-requires-2 : tie.Need-variables-of-requires-2 Inv-loop μ-loop
+variables-of-requires-2 c κs = search needs
 
 print-variables-requires-2 : tie.Need-print-variables-requires-2 Inv-loop μ-loop
 print-variables-requires-2 c κs = search needs
@@ -46,15 +58,15 @@ print-variables-requires-2 c κs = search needs
 loop-less : tie.Need-loop-less Inv-loop μ-loop
 unfolding listedAt
 loop-less c =
-    let n = next-place Script (c .before .before .before .before .before .before .before .before .before .before .before .before .before .before .args .script .now) (c .before .before .before .before .before .before .before .loop .at) _ (c .before .before .before .before .before .before .loop-test .taken) refl in
-    let e = ap (λ (l : Listed). l .end) (c .before .before .before .before .before .event-at .ensures) in
+    let n = next-place Script (c .before .before .before .before .before .before .before .before .before .before .before .before .before .before .before .before .before .before .args .script .now) (c .before .before .before .before .before .before .before .before .before .loop .at) _ (c .before .before .before .before .before .before .before .before .loop-test .taken) refl in
+    let e = ap (λ (l : Listed). l .end) (c .before .before .before .before .before .before .before .event-at .ensures) in
     omega arith
 
 loop-again : tie.Need-loop-again Inv-loop μ-loop
 unfolding listedAt
 loop-again c =
-    let n = next-place Script (c .before .before .before .before .before .before .before .before .before .before .before .before .before .before .args .script .now) (c .before .before .before .before .before .before .before .loop .at) _ (c .before .before .before .before .before .before .loop-test .taken) refl in
-    let e = ap (λ (l : Listed). l .end) (c .before .before .before .before .before .event-at .ensures) in
+    let n = next-place Script (c .before .before .before .before .before .before .before .before .before .before .before .before .before .before .before .before .before .before .args .script .now) (c .before .before .before .before .before .before .before .before .before .loop .at) _ (c .before .before .before .before .before .before .before .before .loop-test .taken) refl in
+    let e = ap (λ (l : Listed). l .end) (c .before .before .before .before .before .before .before .event-at .ensures) in
     omega arith
 
 returns : tie.Need-returns Inv-loop μ-loop
@@ -67,13 +79,17 @@ print-trace-spec =
     Inv-loop
     μ-loop
     start-variables-requires
+    all-bits-requires
     slice-aggregate-print
     print-requires
+    variables-of-requires
     print-variables-requires
     loop-holds
     event-at-requires
-    step-requires
+    slice-aggregate-step-on
+    step-on-requires
     print-answer-requires
+    variables-of-requires-2
     print-variables-requires-2
     loop-less
     loop-again

@@ -1,5 +1,5 @@
 use Rattle.translation.specs.Rules.{missRules}
-use Rattle.translate_threads.specs.Laws.{wrote-bodies}
+use Rattle.translate_threads.specs.Bodies.{wrote-bodies}
 use borrow.Author.Needs.{needs}
 use Rattle.translate_threads.proofs.put_miss.Statement.{statement}
 use Rattle.translate_threads.proofs.put_miss.Tie as tie

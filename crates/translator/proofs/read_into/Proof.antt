@@ -1,4 +1,4 @@
-use Rattle.translator.specs.Tables.{read-whole}
+use Rattle.model_reader.specs.Laws.{whole-read}
 use borrow.Author.Needs.{needs}
 use Rattle.translator.proofs.read_into.Statement.{statement}
 use Rattle.translator.proofs.read_into.Tie as tie
@@ -10,7 +10,7 @@ same-length : tie.Need-same-length
 same-length c = search needs
 
 returns : tie.Need-returns
-returns c = read-whole _ _ _ _ (c .before .before .read-model-into .ensures) (search needs)
+returns c = whole-read (search needs) (c .before .before .read-model-into .ensures)
 
 pub read-into-spec : {M : Type 1} → statement M
 read-into-spec =

@@ -22,14 +22,14 @@ slice-aggregate-put-table c = search needs
 put-table-requires : tie.Need-put-table-requires
 put-table-requires c κs = model-good (c .before .before .before .before .before .before .before .before .before .before .args .model .now) (c .before .before .before .before .before .before .before .before .before .before .args .output .now) _ _ (c .before .before .before .before .before .before .read-into .ensures) (c .before .before .before .before .is-none .ensures) (bytes-known (c .before .before .before .before .before .before .before .before .before .before .args .model .now) (c .before .before .before .before .before .before .before .before .before .shared-slice-known .given)) (not-false _ (c .before .before .before .if1 .left))
 
-refused-requires : tie.Need-refused-requires
-refused-requires c κs = search needs
+no-refusal-requires : tie.Need-no-refusal-requires
+no-refusal-requires c κs = search needs
 
 same-length : tie.Need-same-length
 same-length c = search needs
 
 returns-2 : tie.Need-returns-2
-returns-2 c = rw (c .refused .ensures) (table-made-at-once (c .before .before .before .before .before .before .before .before .before .before .before .before .before .before .args .model .now) (c .before .before .before .before .before .before .before .before .before .before .before .before .before .before .args .output .now) _ _ (c .before .before .before .before .before .before .before .before .before .before .read-into .ensures) (c .before .before .before .before .before .before .before .before .is-none .ensures) (bytes-known (c .before .before .before .before .before .before .before .before .before .before .before .before .before .before .args .model .now) (c .before .before .before .before .before .before .before .before .before .before .before .before .before .shared-slice-known .given)) (not-false _ (c .before .before .before .before .before .before .before .if1 .left)) (c .before .before .before .before .before .before .if2 .taken) _ _ (c .before .before .before .put-table .ensures))
+returns-2 c = rw (c .no-refusal .ensures) (table-made-at-once (c .before .before .before .before .before .before .before .before .before .before .before .before .before .before .args .model .now) (c .before .before .before .before .before .before .before .before .before .before .before .before .before .before .args .output .now) _ _ (c .before .before .before .before .before .before .before .before .before .before .read-into .ensures) (c .before .before .before .before .before .before .before .before .is-none .ensures) (bytes-known (c .before .before .before .before .before .before .before .before .before .before .before .before .before .before .args .model .now) (c .before .before .before .before .before .before .before .before .before .before .before .before .before .shared-slice-known .given)) (not-false _ (c .before .before .before .before .before .before .before .if1 .left)) (c .before .before .before .before .before .before .if2 .taken) _ _ (c .before .before .before .put-table .ensures))
 
 slice-aggregate-table-length : tie.Need-slice-aggregate-table-length
 slice-aggregate-table-length c = search needs
@@ -37,11 +37,11 @@ slice-aggregate-table-length c = search needs
 table-length-requires : tie.Need-table-length-requires
 table-length-requires c κs = model-good (c .before .before .before .before .before .before .before .before .before .args .model .now) (c .before .before .before .before .before .before .before .before .before .args .output .now) _ _ (c .before .before .before .before .before .read-into .ensures) (c .before .before .before .is-none .ensures) (bytes-known (c .before .before .before .before .before .before .before .before .before .args .model .now) (c .before .before .before .before .before .before .before .before .shared-slice-known .given)) (not-false _ (c .before .before .if1 .left))
 
-refused-requires-2 : tie.Need-refused-requires-2
-refused-requires-2 c κs = search needs
+in-model-requires : tie.Need-in-model-requires
+in-model-requires c κs = search needs
 
 returns-3 : tie.Need-returns-3
-returns-3 c = rw (c .refused2 .ensures) (output-short (c .before .before .before .before .before .before .before .before .before .before .before .before .args .model .now) (c .before .before .before .before .before .before .before .before .before .before .before .before .args .output .now) _ _ (c .before .before .before .before .before .before .before .before .read-into .ensures) (c .before .before .before .before .before .before .is-none .ensures) (not-false _ (c .before .before .before .before .before .if1 .left)) _ (c .before .before .table-length .ensures) (c .before .if3 .taken))
+returns-3 c = rw (c .in-model .ensures) (output-short (c .before .before .before .before .before .before .before .before .before .before .before .before .args .model .now) (c .before .before .before .before .before .before .before .before .before .before .before .before .args .output .now) _ _ (c .before .before .before .before .before .before .before .before .read-into .ensures) (c .before .before .before .before .before .before .is-none .ensures) (not-false _ (c .before .before .before .before .before .if1 .left)) _ (c .before .before .table-length .ensures) (c .before .if3 .taken))
 
 slice-aggregate-put-table-2 : tie.Need-slice-aggregate-put-table-2
 slice-aggregate-put-table-2 c = search needs
@@ -49,14 +49,14 @@ slice-aggregate-put-table-2 c = search needs
 put-table-requires-2 : tie.Need-put-table-requires-2
 put-table-requires-2 c κs = model-good (c .before .before .before .before .before .before .before .before .before .before .before .before .before .args .model .now) (c .before .before .before .before .before .before .before .before .before .before .before .before .before .args .output .now) _ _ (c .before .before .before .before .before .before .before .before .before .read-into .ensures) (c .before .before .before .before .before .before .before .is-none .ensures) (bytes-known (c .before .before .before .before .before .before .before .before .before .before .before .before .before .args .model .now) (c .before .before .before .before .before .before .before .before .before .before .before .before .shared-slice-known .given)) (not-false _ (c .before .before .before .before .before .before .if1 .left))
 
-refused-requires-3 : tie.Need-refused-requires-3
-refused-requires-3 c κs = search needs
+no-refusal-requires-2 : tie.Need-no-refusal-requires-2
+no-refusal-requires-2 c κs = search needs
 
 same-length-2 : tie.Need-same-length-2
 same-length-2 c = search needs
 
 returns-4 : tie.Need-returns-4
-returns-4 c = rw (c .refused3 .ensures) (table-made (c .before .before .before .before .before .before .before .before .before .before .before .before .before .before .before .before .before .args .model .now) (c .before .before .before .before .before .before .before .before .before .before .before .before .before .before .before .before .before .args .output .now) _ _ (c .before .before .before .before .before .before .before .before .before .before .before .before .before .read-into .ensures) (c .before .before .before .before .before .before .before .before .before .before .before .is-none .ensures) (bytes-known (c .before .before .before .before .before .before .before .before .before .before .before .before .before .before .before .before .before .args .model .now) (c .before .before .before .before .before .before .before .before .before .before .before .before .before .before .before .before .shared-slice-known .given)) (not-false _ (c .before .before .before .before .before .before .before .before .before .before .if1 .left)) _ (c .before .before .before .before .before .before .before .table-length .ensures) (c .before .before .before .before .before .before .if3 .left) _ _ (c .before .before .before .put-table2 .ensures))
+returns-4 c = rw (c .no-refusal2 .ensures) (table-made (c .before .before .before .before .before .before .before .before .before .before .before .before .before .before .before .before .before .args .model .now) (c .before .before .before .before .before .before .before .before .before .before .before .before .before .before .before .before .before .args .output .now) _ _ (c .before .before .before .before .before .before .before .before .before .before .before .before .before .read-into .ensures) (c .before .before .before .before .before .before .before .before .before .before .before .is-none .ensures) (bytes-known (c .before .before .before .before .before .before .before .before .before .before .before .before .before .before .before .before .before .args .model .now) (c .before .before .before .before .before .before .before .before .before .before .before .before .before .before .before .before .shared-slice-known .given)) (not-false _ (c .before .before .before .before .before .before .before .before .before .before .if1 .left)) _ (c .before .before .before .before .before .before .before .table-length .ensures) (c .before .before .before .before .before .before .if3 .left) _ _ (c .before .before .before .put-table2 .ensures))
 
 pub translate-spec : {M : Type 1} → statement M
 translate-spec =
@@ -68,15 +68,15 @@ translate-spec =
     returns
     slice-aggregate-put-table
     put-table-requires
-    refused-requires
+    no-refusal-requires
     same-length
     returns-2
     slice-aggregate-table-length
     table-length-requires
-    refused-requires-2
+    in-model-requires
     returns-3
     slice-aggregate-put-table-2
     put-table-requires-2
-    refused-requires-3
+    no-refusal-requires-2
     same-length-2
     returns-4)

@@ -106,17 +106,8 @@ pub fn write(file: &OsStr, bytes: &[u8], inputs: &[&Input]) -> Result<(), Failur
         return print(bytes).map(|_| ());
     }
     let fail = |error| failure(&file.to_string_lossy(), &error);
-    let path = followed(Path::new(file)).map_err(fail)?;
+    let path = place_of(file, inputs)?;
     let about = fs::metadata(&path);
-    let itself = about.as_ref().ok().filter(|about| about.is_file());
-    let itself = itself.map(identity);
-    let over = |input: &&&Input| itself.is_some() && input.identity == itself;
-    if let Some(input) = inputs.iter().find(over) {
-        let (out, read) = (file.to_string_lossy(), &input.name);
-        return Err(Failure::Usage(format!(
-            "{out} is the input {read}; write to another file"
-        )));
-    }
     match about {
         Ok(about) if is_standard_output(&about) => print(bytes).map(|_| ()),
         Ok(about) if about.is_file() => replace(&path, bytes, Some(&about)).map_err(fail),
@@ -125,6 +116,24 @@ pub fn write(file: &OsStr, bytes: &[u8], inputs: &[&Input]) -> Result<(), Failur
             replace(&path, bytes, None).map_err(fail)
         }
         Err(error) => Err(fail(error)),
+    }
+}
+
+/// Where an output goes; it is never one of `inputs`, and its folder is there.
+pub fn place_of(file: &OsStr, inputs: &[&Input]) -> Result<PathBuf, Failure> {
+    let path = followed(Path::new(file));
+    let path = path.map_err(|error| failure(&file.to_string_lossy(), &error))?;
+    let itself = fs::metadata(&path).ok().filter(Metadata::is_file);
+    let itself = itself.as_ref().map(identity);
+    let over = |input: &&&Input| itself.is_some() && input.identity == itself;
+    match inputs.iter().find(over) {
+        None => Ok(path),
+        Some(input) => {
+            let (out, read) = (file.to_string_lossy(), &input.name);
+            Err(Failure::Usage(format!(
+                "{out} is the input {read}; write to another file"
+            )))
+        }
     }
 }
 

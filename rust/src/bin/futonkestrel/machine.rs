@@ -4,7 +4,7 @@
 
 use std::collections::BTreeMap;
 
-use futonkestrel::{Table, Variables};
+use futonkestrel::{Offer, Table, Variables};
 
 use crate::format::{Item, MULTIPLE, NO_MULTIPLE, REQUEST, SCRIPT, START, TICK};
 use crate::names::Names;
@@ -14,7 +14,7 @@ use crate::text;
 use crate::variables;
 
 /// The most ticks that one event has.
-const MOST_TICKS: u16 = u16::MAX;
+pub const MOST_TICKS: u16 = u16::MAX;
 /// How many such events are tried to find what comes next: longer than any period.
 const TRIES: usize = 16;
 /// So many events are told by name, and only the number of further ones.
@@ -32,10 +32,10 @@ impl<'a> Machine<'a> {
     /// The table at its start.
     pub fn new(table: Table<'a>, of_model: bool) -> Machine<'a> {
         Machine {
-            table,
             of_model,
             rules: rules(table.bytes()),
             variables: table.start(),
+            table,
         }
     }
 
@@ -49,11 +49,6 @@ impl<'a> Machine<'a> {
 
     fn clock(&self) -> i32 {
         self.variables[0]
-    }
-
-    /// Whether the event would be taken.
-    fn takes(&self, variables: &Variables, event: &[u8]) -> bool {
-        self.table.step(&mut variables.clone(), event).is_ok()
     }
 
     /// The events whose rules hold, REQUEST and TICK aside: so many in words, and
@@ -84,7 +79,7 @@ impl<'a> Machine<'a> {
     fn later(&self) -> (Variables, bool) {
         let mut variables = self.variables;
         for _ in 0..TRIES {
-            let most = self.most_ticks(&variables);
+            let most = most_ticks(&self.table, &variables, 1, MOST_TICKS);
             if most > 0 {
                 let _ = self.table.step(&mut variables, &tick(most));
             }
@@ -93,23 +88,6 @@ impl<'a> Machine<'a> {
             }
         }
         (variables, false)
-    }
-
-    /// The most ticks that can pass at once.
-    fn most_ticks(&self, variables: &Variables) -> u16 {
-        let (mut taken, mut refused) = (0, MOST_TICKS);
-        if self.takes(variables, &tick(MOST_TICKS)) {
-            return MOST_TICKS;
-        }
-        while taken + 1 < refused {
-            let middle = taken + (refused - taken) / 2;
-            if self.takes(variables, &tick(middle)) {
-                taken = middle;
-            } else {
-                refused = middle;
-            }
-        }
-        taken
     }
 
     /// What is enabled instead of a refused event, or due later.
@@ -242,14 +220,21 @@ fn atom_holds(&[op, variable, tag, number]: &Atom, variables: &Variables) -> boo
         _ => number,
     };
     match op {
+        MULTIPLE => right != 0 && left % right == 0,
+        NO_MULTIPLE => right != 0 && left % right != 0,
+        _ => compares(op, left, right),
+    }
+}
+
+/// A comparison by its number in an atom.
+pub fn compares(op: i64, left: i64, right: i64) -> bool {
+    match op {
         0 => left == right,
         1 => left != right,
         2 => left < right,
         3 => left >= right,
         4 => left > right,
         5 => left <= right,
-        MULTIPLE => right != 0 && left % right == 0,
-        NO_MULTIPLE => right != 0 && left % right != 0,
         _ => false,
     }
 }
@@ -278,17 +263,54 @@ impl Rule {
     }
 
     fn words(&self, names: &Names) -> String {
-        let event = short_words(self.event, i64::from(self.id), names);
-        match self.event {
-            START if self.low == self.high => format!("{event} for {}", self.low),
-            START => format!("{event} for {} to {}", self.low, self.high),
-            _ => event,
+        offer_words(&self.offer(), names)
+    }
+
+    fn offer(&self) -> Offer {
+        Offer {
+            kind: self.event,
+            id: self.id,
+            low: self.low,
+            high: self.high,
         }
     }
 }
 
-fn tick(ticks: u16) -> Vec<u8> {
-    [&[TICK], &ticks.to_le_bytes()[..]].concat()
+fn tick(ticks: u16) -> [u8; 3] {
+    let [low, high] = ticks.to_le_bytes();
+    [TICK, low, high]
+}
+
+/// The most ticks, up to a bound, that can pass at once. A guess is tried first,
+/// then one tick more: a right one is found out by two steps.
+pub fn most_ticks(table: &Table, variables: &Variables, guess: u16, bound: u16) -> u16 {
+    let passes = |ticks: u16| table.step(&mut variables.clone(), &tick(ticks)).is_ok();
+    let (mut taken, mut tried, mut more) = (0, guess.min(bound), 1_u16);
+    while taken < tried && passes(tried) {
+        taken = tried;
+        tried = tried.saturating_add(more).min(bound);
+        more = more.saturating_mul(2);
+    }
+    let mut refused = tried;
+    while refused - taken > 1 {
+        let middle = taken + (refused - taken) / 2;
+        if passes(middle) {
+            taken = middle;
+        } else {
+            refused = middle;
+        }
+    }
+    taken
+}
+
+/// An event with the lengths that it can have.
+pub fn offer_words(offer: &Offer, names: &Names) -> String {
+    let event = short_words(offer.kind, i64::from(offer.id), names);
+    match offer.kind {
+        START if offer.low == offer.high => format!("{event} for {}", offer.low),
+        START => format!("{event} for {} to {}", offer.low, offer.high),
+        _ => event,
+    }
 }
 
 /// `DISPATCH 0`, or with the item's own name.

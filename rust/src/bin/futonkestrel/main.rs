@@ -8,6 +8,8 @@ use std::process::ExitCode;
 
 mod commands;
 mod explain;
+mod explore;
+mod figures;
 mod files;
 mod format;
 mod machine;

@@ -42,6 +42,14 @@ impl Names {
         found.map(|(_, _, name)| name.as_str())
     }
 
+    /// The item of a sort that has this name.
+    pub fn number(&self, item: Item, name: &str) -> Option<i64> {
+        let mut named = self.names.iter().filter(|(sort, ..)| *sort == item);
+        named
+            .find(|(_, at, own)| own == name && self.of(item, *at) == Some(name))
+            .map(|(_, at, _)| *at)
+    }
+
     /// `sample`, or `thread 0` without a name.
     pub fn or_number(&self, item: Item, number: i64) -> String {
         self.of(item, number)

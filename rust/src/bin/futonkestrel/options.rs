@@ -3,7 +3,8 @@
 use std::ffi::{OsStr, OsString};
 use std::os::unix::ffi::OsStrExt;
 
-use crate::commands::{check, compare, listing, promela, show, table, timeline, trace};
+use crate::commands::{check, compare, explore, listing, promela, show, table, timeline, trace};
+use crate::figures::counted;
 use crate::{files, Failure, Status};
 
 struct Opt {
@@ -71,6 +72,74 @@ on standard error, and the status is then 1.
 
 A file of names has a line for each item, first its sort (thread, mode, input,
 output, local, connection, transition), then its number, then its name.";
+
+const EXPLORE_OPTIONS: &[Opt] = &[
+    opt(
+        "--table",
+        "",
+        "FILE is a table, not a model, and is stepped alone",
+    ),
+    opt("--depth", "N", "lists of N events at most"),
+    opt("--states", "N", "N states at most, 1000000 if not said"),
+    opt("--clock", "N", "let no tick pass clock N"),
+    opt(
+        "--lengths",
+        "ends|all",
+        "START with its shortest and longest length, or with all",
+    ),
+    opt(
+        "--tick",
+        "next|1",
+        "let time pass up to the next instant at which something can happen, or tick by tick",
+    ),
+    opt(
+        "--until",
+        "CONDITION",
+        "stop at the first state where CONDITION holds",
+    ),
+    opt(
+        "--trail",
+        "OUT",
+        "write the list of events that leads there, the shortest of those tried",
+    ),
+    opt(
+        "--fold",
+        "",
+        "take a model's states that differ by a shift of time as one",
+    ),
+    opt(
+        "--beside",
+        "TABLE",
+        "step TABLE beside the model, not the table made from it",
+    ),
+    NAMES,
+];
+
+const EXPLORE_HELP: &str = "\
+Goes from the start through all lists of events, the shorter ones first. States
+are told apart by their variables. A model and its table are stepped side by
+side; where they part, that is told, and the status is 1. Tells how many states
+and steps there were, and for each thread whether a miss was found. What is not
+found within the bound may still be there.
+
+Time passes up to the next instant at which an event is enabled, or would be if a
+REQUEST had come meanwhile. In a model nothing else can happen between, so that
+every state is reached in which an event but REQUEST and TICK is enabled, by the
+lengths tried. A table from elsewhere may have REQUESTs that look at the clock, and
+a condition may ask for an instant: '--tick 1' stops at each.
+
+--fold takes two states of a model as one where they differ by a shift of time by
+the hyperperiod, by instants that are over, or by counts of misses that no
+condition asks for. README says why nothing is overlooked by that.
+
+A condition compares variables: now, mode, phase, pending, enteredat, cpu;
+active(t), state(t), dispatchtime(t), due(t), end(t), behaviour(t), missed(t) of a
+thread; flag(c), input(i), buffer(i), output(o), local(v); variable(n). Signs are
+= != < <= > >=; values are numbers, variables, 'none', the words for a state
+(waiting_dispatch ..) and names; 'and', 'or', 'not' and parentheses join them.
+'none enabled' holds where no event but REQUEST and TICK can be taken, 'stuck'
+where no tick can pass either. A condition that is not found gives status 1, and
+no trail is written.";
 
 const fn opt(word: &'static str, value: &'static str, about: &'static str) -> Opt {
     Opt { word, value, about }
@@ -182,6 +251,15 @@ on standard error, and the status is then 1.",
         run: timeline::timeline,
     },
     Command {
+        name: "explore",
+        operands: "FILE",
+        options: EXPLORE_OPTIONS,
+        about: "try all orders of a model's events, breadth first",
+        help: EXPLORE_HELP,
+        example: "futonkestrel explore --until 'missed(0)>0' --trail miss.bin examples/m/model.bin",
+        run: explore::explore,
+    },
+    Command {
         name: "promela",
         operands: "TABLE OUT.pml",
         options: &[],
@@ -226,6 +304,9 @@ file is accepted, 'check' tells.",
         run: show::pack,
     },
 ];
+
+/// What options do is told from here on, or further to the right.
+const OPTION_WIDTH: usize = 13;
 
 const VERSION: &str = concat!("futonkestrel ", env!("CARGO_PKG_VERSION"), "\n");
 
@@ -314,9 +395,11 @@ impl Command {
         if !self.options.is_empty() {
             text += "\noptions:\n";
         }
+        let words = |option: &Opt| format!("{} {}", option.word, option.value);
+        let widest = self.options.iter().map(|option| words(option).len()).max();
+        let width = widest.unwrap_or(0).max(OPTION_WIDTH);
         for option in self.options {
-            let words = format!("{} {}", option.word, option.value);
-            text += &format!("  {words:13} {}\n", option.about);
+            text += &format!("  {:width$} {}\n", words(option), option.about);
         }
         text + &format!("\nexample:\n  {}\n", self.example)
     }
@@ -394,11 +477,6 @@ impl Command {
             self.usage()
         ))
     }
-}
-
-/// `1 file`, `2 files`.
-fn counted(count: usize, word: &str) -> String {
-    format!("{count} {word}{}", if count == 1 { "" } else { "s" })
 }
 
 /// The first letter large and a full stop.

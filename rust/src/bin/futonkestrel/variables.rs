@@ -120,6 +120,45 @@ pub fn number(name: &str, index: Option<i64>) -> Option<i64> {
     }
 }
 
+/// Variables of one name.
+pub struct Family {
+    pub first: i64,
+    /// One variable for each of so many items, or a single one.
+    pub of: Option<(Item, i64)>,
+}
+
+/// The variables of a name, in small or large letters.
+pub fn family(name: &str) -> Option<Family> {
+    let range = RANGES
+        .iter()
+        .find(|range| range.name.eq_ignore_ascii_case(name))?;
+    Some(Family {
+        first: range.first,
+        of: range.of,
+    })
+}
+
+/// The item whose number a variable holds.
+pub fn item_of_value(variable: i64) -> Option<Item> {
+    match range_of(variable)?.value {
+        Value::Of(item) => Some(item),
+        Value::Number | Value::Code => None,
+    }
+}
+
+/// What a word stands for as a value of a variable.
+pub fn constant_of(variable: i64, word: &str) -> Option<i64> {
+    let value = constant_number(&word.to_ascii_lowercase())?;
+    let named = constant(variable, value);
+    named.eq_ignore_ascii_case(word).then_some(value)
+}
+
+/// Whether a variable holds an instant.
+pub fn is_time(variable: i64) -> bool {
+    let times = ["Now", "EnteredAt", "DispatchTime", "Due", "End"];
+    range_of(variable).is_some_and(|range| times.contains(&range.name))
+}
+
 /// A constant beside a variable, by name where it has one.
 pub fn constant(variable: i64, value: i64) -> String {
     let meaning = range_of(variable).map_or(Value::Number, |range| range.value);

@@ -1,8 +1,10 @@
-use mathlib.Core.Path.{_∙_}
-use Rattle.model_machine.specs.Laws.{deadline-made, deadline-failed}
+use Rattle.model_machine.specs.AnswerLaws.{deadline-made, deadline-failed}
 use borrow.Author.Needs.{needs}
 use Rattle.model_machine.proofs.events.on_deadline.Statement.{statement}
 use Rattle.model_machine.proofs.events.on_deadline.Tie as tie
+
+threads-requires : tie.Need-threads-requires
+threads-requires c κs = search needs
 
 can-meet-deadline-requires : tie.Need-can-meet-deadline-requires
 can-meet-deadline-requires c κs = search needs
@@ -10,25 +12,26 @@ can-meet-deadline-requires c κs = search needs
 meet-deadline-requires : tie.Need-meet-deadline-requires
 meet-deadline-requires c κs = search needs
 
-accepted-requires : tie.Need-accepted-requires
-accepted-requires c κs = search needs
+same-length : tie.Need-same-length
+same-length c = search needs
 
 returns : tie.Need-returns
-returns c = c .accepted .ensures ∙ deadline-made _ _ _ _ (c .before .before .before .can-meet-deadline .ensures) _ (c .before .before .if1 .taken) (c .before .meet-deadline .ensures)
+returns c = deadline-made _ _ _ _ _ _ (c .before .before .before .before .before .before .before .threads .ensures) (c .before .before .before .before .before .can-meet-deadline .ensures) (c .before .before .before .before .if1 .taken) (c .before .before .meet-deadline .ensures)
 
-not-enabled-requires : tie.Need-not-enabled-requires
-not-enabled-requires c κs = search needs
+same-length-2 : tie.Need-same-length-2
+same-length-2 c = search needs
 
 returns-2 : tie.Need-returns-2
-returns-2 c = c .not-enabled .ensures ∙ deadline-failed _ _ _ _ (c .before .before .can-meet-deadline .ensures) (c .before .if1 .left)
+returns-2 c = deadline-failed _ _ _ _ _ (c .before .before .before .threads .ensures) (c .before .can-meet-deadline .ensures) (c .if1 .left)
 
 pub on-deadline-spec : {M : Type 1} → statement M
 on-deadline-spec =
     tie.close
     (tie.spec
+    threads-requires
     can-meet-deadline-requires
     meet-deadline-requires
-    accepted-requires
+    same-length
     returns
-    not-enabled-requires
+    same-length-2
     returns-2)

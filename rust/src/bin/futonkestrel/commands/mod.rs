@@ -9,6 +9,7 @@ use crate::{complain, Status};
 
 pub mod check;
 pub mod compare;
+pub mod explore;
 pub mod listing;
 pub mod promela;
 pub mod show;

@@ -2,8 +2,8 @@
 
 use super::folding::Hidden;
 use super::layout::{clocks_of, Column, Frame, Instant, Row};
-use super::measure::grouped;
 use super::svg::Svg;
+use crate::figures::grouped;
 
 /// Single ticks are marked where each has so much room.
 const ROOM_FOR_TICK: i32 = 5;

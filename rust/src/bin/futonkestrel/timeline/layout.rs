@@ -2,8 +2,9 @@
 
 use super::arrows::{self, Carried};
 use super::items::Items;
-use super::measure::{bold_width, grouped, width};
+use super::measure::{bold_width, width};
 use super::steps::{Look, Moment};
+use crate::figures::grouped;
 use crate::format::MISS;
 
 /// The picture's width, if no row needs more, and the room around it.

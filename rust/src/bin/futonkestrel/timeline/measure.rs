@@ -41,16 +41,3 @@ pub fn fitted(text: &str, size: i32, room: i32) -> Option<String> {
     let kept = start.trim_end();
     (kept.chars().count() >= 3).then(|| format!("{kept}…"))
 }
-
-/// 1000000 as 1,000,000.
-pub fn grouped(number: i64) -> String {
-    let digits = number.to_string();
-    let mut text = String::new();
-    for (at, digit) in digits.chars().enumerate() {
-        if at > 0 && (digits.len() - at).is_multiple_of(3) {
-            text.push(',');
-        }
-        text.push(digit);
-    }
-    text
-}

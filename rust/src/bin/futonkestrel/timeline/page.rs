@@ -2,10 +2,10 @@
 
 use super::items::Items;
 use super::layout::{self, Frame, Row, LABELS, LARGE, MARGIN, PAGE};
-use super::measure::grouped;
 use super::steps::{Moment, Step};
 use super::svg::Svg;
 use super::{arrows, axis, header, lanes, legend, marks, modes, style};
+use crate::figures::grouped;
 use crate::format::MISS;
 
 /// The space between two rows.

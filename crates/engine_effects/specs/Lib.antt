@@ -1,5 +1,0 @@
-pub mod Rooms
-pub mod Ports
-pub mod Sends
-pub mod Events
-pub mod Modes

@@ -1,0 +1,186 @@
+// The tests of a thread's events.
+
+use crate::ThreadView;
+use crate::jobs::activates;
+use crate::jobs::beside_comes;
+use crate::jobs::beside_runs;
+use crate::jobs::completes;
+use crate::jobs::deactivates;
+use crate::jobs::dispatches_alone;
+use crate::jobs::due_with_job;
+use crate::jobs::meets;
+use crate::jobs::misses;
+use crate::jobs::starts_alone;
+use crate::rooms::within;
+use crate::views::job_of;
+use crate::views::thread_view_of;
+use model_format::Connection;
+use model_format::DELAYED;
+use model_format::IMMEDIATE;
+use model_format::MAX_CONNECTIONS;
+use model_semantics::NONE;
+use model_state::is_live;
+use model_words::connection_at;
+use model_words::connections;
+use model_words::input_owner;
+use model_words::output_owner;
+use model_words::threads;
+use numbers::usize_of_u8;
+use numbers::usize_of_u16;
+ghost use mathlib.Core.Path.{_≡_};
+ghost use Rattle.model_semantics.specs.Tests as tests;
+ghost use Rattle.model_state.specs.Words.{stateIn};
+ghost use Rattle.model_words.specs.Words.{timingIn};
+ghost use Rattle.model_tests.specs.Jobs as jobs;
+
+// What START's test finds.
+pub const NO_FAULT: u8 = 0;
+
+const NOT_READY: u8 = 1;
+
+const PROCESSOR_HELD: u8 = 2;
+
+const CONNECTIONS_AWAITED: u8 = 3;
+
+const WRONG_TIME: u8 = 4;
+
+// The thread that a connection comes from.
+fn source_of(model: &[u32], state: &[u32], connection: Connection) -> ThreadView
+    ensures { λ r. ⌜ r ≡ jobs.sourceOf (timingIn (now (model .entry))) (stateIn (now (state .entry))) connection ⌝ }
+{
+    let owner = output_owner(model, usize_of_u16(connection.source));
+    thread_view_of(model, state, usize_of_u8(owner))
+}
+
+// Connection c holds thread t's DISPATCH back. Most connections are off or lead elsewhere, so that comes first.
+fn holds_dispatch(model: &[u32], state: &[u32], t: usize, c: usize) -> bool
+    ensures { λ r. ⌜ r ≡ jobs.holdsDispatch (timingIn (now (model .entry))) (stateIn (now (state .entry))) t c ⌝ }
+{
+    let connection = connection_at(model, c);
+    let live = is_live(state, c);
+    let delayed = connection.kind == DELAYED;
+    if !(delayed & live) {
+        return false;
+    }
+    let owner = input_owner(model, usize_of_u16(connection.target));
+    if usize_of_u8(owner) != t {
+        return false;
+    }
+    let source = source_of(model, state, connection);
+    due_with_job(source)
+}
+
+fn awaits_delayed(model: &[u32], state: &[u32], t: usize) -> bool
+    ensures { λ r. ⌜ r ≡ tests.awaitsDelayed (timingIn (now (model .entry))) (stateIn (now (state .entry))) t ⌝ }
+{
+    let count = within(connections(model), MAX_CONNECTIONS);
+    let mut c: usize = 0;
+    while c < count {
+        if holds_dispatch(model, state, t, c) {
+            return true;
+        }
+        c += 1;
+    }
+    false
+}
+
+// Connection c holds thread t's START back.
+fn holds_start(model: &[u32], state: &[u32], t: usize, c: usize) -> bool
+    ensures { λ r. ⌜ r ≡ jobs.holdsStart (timingIn (now (model .entry))) (stateIn (now (state .entry))) t c ⌝ }
+{
+    let connection = connection_at(model, c);
+    let live = is_live(state, c);
+    let immediate = connection.kind == IMMEDIATE;
+    if !(immediate & live) {
+        return false;
+    }
+    let owner = input_owner(model, usize_of_u16(connection.target));
+    if usize_of_u8(owner) != t {
+        return false;
+    }
+    let job = job_of(state, t);
+    let source = source_of(model, state, connection);
+    beside_runs(source, job) | beside_comes(source, job)
+}
+
+fn awaits_immediate(model: &[u32], state: &[u32], t: usize) -> bool
+    ensures { λ r. ⌜ r ≡ tests.awaitsImmediate (timingIn (now (model .entry))) (stateIn (now (state .entry))) t ⌝ }
+{
+    let count = within(connections(model), MAX_CONNECTIONS);
+    let mut c: usize = 0;
+    while c < count {
+        if holds_start(model, state, t, c) {
+            return true;
+        }
+        c += 1;
+    }
+    false
+}
+
+pub fn can_activate(state: &[u32], t: usize) -> bool
+    ensures { λ r. ⌜ r ≡ tests.canActivate (stateIn (now (state .entry))) t ⌝ }
+{
+    let job = job_of(state, t);
+    activates(job)
+}
+
+pub fn can_deactivate(state: &[u32], t: usize) -> bool
+    ensures { λ r. ⌜ r ≡ tests.canDeactivate (stateIn (now (state .entry))) t ⌝ }
+{
+    let job = job_of(state, t);
+    deactivates(job)
+}
+
+pub fn can_dispatch(model: &[u32], state: &[u32], t: usize) -> bool
+    ensures { λ r. ⌜ r ≡ tests.canDispatch (timingIn (now (model .entry))) (stateIn (now (state .entry))) t ⌝ }
+{
+    let view = thread_view_of(model, state, t);
+    if !dispatches_alone(view) {
+        return false;
+    }
+    !awaits_delayed(model, state, t)
+}
+
+// The first that is wrong with START: its state, the processor, its connections, its length.
+pub fn start_fault(model: &[u32], state: &[u32], t: usize, time: u32) -> u8
+    ensures { λ r. ⌜ r ≡ tests.startFault (timingIn (now (model .entry))) (stateIn (now (state .entry))) t time ⌝ }
+{
+    let view = thread_view_of(model, state, t);
+    let alone = starts_alone(view);
+    let ready = (t < threads(model)) & alone;
+    if !ready {
+        return NOT_READY;
+    }
+    if view.clock.cpu != NONE {
+        return PROCESSOR_HELD;
+    }
+    if awaits_immediate(model, state, t) {
+        return CONNECTIONS_AWAITED;
+    }
+    if (view.thread.bcet.0 <= time) & (time <= view.thread.wcet.0) {
+        NO_FAULT
+    } else {
+        WRONG_TIME
+    }
+}
+
+pub fn can_complete(state: &[u32], t: usize) -> bool
+    ensures { λ r. ⌜ r ≡ tests.canComplete (stateIn (now (state .entry))) t ⌝ }
+{
+    let job = job_of(state, t);
+    completes(job)
+}
+
+pub fn can_meet_deadline(model: &[u32], state: &[u32], t: usize) -> bool
+    ensures { λ r. ⌜ r ≡ tests.canMeetDeadline (timingIn (now (model .entry))) (stateIn (now (state .entry))) t ⌝ }
+{
+    let view = thread_view_of(model, state, t);
+    meets(view)
+}
+
+pub fn can_miss(model: &[u32], state: &[u32], t: usize) -> bool
+    ensures { λ r. ⌜ r ≡ tests.canMiss (timingIn (now (model .entry))) (stateIn (now (state .entry))) t ⌝ }
+{
+    let view = thread_view_of(model, state, t);
+    misses(view)
+}

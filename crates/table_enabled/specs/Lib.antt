@@ -1,0 +1,6 @@
+pub mod EnabledBy
+pub mod Order
+pub mod Inserted
+pub mod Walk
+pub mod Telling
+pub mod Laws

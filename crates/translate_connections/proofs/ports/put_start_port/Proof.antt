@@ -1,0 +1,42 @@
+use Rattle.model_words.specs.Words.{timingIn}
+use Rattle.translate_connections.specs.Items.{few-connections, start-fed, start-free}
+use borrow.Author.Needs.{needs}
+use Rattle.translate_connections.proofs.ports.put_start_port.Statement.{statement}
+use Rattle.translate_connections.proofs.ports.put_start_port.Tie as tie
+
+immediate-into-requires : tie.Need-immediate-into-requires
+immediate-into-requires c κs = search needs
+
+connections-requires : tie.Need-connections-requires
+connections-requires c κs = search needs
+
+cast-flag-var : tie.Need-cast-flag-var
+cast-flag-var c = let h = few-connections (c .before .before .before .before .before .pre .0) (c .before .connections .ensures) (c .if1 .taken) in search needs
+
+flag-var-requires : tie.Need-flag-var-requires
+flag-var-requires c κs = few-connections (c .before .before .before .before .before .pre .0) (c .before .connections .ensures) (c .if1 .taken)
+
+put-taken-requires : tie.Need-put-taken-requires
+put-taken-requires c κs = c .before .before .before .before .before .before .before .pre .1
+
+same-length : tie.Need-same-length
+same-length c = search needs
+
+returns : tie.Need-returns
+returns c = start-fed (timingIn (c .before .before .before .before .before .before .before .before .before .before .args .model .now)) _ (c .before .before .before .before .before .before .before .immediate-into .ensures) (rw (c .before .before .before .before .before .before .connections .ensures) at (c .before .before .before .before .before .if1 .taken)) (c .before .before .before .before .flag-var .ensures) (c .before .before .put-taken .ensures)
+
+returns-2 : tie.Need-returns-2
+returns-2 c = start-free (timingIn (c .before .before .before .before .before .args .model .now)) _ (c .before .before .immediate-into .ensures) (rw (c .before .connections .ensures) at (c .if1 .left)) (search needs)
+
+pub put-start-port-spec : {M : Type 1} → statement M
+put-start-port-spec =
+    tie.close
+    (tie.spec
+    immediate-into-requires
+    connections-requires
+    cast-flag-var
+    flag-var-requires
+    put-taken-requires
+    same-length
+    returns
+    returns-2)
