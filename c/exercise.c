@@ -39,6 +39,36 @@ static int marked(const uint8_t *bytes, size_t from, size_t to)
     return from == to;
 }
 
+/* The bytes of a record by its kind: those of a model below 16, those of a table from 32 on. */
+static size_t record_length(uint8_t kind)
+{
+    static const size_t lengths[] = {0, 3, 20, 2, 2, 6, 5, 3, 4, 9, 14, [32] = 7, 11, 1, 9, 17};
+    MUST(kind < sizeof lengths / sizeof *lengths && lengths[kind] > 0);
+    return lengths[kind];
+}
+
+/* Where the last record starts. */
+static size_t last_record(const uint8_t *bytes, size_t count)
+{
+    size_t at = 0;
+    while (at + record_length(bytes[at]) < count)
+        at += record_length(bytes[at]);
+    return at;
+}
+
+/* The events of the script, and the ticks that they ask for: what a run without refusal tells. */
+static size_t events, ticks;
+
+static void count_events(void)
+{
+    for (size_t at = 0; at < scripts; at += fk_event_length(script + at, scripts - at)) {
+        events++;
+        if (script[at] == 0x0b)
+            ticks += script[at + 1] + 256u * script[at + 2];
+    }
+    MUST(events > 10 && ticks > 10);
+}
+
 static void no_slices(void)
 {
     MUST(fk_read_model(NULL, 0, NULL, 0) == 2);
@@ -54,7 +84,7 @@ static void no_slices(void)
     MUST(fk_table_step(NULL, 0, NULL, 0, NULL, 0, NULL, 0) == 8);
     MUST(fk_table_enabled(NULL, 0, NULL, 0, NULL, 0, NULL, 0, NULL, 0) == 8);
     MUST(fk_model_after(NULL, 0, NULL, 0, NULL, 0, NULL, 0) == 2);
-    MUST(fk_model_read(NULL, 0, NULL, 0, NULL, 0) == 8);
+    MUST(fk_model_read(NULL, 0, NULL, 0, NULL, 0) == 2);
     MUST(fk_model_start(NULL, 0, NULL, 0) == 8);
     MUST(fk_model_step(NULL, 0, NULL, 0, NULL, 0) == 8);
     MUST(fk_model_variables(NULL, 0, NULL, 0, NULL, 0) == 8);
@@ -63,15 +93,37 @@ static void no_slices(void)
 
 static void told_places(void)
 {
+    const size_t whole[] = {0, 0, events, ticks};
     for (size_t places = 0; places <= 5; places++) {
-        size_t told[6] = {99, 99, 99, 99, 99, 99};
-        MUST(fk_run_model(model, models, script, scripts, told, places) == 0);
+        size_t of_model[6] = {99, 99, 99, 99, 99, 99}, of_table[6] = {99, 99, 99, 99, 99, 99};
+        MUST(fk_run_model(model, models, script, scripts, of_model, places) == 0);
+        MUST(fk_run_table(table, tables, script, scripts, of_table, places) == 0);
         for (size_t i = 0; i < 6; i++)
-            MUST((told[i] == 99) == (i >= places || i >= 4));
+            MUST(of_model[i] == (i < places && i < 4 ? whole[i] : 99) && of_table[i] == of_model[i]);
     }
-    size_t told[3] = {0, 0, 0};
-    MUST(fk_read_model(model, models - 1, told, 3) == 1);
-    MUST(told[0] < told[1] && told[1] == models - 1 && told[2] == 0);
+    size_t told[4] = {99, 99, 99, 99};
+    MUST(fk_read_model(model, models - 1, told, 4) == 1);
+    MUST(told[0] == last_record(model, models) && told[1] == models - 1 && told[2] == 99);
+    MUST(fk_read_model(model, models, told, 4) == 0 && told[0] == 0 && told[1] == 0 && told[2] == 99);
+    MUST(fk_read_table(table, tables, told, 4) == 0 && told[0] == 0 && told[1] == 0 && told[2] == 99);
+}
+
+/* A model that is cut, read into numbers and run; and a run that is refused at an event that is not enabled, which follows the whole script. */
+static void told_of_refusals(void)
+{
+    static uint8_t longer[65536 + 2];
+    size_t told[4] = {99, 99, 99, 99};
+    MUST(fk_model_read(model, models - 1, words, FK_MODEL_WORDS + 1, told, 4) == 1);
+    MUST(told[0] == last_record(model, models) && told[1] == models - 1 && told[2] == 99);
+    MUST(fk_run_model(model, models - 1, script, scripts, told, 4) == 1);
+    MUST(told[0] == last_record(model, models) && told[1] == models - 1 && told[2] == 0 && told[3] == 0);
+    memcpy(longer, script, scripts);
+    longer[scripts] = 0x01;
+    longer[scripts + 1] = 99;
+    const size_t refused[] = {scripts, scripts + 2, events, ticks};
+    MUST(fk_run_model(model, models, longer, scripts + 2, told, 4) == 10 && memcmp(told, refused, sizeof told) == 0);
+    memset(told, MARK, sizeof told);
+    MUST(fk_run_table(table, tables, longer, scripts + 2, told, 4) == 10 && memcmp(told, refused, sizeof told) == 0);
 }
 
 static void room_for_a_table(void)
@@ -82,10 +134,12 @@ static void room_for_a_table(void)
     MUST(told[0] == models && told[1] == models && told[2] == 0);
     MUST(marked(output, 0, sizeof output));
     MUST(fk_translate(model, models, output, tables, told, 3) == 0);
-    MUST(told[2] == tables && memcmp(output, table, tables) == 0);
+    MUST(told[0] == 0 && told[1] == 0 && told[2] == tables && memcmp(output, table, tables) == 0);
     MUST(marked(output, tables, sizeof output));
     MUST(fk_read_table(table, tables - 1, told, 2) == 1);
-    MUST(told[1] == tables - 1);
+    MUST(told[0] == last_record(table, tables) && told[1] == tables - 1);
+    MUST(fk_translate(model, models - 1, output, 0, told, 3) == 1);
+    MUST(told[0] == last_record(model, models) && told[1] == models - 1 && told[2] == 0);
 }
 
 static void room_for_a_listing(void)
@@ -150,20 +204,25 @@ static void steps_by_an_index(size_t room)
     }
 }
 
-/* An index that is not the table's: there is an answer, and a refusal leaves the variables. */
+/* An index that is not the table's: the event finds its one rule or not, and a refusal leaves the variables. */
 static void steps_by_any_numbers(void)
 {
     static size_t index[1000];
-    int32_t start[FK_VARIABLES], variables[FK_VARIABLES];
+    int32_t start[FK_VARIABLES], variables[FK_VARIABLES], stepped[FK_VARIABLES];
+    size_t first = fk_event_length(script, scripts), taken = 0;
     fk_table_start(table, tables, start, FK_VARIABLES);
+    memcpy(stepped, start, sizeof start);
+    MUST(fk_table_step(table, tables, list, lists, stepped, FK_VARIABLES, script, first) == 0);
     for (size_t number = 0; number < 1000; number++) {
         for (size_t i = 0; i < 1000; i++)
             index[i] = number % 3 == 0 ? number * i : number % 3 == 1 ? (size_t)-1 / (i + number + 1) : list[(i * number) % lists];
         memcpy(variables, start, sizeof start);
-        uint32_t answer = fk_table_step(table, tables, index, number, variables, FK_VARIABLES, script, fk_event_length(script, scripts));
+        uint32_t answer = fk_table_step(table, tables, index, number, variables, FK_VARIABLES, script, first);
         MUST(answer == 0 || answer == 10 || answer == 12);
-        MUST(answer == 0 || memcmp(variables, start, sizeof start) == 0);
+        MUST(memcmp(variables, answer == 0 ? stepped : start, sizeof start) == 0);
+        taken += answer == 0;
     }
+    MUST(taken > 0 && taken < 1000);
 }
 
 static void room_for_a_model(void)
@@ -174,10 +233,12 @@ static void room_for_a_model(void)
     memset(words, MARK, sizeof words);
     MUST(fk_model_read(model, models, words, FK_MODEL_WORDS - 1, told, 3) == 8);
     MUST(told[0] == models && told[1] == models && told[2] == 99);
-    MUST(fk_model_read(model, models - 1, words, 0, told, 3) == 8);
+    /* The model's own refusal comes first, whatever the room. */
+    for (size_t room = 0; room <= FK_MODEL_WORDS + 1; room += FK_MODEL_WORDS + 1) {
+        MUST(fk_model_read(model, models - 1, words, room, told, 3) == 1);
+        MUST(told[0] < told[1] && told[1] == models - 1);
+    }
     MUST(marked(bytes, 0, sizeof words));
-    MUST(fk_model_read(model, models - 1, words, FK_MODEL_WORDS + 1, told, 3) == 1);
-    MUST(told[0] < told[1] && told[1] == models - 1);
     MUST(fk_model_read(model, models, words, FK_MODEL_WORDS + 1, told, 3) == 0);
     MUST(told[0] == 0 && told[1] == 0 && told[2] == 99);
     MUST(marked(bytes, 4 * FK_MODEL_WORDS, sizeof words));
@@ -232,6 +293,23 @@ static void shown_variables(void)
     }
 }
 
+/* Every event that is listed is taken, and a TICK where it is said to pass; a START with its shortest length, and its longest. */
+static void takes_what_is_listed(const uint32_t *state, const uint32_t *numbers, size_t count, size_t passes)
+{
+    uint32_t next[FK_STATE_WORDS];
+    const uint8_t one_tick[] = {0x0b, 1, 0};
+    memcpy(next, state, sizeof next);
+    MUST((fk_model_step(words, FK_MODEL_WORDS, next, FK_STATE_WORDS, one_tick, 3) == 0) == (passes == 1));
+    for (size_t i = 0; i < 2 * count; i++) {
+        const uint32_t *offer = numbers + i / 2 * 4;
+        uint8_t event[] = {(uint8_t)offer[0], (uint8_t)offer[1], 0, 0, 0, 0};
+        for (size_t byte = 0; byte < 4; byte++)
+            event[2 + byte] = (uint8_t)(offer[2 + i % 2] >> (8 * byte));
+        memcpy(next, state, sizeof next);
+        MUST(fk_model_step(words, FK_MODEL_WORDS, next, FK_STATE_WORDS, event, event[0] == 0x04 ? 6 : 2) == 0);
+    }
+}
+
 /* A list of events, asked for with no room, too little, just enough and more; the same of model and table. */
 static size_t list_of_both(const uint32_t *state, const int32_t *variables)
 {
@@ -255,6 +333,7 @@ static size_t list_of_both(const uint32_t *state, const int32_t *variables)
     memset(of_table, MARK, sizeof of_table);
     MUST(fk_table_enabled(table, tables, NULL, 0, variables, FK_VARIABLES, of_table, count, NULL, 0) == 0);
     MUST(memcmp(of_model, of_table, sizeof of_model) == 0);
+    takes_what_is_listed(state, of_model, told[0], told[1]);
     return told[0];
 }
 
@@ -289,8 +368,10 @@ int main(int count, char **names)
     tables = told[2];
     lists = fk_table_index(table, tables, list, sizeof list / sizeof *list);
     MUST(lists < sizeof list / sizeof *list);
+    count_events();
     no_slices();
     told_places();
+    told_of_refusals();
     room_for_a_table();
     room_for_a_listing();
     lent_variables();
@@ -303,8 +384,6 @@ int main(int count, char **names)
     lent_state();
     shown_variables();
     what_is_enabled();
-    size_t end[4];
-    MUST(fk_run_table(table, tables, script, scripts, end, 4) == 0 && end[2] > 0);
     puts("every promise held");
     return 0;
 }

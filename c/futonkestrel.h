@@ -102,9 +102,8 @@ uint32_t fk_model_after(const uint8_t *model, size_t model_count, const uint8_t 
 size_t fk_model_words(void);
 size_t fk_state_words(void);
 
-/* Reads a model into numbers. Result: 0, or the first refusal (1 to 7), or 8 where there are fewer than FK_MODEL_WORDS places, which are
- * then untouched (the part is the empty one at the model's end). A refused model leaves numbers that stand for an empty one. Places behind
- * FK_MODEL_WORDS are untouched always. Told: start, end. */
+/* Reads a model into numbers. Result: 0, or the model's first refusal (1 to 7), or 8 where there are fewer than FK_MODEL_WORDS places (the part
+ * is the empty one at the model's end). Refused, all places are untouched, and those behind FK_MODEL_WORDS always. Told: start, end. */
 uint32_t fk_model_read(const uint8_t *model, size_t model_count, uint32_t *words, size_t words_count, size_t *told, size_t told_count);
 
 /* The state before any event. Result: 0, or 8 where there are fewer than FK_STATE_WORDS places, which are then untouched, as are places

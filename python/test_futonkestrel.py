@@ -187,6 +187,17 @@ class Library(unittest.TestCase):
         self.assertEqual(fk._library.fk_model_words(), fk.MODEL_WORDS)
         self.assertEqual(fk._library.fk_state_words(), fk.STATE_WORDS)
 
+    def test_a_refused_model_leaves_the_numbers(self) -> None:
+        data, marks = example("m/model.bin"), [7] * fk.MODEL_WORDS
+        for model, room, number in [
+            (data, fk.MODEL_WORDS - 1, 8),
+            (data[:-1], fk.MODEL_WORDS, 1),
+            (data[:-1], 0, 1),
+        ]:
+            words = (ctypes.c_uint32 * fk.MODEL_WORDS)(*marks)
+            told = fk._library.fk_model_read(model, len(model), words, room, None, 0)
+            self.assertEqual((told, list(words)), (number, marks))
+
     def test_variables(self) -> None:
         variables = fk.Variables()
         variables[287] = -5

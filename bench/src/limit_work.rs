@@ -4,15 +4,14 @@ use std::cell::RefCell;
 use std::hint::black_box;
 use std::rc::Rc;
 
-use plain::script::run;
-use plain::table::variable::{due, NOW};
+use plain::table::variable::NOW;
 
 use crate::limit::{self, Event, Lines, Machine, Model, Scratch, State, Table, TAKEN};
 use crate::measure::Work;
 use crate::scripts::Script;
 use crate::stepped_work::without_idle_dues;
 use crate::subjects::Pair;
-use crate::work::{done_bytes, done_run, done_steps, with, Unit, THREADS};
+use crate::work::{done_bytes, done_run, done_steps, with, Unit};
 
 fn decoded_model(pair: &Pair) -> Model {
     Model::decode(&plain::model::read(&pair.model).expect("accepted"))
@@ -103,27 +102,4 @@ pub fn table_listing(pair: &Pair, script: &Rc<Script>) -> Work {
         lines.end(answer, clock());
         done_bytes(size, &lines.bytes)
     })
-}
-
-/// A run tells events and clock only: here all sides show all variables, after so
-/// many events.
-pub fn assert_same_state(pair: &Pair, script: &Script) {
-    const EVENTS: usize = 200;
-    let script = script.first(script.events().min(EVENTS));
-    let read = plain::model::read(&pair.model).expect("accepted");
-    let mut state = plain::model::start_state(&read);
-    let step = |state: &_, event: &_| plain::model::step(&read, state, event);
-    run(script, &mut state, step, |_, _| {});
-    let mut wanted = plain::show::show(&read, &state);
-
-    let decoded = Model::decode(&read);
-    let mut state = State::start(&decoded);
-    limit::run(script, |event| state.step(&decoded, event), |_| {});
-    assert_eq!(state.show(&decoded), wanted, "the limit has the same state");
-
-    // No event shows the state as it is, without Due and End.
-    let mut ours = [0; futonkestrel::VARIABLES];
-    futonkestrel::model_after(&pair.model, script, &[], &mut ours);
-    wanted[due(0)..due(0) + 2 * THREADS].fill(0);
-    assert_eq!(ours, wanted, "we have the same state");
 }

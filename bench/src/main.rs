@@ -7,6 +7,7 @@
 //! of it. `--instructions` counts instructions in place of time. With a TEXT,
 //! only measurements whose name has it are made.
 
+mod ends;
 mod instructions;
 mod limit;
 mod limit_work;

@@ -15,6 +15,9 @@ pub struct Done {
 /// Work of a size: so many events of a script, or so many times the same.
 pub type Work = Box<dyn Fn(usize) -> Done>;
 
+/// Sees that the states of all sides are the same after work of a size.
+pub type Ends = Box<dyn Fn(usize)>;
+
 pub struct Measurement {
     pub name: String,
     pub note: String,
@@ -27,6 +30,8 @@ pub struct Measurement {
     pub plain: Work,
     /// Only what is run has a limit.
     pub limit: Option<Work>,
+    /// For runs, which tell events and clock only.
+    pub ends: Option<Ends>,
 }
 
 /// The least time of one call, and how many times as long as one without events
@@ -68,6 +73,9 @@ pub fn times(measurement: &Measurement) -> Times {
     while rounds < FEWEST || (rounds < MOST && began.elapsed() < ENOUGH_TIME) {
         best = best.or_better(&measurement.round(size));
         rounds += 1;
+    }
+    if let Some(ends) = &measurement.ends {
+        ends(size);
     }
     let part = |idle: Duration, all: Duration| 100.0 * idle.as_secs_f64() / all.as_secs_f64();
     Times {
@@ -121,6 +129,15 @@ impl Round {
 }
 
 impl Measurement {
+    /// One call of each side, and where it ends.
+    #[cfg(test)]
+    pub fn try_once(&self, size: usize) {
+        self.round(size);
+        if let Some(ends) = &self.ends {
+            ends(size);
+        }
+    }
+
     /// One call of each side; they must come to the same.
     fn round(&self, size: usize) -> Round {
         let (ours, our_time) = timed(&self.ours, size);

@@ -13,9 +13,7 @@ use crate::limit_work;
 use crate::measure::{Done, Measurement};
 use crate::scripts::Script;
 use crate::subjects::Pair;
-use crate::work::{
-    done_steps, measurement, plain_table_steps, with, MODEL_GOAL, TABLE_GOAL, THREADS,
-};
+use crate::work::{done_steps, measurement, plain_table_steps, with, GOAL, NO_GOAL, THREADS};
 
 /// Table and index are made before; the caller keeps the variables.
 pub fn table_steps_by_index(name: String, pair: &Pair, script: &Rc<Script>) -> Measurement {
@@ -35,7 +33,7 @@ pub fn table_steps_by_index(name: String, pair: &Pair, script: &Rc<Script>) -> M
     let plain = plain_table_steps(pair, script);
     Measurement {
         limit: Some(limit_work::table_steps(pair, script)),
-        ..measurement(name, pair, TABLE_GOAL, script.events(), ours, plain)
+        ..measurement(name, pair, GOAL, script.events(), ours, plain)
     }
 }
 
@@ -70,7 +68,7 @@ pub fn model_steps(name: String, pair: &Pair, script: &Rc<Script>) -> Measuremen
     });
     Measurement {
         limit: Some(limit_work::model_steps(pair, script)),
-        ..measurement(name, pair, MODEL_GOAL, script.events(), ours, plain)
+        ..measurement(name, pair, GOAL, script.events(), ours, plain)
     }
 }
 
@@ -117,7 +115,7 @@ pub fn model_enabled(name: String, pair: &Pair, script: &Rc<Script>) -> Measurem
             offers::of_model(black_box(model), stage)
         })
     });
-    measurement(name, pair, MODEL_GOAL, usize::MAX, ours, plain)
+    measurement(name, pair, NO_GOAL, usize::MAX, ours, plain)
 }
 
 /// The same of the table, by an index.
@@ -142,7 +140,7 @@ pub fn table_enabled(name: String, pair: &Pair, script: &Rc<Script>) -> Measurem
             offers::of_table(black_box(table), stage)
         })
     });
-    measurement(name, pair, TABLE_GOAL, usize::MAX, ours, plain)
+    measurement(name, pair, NO_GOAL, usize::MAX, ours, plain)
 }
 
 /// A list of events never has more numbers here.
@@ -203,7 +201,7 @@ impl Lists {
     }
 }
 
-fn index_of(table: &[u8]) -> Vec<usize> {
+pub fn index_of(table: &[u8]) -> Vec<usize> {
     let mut index = vec![0; raw::table_index(table, &mut [])];
     raw::table_index(table, &mut index);
     index

@@ -2,25 +2,25 @@
 //! beside them the limit's.
 
 use std::cell::{LazyCell, RefCell};
-use std::fmt::Write;
 use std::hint::black_box;
 use std::rc::Rc;
 
 use futonkestrel::{raw, ROOM_FOR_TABLE};
-use plain::script::{read_event, run, Answer, TICK};
+use plain::script::{read_event, run};
 use plain::table::variable::NOW;
 
+use crate::ends;
 use crate::limit_work;
 use crate::measure::{Done, Measurement, Work};
 use crate::scripts::Script;
 use crate::stepped_work;
 use crate::subjects::{Amounts, Pair, Subject};
 
-/// Speeds are to be at least so many times those of the plain model.
-pub const MODEL_GOAL: Option<f64> = Some(0.5);
-pub const TABLE_GOAL: Option<f64> = Some(1.0);
-const TRANSLATION_GOAL: Option<f64> = Some(0.5);
-const NO_GOAL: Option<f64> = None;
+/// Speeds are to be at least so many times those of the plain model: of what
+/// runs a model, steps, reads or translates, and of what runs a table.
+pub const GOAL: Option<f64> = Some(1.0);
+const TABLE_RUN_GOAL: Option<f64> = Some(1.1);
+pub const NO_GOAL: Option<f64> = None;
 
 /// The most threads of a model.
 pub const THREADS: usize = 16;
@@ -139,11 +139,11 @@ fn model_run(name: String, pair: &Pair, script: &Rc<Script>, unit: Unit) -> Meas
         assert_eq!(refusal, None, "all events are taken");
         done_run(taken, state.now.0, script, size, unit)
     });
-    limit_work::assert_same_state(pair, script);
     Measurement {
+        ends: Some(ends::of_model(pair, script)),
         note: ticks_each(script, unit),
         limit: Some(limit_work::model_run(pair, script, unit)),
-        ..measurement(name, pair, MODEL_GOAL, script.events(), ours, plain)
+        ..measurement(name, pair, GOAL, script.events(), ours, plain)
     }
 }
 
@@ -166,9 +166,10 @@ fn table_run(name: String, pair: &Pair, script: &Rc<Script>, unit: Unit) -> Meas
         done_run(taken, variables[NOW] as u64, script, size, unit)
     });
     Measurement {
+        ends: Some(ends::of_table(pair, script)),
         note: ticks_each(script, unit),
         limit: Some(limit_work::table_run(pair, script, unit)),
-        ..measurement(name, pair, TABLE_GOAL, script.events(), ours, plain)
+        ..measurement(name, pair, TABLE_RUN_GOAL, script.events(), ours, plain)
     }
 }
 
@@ -234,7 +235,7 @@ fn translation(name: String, pair: &Pair) -> Measurement {
         }
         done_bytes(size, &table)
     });
-    measurement(name, pair, TRANSLATION_GOAL, usize::MAX, ours, plain)
+    measurement(name, pair, GOAL, usize::MAX, ours, plain)
 }
 
 fn model_listing(name: String, pair: &Pair, script: &Rc<Script>) -> Measurement {
@@ -273,7 +274,8 @@ fn table_listing(name: String, pair: &Pair, script: &Rc<Script>) -> Measurement 
         },
     );
     let plain = with(input, |(table, script), size| {
-        let lines = plain_table_listing(black_box(table), black_box(script.first(size)));
+        let script = black_box(script.first(size));
+        let lines = plain::listing::of_table(black_box(table), script);
         done_bytes(size, lines.as_bytes())
     });
     Measurement {
@@ -292,7 +294,7 @@ fn model_reader(name: String, pair: &Pair) -> Measurement {
         let read = |_| black_box(plain::model::read(black_box(model))).is_ok();
         done_readings((0..size).filter(|&time| read(time)).count(), size)
     });
-    measurement(name, pair, NO_GOAL, usize::MAX, ours, plain)
+    measurement(name, pair, GOAL, usize::MAX, ours, plain)
 }
 
 fn table_reading(name: String, pair: &Pair) -> Measurement {
@@ -305,7 +307,7 @@ fn table_reading(name: String, pair: &Pair) -> Measurement {
         let read = |_| black_box(plain::table::read(black_box(table))).is_ok();
         done_readings((0..size).filter(|&time| read(time)).count(), size)
     });
-    measurement(name, pair, NO_GOAL, usize::MAX, ours, plain)
+    measurement(name, pair, GOAL, usize::MAX, ours, plain)
 }
 
 pub fn measurement(
@@ -325,6 +327,7 @@ pub fn measurement(
         ours,
         plain,
         limit: None,
+        ends: None,
     }
 }
 
@@ -398,29 +401,21 @@ fn listing_room(script: &Script) -> RefCell<Vec<u8>> {
     RefCell::new(vec![0; 40 * (script.events() + 1)])
 }
 
-/// The lines of a table's run by the plain model, which itself lists only runs
-/// of tables that it has just made.
-fn plain_table_listing(table: &[u8], script: &[u8]) -> String {
-    let table = plain::table::read(table).expect("accepted");
-    let mut variables = plain::table::start_state(&table);
-    let mut lines = String::new();
-    let mut count = 0;
-    let (taken, refusal) = run(
-        script,
-        &mut variables,
-        |variables, event| plain::table::step(&table, variables, event),
-        |answer: &Answer, variables| {
-            let Some(event) = answer.event else { return };
-            count += 1;
-            let figure = match event.kind {
-                TICK => event.ticks,
-                _ => event.id.into(),
-            };
-            let clock = variables[NOW];
-            writeln!(lines, "{count} {clock} {} {figure}", event.kind).expect("room");
-        },
-    );
-    assert_eq!(refusal, None, "all events are taken");
-    writeln!(lines, "end {taken} 0 {}", variables[NOW]).expect("room");
-    lines
+#[cfg(test)]
+mod tests {
+    use super::*;
+
+    /// A short run of every measurement.
+    #[test]
+    fn all_sides_come_to_the_same() {
+        let amounts = Amounts {
+            events: 200,
+            ticks: 5_000,
+        };
+        let all = measurements("", amounts);
+        assert_eq!(all.len(), SUBJECTS.len() * MEASUREMENTS.len());
+        for measurement in all {
+            measurement.try_once(measurement.most.min(200));
+        }
+    }
 }

@@ -14,6 +14,21 @@ pub struct Told {
     pub end: usize,
 }
 
+impl Told {
+    /// What is told of a model of so many bytes where there is too little room for
+    /// it: its own refusal, else 8 at its end.
+    pub fn into_too_little(self, bytes: usize) -> Told {
+        if self.number != 0 {
+            return self;
+        }
+        Told {
+            number: 8,
+            start: bytes,
+            end: bytes,
+        }
+    }
+}
+
 /// All that is said of a model or a table, and of a script run on it.
 pub struct Said {
     pub read: Told,

@@ -1,7 +1,9 @@
 //! One case: a model with a script, a table with a script, and single steps on
 //! variables of all sorts. A case is wholly determined by a seed and its number.
 
-use plain::{model, translate};
+use plain::model::{self, Duration, Model};
+use plain::script::LAST_NOW;
+use plain::translate;
 
 use crate::answers::{Variables, NOW, VARIABLES};
 use crate::models;
@@ -18,6 +20,8 @@ pub struct Case {
     pub made: Option<Vec<u8>>,
     /// For the model and the made table.
     pub script: Vec<u8>,
+    /// For both again, from the start but for a late clock.
+    pub late: Option<Late>,
     /// Any table, with a script of its own.
     pub table: Vec<u8>,
     pub table_script: Vec<u8>,
@@ -32,6 +36,13 @@ pub struct Case {
     pub short_index: usize,
     /// An index that no table has.
     pub any_index: Vec<usize>,
+}
+
+/// A script for a start whose clock is set: nobody waits for all the ticks up to
+/// there.
+pub struct Late {
+    pub clock: u32,
+    pub script: Vec<u8>,
 }
 
 /// A number of a model or of a state that is another; the place is cut to those
@@ -53,6 +64,7 @@ impl Case {
         let random = &mut Random::new(seed, number);
         let model = models::model(random);
         let (made, script) = made_and_script(random, &model);
+        let late = late(random, &model);
         let (table, table_script) = tables::table_and_script(random, made.as_deref(), &script);
         let lent_to_made = match &made {
             Some(made) => lent(random, made, 2),
@@ -65,6 +77,7 @@ impl Case {
             model,
             made,
             script,
+            late,
             table,
             table_script,
             lent_to_made,
@@ -82,29 +95,79 @@ fn made_and_script(random: &mut Random, bytes: &[u8]) -> (Option<Vec<u8>>, Vec<u
         Err(_) => (None, scripts::any_script(random)),
         Ok(model) => {
             let made = translate::translate(bytes, usize::MAX).expect("the model is accepted");
-            let long_periods = model.threads.iter().any(|thread| thread.period.0 > 200);
-            let budget = budget(random, made.len(), long_periods);
-            let script = scripts::script(random, &model, budget);
+            let periods = model.threads.iter().map(|thread| thread.period.0);
+            let budget = budget(random, made.len(), periods.min().unwrap_or(0));
+            let start = model::start_state(&model);
+            let script = scripts::script(random, &model, start, budget);
             (Some(made), script)
         }
     }
 }
 
-/// An event or a tick on a table costs as much as the table is long, so long
-/// tables have short scripts. Few scripts go through long periods, or far where
-/// there is no thread.
-fn budget(random: &mut Random, table: usize, long_periods: bool) -> Budget {
+/// Tables at least so long are those of models with many items, whose scripts
+/// are often long, so that every thread and mode has its turn.
+const LONG_TABLE: usize = 25_000;
+
+/// A tick on a table costs as much as the table is long. Few scripts go through
+/// long periods, or far where there is no thread and so no least period.
+fn budget(random: &mut Random, table: usize, least_period: u64) -> Budget {
+    let far = match least_period {
+        0 => random.chance(10),
+        201..14_000 => random.chance(2),
+        14_000..40_000 => true,
+        _ => false,
+    };
     let events = match random.below(100) {
+        _ if far => random.within(40, 120),
+        _ if table >= LONG_TABLE && random.chance(70) => random.within(150, 500),
         0..=4 => random.within(0, 5),
         5..=84 => random.within(6, 34),
         85..=96 => random.within(35, 60),
         _ => random.within(61, 150),
     };
-    let usual = 4 + 250_000 / table;
-    let far = (table < 300 && random.chance(10)) || (long_periods && random.chance(4));
     Budget {
-        events: events.min(usual),
-        ticks: if far { 70_000 } else { usual },
+        events,
+        ticks: match (far, least_period) {
+            (true, 0) => 110_000,
+            (true, _) => 75_000,
+            _ => events + 250_000 / table,
+        },
+    }
+}
+
+/// Some accepted models run at late clocks too.
+fn late(random: &mut Random, bytes: &[u8]) -> Option<Late> {
+    let model = model::read(bytes).ok()?;
+    if !random.chance(12) {
+        return None;
+    }
+    let clock = late_clock(random, &model);
+    let mut state = model::start_state(&model);
+    state.now = Duration(clock.into());
+    let budget = Budget {
+        events: random.within(5, 60),
+        ticks: 300,
+    };
+    let script = scripts::script(random, &model, state, budget);
+    Some(Late { clock, script })
+}
+
+/// Mostly shortly before the last clock; or before the begin of some period.
+fn late_clock(random: &mut Random, model: &Model) -> u32 {
+    match random.below(10) {
+        0..=3 => LAST_NOW - random.within(1, 40) as u32,
+        4 => LAST_NOW,
+        5 => random.within(70_000, 300_000) as u32,
+        _ => {
+            let periods = model.threads.iter().map(|thread| thread.period.0 as u32);
+            let periods: Vec<u32> = periods.chain([1_000]).collect();
+            let period = random.one_of(&periods);
+            let times = match random.chance(60) {
+                true => LAST_NOW / period,
+                false => random.within(1, (LAST_NOW / period) as usize) as u32,
+            };
+            (times * period).saturating_sub(random.below(4) as u32)
+        }
     }
 }
 

@@ -3,12 +3,21 @@
 
 use plain::table;
 
-use crate::answers::{After, Listed, Listing, Said, Translation, Variables};
-use crate::case::{Case, Lent};
+use crate::answers::{After, Listed, Listing, Offers, Said, Step, Translation, Variables, NOW};
+use crate::case::{Case, Late, Lent};
 use crate::compare::{self, Check};
+use crate::found::Indexes;
+use crate::loose::Rules;
 use crate::stepped::{self, StateWalk};
 use crate::tally::Tally;
 use crate::{found, wanted};
+
+/// A table that runs a script from some variables on.
+struct TableRun<'a> {
+    table: &'a [u8],
+    script: &'a [u8],
+    start: &'a Variables,
+}
 
 /// A comparison that failed, and how.
 pub struct Difference {
@@ -26,6 +35,9 @@ pub fn check(case: &Case, tally: &mut Tally) -> Vec<Difference> {
     let (of_model, on_state) = checker.model(case);
     if let Some(made) = checker.translation(case) {
         checker.made_table(case, &made, &of_model, &on_state);
+        if let Some(late) = &case.late {
+            checker.late(case, late, &made);
+        }
     }
     checker.table(case);
     checker.differences
@@ -47,9 +59,11 @@ impl Checker<'_> {
     /// The model and its script. The result is what the library says, of the
     /// whole script and event by event.
     fn model(&mut self, case: &Case) -> (Said, StateWalk) {
-        let wanted = wanted::of_model(&case.model, &case.script, case.more_rooms);
-        let found = found::of_model(&case.model, &case.script, &rooms(&wanted));
+        let (wanted, reach) = wanted::of_model(&case.model, &case.script, case.more_rooms);
         self.tally.note_model(case, &wanted);
+        self.tally.note_reach(&reach);
+        let walk = self.on_state(case, &wanted);
+        let found = found::of_model(&case.model, &case.script, &rooms(&wanted), &walk);
         self.note("model_reading", compare::reading(&wanted.read, &found.read));
         self.note("model_start", compare::start(&wanted.start, &found.start));
         if wanted.read.number == 0 {
@@ -70,14 +84,17 @@ impl Checker<'_> {
             compare::listing(&wanted.listings, &found.listings),
         );
         self.note("listing_room", compare::listing_room(&found.listings));
-        (found, self.on_state(case, &wanted))
+        (found, walk)
     }
 
     /// The model on a state that is lent, through the whole script; then on
     /// numbers of any content.
     fn on_state(&mut self, case: &Case, wanted: &Said) -> StateWalk {
         let found = stepped::on_state(&case.model, &case.script, case.more_rooms);
-        self.note("state_reading", compare::reading(&wanted.read, &found.read));
+        let short = wanted.read.into_too_little(case.model.len());
+        let read = compare::reading(&wanted.read, &found.read);
+        let read = read.and_then(|()| compare::reading(&short, &found.short_read));
+        self.note("state_reading", read);
         let steps = (&wanted.steps, &found.steps);
         self.note("state_answers", compare::answers(steps.0, steps.1));
         let shown = compare::shown(&wanted.shown, &found.shown);
@@ -128,19 +145,59 @@ impl Checker<'_> {
     /// The table that the library made, against the plain model and against the
     /// model's run.
     fn made_table(&mut self, case: &Case, made: &[u8], of_model: &Said, on_state: &StateWalk) {
-        let wanted = if case.more_rooms {
-            wanted::of_rules(made, &case.model, &case.script, true)
-        } else {
-            wanted::of_table(made, &case.script, false)
-        };
+        let wanted = wanted::of_table(made, &case.script, case.more_rooms);
         let found = found::of_table(made, &case.script, &rooms(&wanted));
         self.table_comparisons(&wanted, &found);
-        let offers = self.by_index(case, made, &case.script, &wanted, &found);
+        let run = TableRun {
+            table: made,
+            script: &case.script,
+            start: &found.start.variables,
+        };
+        let offers = self.by_index(case, &run, &wanted.steps, &wanted.offers);
         let alike = compare::enabled_alike(&on_state.offers, &offers);
         self.note("enabled_alike", alike);
         self.lent_steps(case, made, &case.lent_to_made);
         let agree = compare::demand_three(&case.model, &case.script, of_model, &found);
         self.note("demand_three", agree);
+    }
+
+    /// The model and its table from a late clock on, event by event.
+    fn late(&mut self, case: &Case, late: &Late, made: &[u8]) {
+        let walk = self.late_state(case, late);
+        let wanted = wanted::of_late_table(made, late);
+        let mut start = found::table_start(made).variables;
+        start[NOW] = late.clock as i32;
+        let run = TableRun {
+            table: made,
+            script: &late.script,
+            start: &start,
+        };
+        let steps = found::table_steps(&Indexes::new(made, &[]), &start, &late.script);
+        self.note("table_answers", compare::answers(&wanted.steps, &steps));
+        let variables = compare::variables(&wanted.steps, &steps);
+        self.note("table_variables", variables);
+        let offers = self.by_index(case, &run, &wanted.steps, &wanted.offers);
+        let alike = compare::enabled_alike(&walk.offers, &offers);
+        self.note("enabled_alike", alike);
+        if let Some(shown) = walk.shown.first() {
+            let (starts, steps) = ((&shown.variables, &start), (&walk.steps[..], &steps[..]));
+            let agree = compare::lockstep(&case.model, &late.script, starts, steps);
+            self.note("demand_three", agree);
+        }
+    }
+
+    /// The model alone.
+    fn late_state(&mut self, case: &Case, late: &Late) -> StateWalk {
+        let (wanted, reach) = wanted::of_late_model(&case.model, late);
+        self.tally.note_late_reach(&reach);
+        let found = stepped::on_late_state(&case.model, late.clock, &late.script, case.more_rooms);
+        let answers = compare::answers(&wanted.steps, &found.steps);
+        self.note("state_answers", answers);
+        let shown = compare::shown(&wanted.shown, &found.shown);
+        self.note("state_variables", shown);
+        let enabled = compare::enabled(&wanted.offers, &found.offers);
+        self.note("model_enabled", enabled);
+        found
     }
 
     /// Any other table.
@@ -150,41 +207,48 @@ impl Checker<'_> {
         self.tally.note_table(case, &wanted);
         self.table_comparisons(&wanted, &found);
         self.tally.note_offers_of_table(&wanted.offers);
-        self.by_index(case, &case.table, &case.table_script, &wanted, &found);
+        let run = TableRun {
+            table: &case.table,
+            script: &case.table_script,
+            start: &found.start.variables,
+        };
+        self.by_index(case, &run, &wanted.steps, &wanted.offers);
         self.lent_steps(case, &case.table, &case.lent_to_table);
     }
 
-    /// A table by its index, whole and short, through the whole script. The result
-    /// is what it offers along the way.
+    /// A table by its index, whole and short, through the whole script; a refused
+    /// one takes no step. The result is what it offers along the way.
     fn by_index(
         &mut self,
         case: &Case,
-        table: &[u8],
-        script: &[u8],
-        wanted: &Said,
-        found: &Said,
+        run: &TableRun,
+        wanted: &[Step],
+        wanted_offers: &[Offers],
     ) -> Vec<Listed> {
-        let size = stepped::index_size(table);
-        let indexes = stepped::indexes(table, &[size + 3, case.short_index, size, 0]);
+        let size = stepped::index_size(run.table);
+        let indexes = stepped::indexes(run.table, &[size + 3, case.short_index, size, 0]);
         self.note("index_room", compare::index_room(&indexes));
-        let (whole, short) = (&indexes[2].1, &indexes[1].1);
-        for index in [whole, short] {
-            let steps = match wanted.read.number {
-                0 => found::table_steps(table, index, &found.start.variables, script),
-                _ => Vec::new(),
-            };
-            let (wanted, found) = (&wanted.steps, &steps);
-            self.note("indexed_answers", compare::answers(wanted, found));
-            self.note("indexed_variables", compare::variables(wanted, found));
+        let indexes = [&indexes[2].1, &indexes[1].1, &Vec::new()];
+        let indexes = indexes.map(|index| Indexes::new(run.table, index));
+        let mut stages = vec![*run.start];
+        for index in &indexes[..2] {
+            let mut steps = Vec::new();
+            if !wanted_offers.is_empty() {
+                steps = found::table_steps(index, run.start, run.script);
+            }
+            self.note("indexed_answers", compare::answers(wanted, &steps));
+            self.note("indexed_variables", compare::variables(wanted, &steps));
+            stages.truncate(1);
+            stages.extend(steps.iter().map(|step| step.after.variables));
         }
-        let offers: Vec<Listed> = stages(found)
-            .zip([whole, short, &Vec::new()].iter().cycle())
-            .map(|(variables, index)| {
-                stepped::table_offers(table, index, variables, case.more_rooms)
-            })
-            .take(wanted.offers.len())
-            .collect();
-        let enabled = compare::enabled(&wanted.offers, &offers);
+        let offers = |(number, variables): (usize, &Variables)| {
+            // Most of them without a walk.
+            let index = indexes[[0, 1, 0, 0, 2, 0][number % 6]].at(number);
+            stepped::table_offers(run.table, index, variables, case.more_rooms)
+        };
+        let stages = stages.iter().take(wanted_offers.len()).enumerate();
+        let offers: Vec<Listed> = stages.map(offers).collect();
+        let enabled = compare::enabled(wanted_offers, &offers);
         self.note("table_enabled", enabled);
         self.note("enabled_room", compare::enabled_room(&offers));
         offers
@@ -229,9 +293,11 @@ impl Checker<'_> {
                 self.note("table_enabled", compare::enabled(&wanted, &found));
             }
             Err(_) => {
-                for (lent, found) in lent.iter().zip(&found) {
-                    self.note("any_step", compare::any_step(&lent.variables, found));
-                }
+                let rules = Rules::new(bytes, &[]);
+                let wanted = |lent: &Lent| rules.step(&lent.variables, &lent.event);
+                let wanted: Vec<After> = lent.iter().map(wanted).collect();
+                self.tally.note_any_steps(&wanted);
+                self.note("any_step", compare::lent_steps(&wanted, &found));
             }
         }
         self.any_indexes(case, bytes, lent);
@@ -249,19 +315,18 @@ impl Checker<'_> {
         own.truncate(case.short_index);
         let indexes = [&others, &own, &case.any_index];
         for (lent, index) in lent.iter().zip(indexes) {
-            let found = found::lent_step(bytes, index, &lent.variables, &lent.event);
-            let offers = stepped::table_offers(bytes, index, &lent.variables, true);
-            let check = compare::any_step(&lent.variables, &found)
-                .and_then(|()| compare::enabled_room(std::slice::from_ref(&offers)));
+            let rules = Rules::new(bytes, index);
+            let wanted = [rules.step(&lent.variables, &lent.event)];
+            self.tally.note_any_steps(&wanted);
+            let found = [found::lent_step(bytes, index, &lent.variables, &lent.event)];
+            let wanted_offers = [rules.offers(&lent.variables)];
+            let offers = [stepped::table_offers(bytes, index, &lent.variables, true)];
+            let check = compare::lent_steps(&wanted, &found)
+                .and_then(|()| compare::enabled(&wanted_offers, &offers))
+                .and_then(|()| compare::enabled_room(&offers));
             self.note("any_index", check);
         }
     }
-}
-
-/// The variables at the start and after each step.
-fn stages(said: &Said) -> impl Iterator<Item = &Variables> {
-    let after = said.steps.iter().map(|step| &step.after.variables);
-    std::iter::once(&said.start.variables).chain(after)
 }
 
 /// The outputs that the wanted listings have.

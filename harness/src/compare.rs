@@ -58,24 +58,6 @@ pub fn lent_steps(wanted: &[After], found: &[After]) -> Check {
     Ok(())
 }
 
-/// A step on records that are no accepted table: there is an answer, and a
-/// refusal leaves the variables.
-pub fn any_step(before: &Variables, found: &After) -> Check {
-    if !matches!(found.answer, 0 | 9..=13) {
-        return Err(format!("a step was answered {}", found.answer));
-    }
-    let left = After {
-        answer: found.answer,
-        variables: if found.answer == 0 {
-            found.variables
-        } else {
-            *before
-        },
-        behind: [FIGURE; BEHIND],
-    };
-    same_variables("after a step on no table", &left, found)
-}
-
 /// The states of a model as they are shown, at the start and after each event.
 pub fn shown(wanted: &[Variables], found: &[After]) -> Check {
     equal("count of states shown", &wanted.len(), &found.len())?;
@@ -254,10 +236,22 @@ pub fn translation_room(found: &[Translation]) -> Check {
 /// Demand 3 on the library alone: a model and its table agree on every event,
 /// on the run and on the listing.
 pub fn demand_three(model: &[u8], script: &[u8], of_model: &Said, of_table: &Said) -> Check {
+    let starts = (&of_model.start.variables, &of_table.start.variables);
+    lockstep(model, script, starts, (&of_model.steps, &of_table.steps))?;
+    equal("run of model and table", &of_model.run, &of_table.run)?;
+    listing(&of_model.listings, &of_table.listings)
+}
+
+/// The stages of a model and its table one by one, from any start.
+pub fn lockstep(
+    model: &[u8],
+    script: &[u8],
+    starts: (&Variables, &Variables),
+    steps: (&[Step], &[Step]),
+) -> Check {
     let mut times = Times::default();
-    let start = (&of_model.start.variables, &of_table.start.variables);
-    times.states_agree("at the start", start.0, start.1)?;
-    for (step, other) in pairs(&of_model.steps, &of_table.steps)? {
+    times.states_agree("at the start", starts.0, starts.1)?;
+    for (step, other) in pairs(steps.0, steps.1)? {
         times.note(model, &script[other.start..other.end], &other.after);
         let part = |step: &Step| (step.start, step.end, step.after.answer);
         let what = format_args!("part of and answer to {step} by model and table");
@@ -265,8 +259,7 @@ pub fn demand_three(model: &[u8], script: &[u8], of_model: &Said, of_table: &Sai
         let states = (&step.after.variables, &other.after.variables);
         times.states_agree(format_args!("after {step}"), states.0, states.1)?;
     }
-    equal("run of model and table", &of_model.run, &of_table.run)?;
-    listing(&of_model.listings, &of_table.listings)
+    Ok(())
 }
 
 /// The figures that a table keeps and a shown state of the model does not: Due

@@ -1,20 +1,25 @@
 //! What the library says of an input.
 
+use std::cell::OnceCell;
+
 use futonkestrel::{events, raw};
 
 use crate::answers::{
-    After, Listing, Run, Said, Step, Told, Translation, Variables, BEHIND, BYTE, FIGURE, VARIABLES,
+    After, Listing, Run, Said, Step, Told, Translation, Variables, BEHIND, BYTE, DUE, END, FIGURE,
+    THREADS, VARIABLES,
 };
+use crate::stepped::{index_into, index_size, StateWalk};
 
 /// All that the library says of a model and a script as a whole. Listings go into
-/// outputs of the rooms given. [`crate::stepped`] has what is said event by event.
-pub fn of_model(model: &[u8], script: &[u8], rooms: &[usize]) -> Said {
+/// outputs of the rooms given. [`crate::stepped`] has what is said event by event,
+/// which stands in for the events of a long script that are not looked at here.
+pub fn of_model(model: &[u8], script: &[u8], rooms: &[usize], walk: &StateWalk) -> Said {
     let read = told(|told| raw::read_model(model, told));
     Said {
         read,
         start: model_after(model, &[], &[]),
         steps: if read.number == 0 {
-            model_steps(model, script)
+            model_steps(model, script, &walk.steps)
         } else {
             Vec::new()
         },
@@ -28,11 +33,11 @@ pub fn of_model(model: &[u8], script: &[u8], rooms: &[usize]) -> Said {
 /// All that the library says of a table and a script.
 pub fn of_table(table: &[u8], script: &[u8], rooms: &[usize]) -> Said {
     let read = told(|told| raw::read_table(table, told));
-    let start = lend_variables(&[FIGURE; VARIABLES], |lent| raw::table_start(table, lent));
+    let start = table_start(table);
     Said {
         read,
         steps: if read.number == 0 {
-            table_steps(table, &[], &start.variables, script)
+            table_steps(&Indexes::new(table, &[]), &start.variables, script)
         } else {
             Vec::new()
         },
@@ -42,6 +47,11 @@ pub fn of_table(table: &[u8], script: &[u8], rooms: &[usize]) -> Said {
         offers: Vec::new(),
         shown: Vec::new(),
     }
+}
+
+/// The variables as the start records have them.
+pub fn table_start(table: &[u8]) -> After {
+    lend_variables(&[FIGURE; VARIABLES], |lent| raw::table_start(table, lent))
 }
 
 pub fn translation(model: &[u8], room: usize) -> Translation {
@@ -104,24 +114,66 @@ fn model_after(model: &[u8], script: &[u8], event: &[u8]) -> After {
     })
 }
 
-/// Each look at the state runs the script again up to there.
-fn model_steps(model: &[u8], script: &[u8]) -> Vec<Step> {
+/// Each look at the state runs the script again up to there, so of a long script
+/// so many events are looked at, or a few more.
+const LOOKS: usize = 64;
+
+fn model_steps(model: &[u8], script: &[u8], walked: &[Step]) -> Vec<Step> {
+    let each = 1 + walked.len() / LOOKS;
     steps(script)
         .map(|(number, start, event)| Step {
             number,
             start,
             end: start + event.len(),
-            after: model_after(model, &script[..start], event),
+            after: match walked.get(number) {
+                Some(step) if number % each != 0 => without_times(&step.after),
+                _ => model_after(model, &script[..start], event),
+            },
         })
         .collect()
 }
 
+/// A state that is shown after a script has no Due and no End.
+fn without_times(after: &After) -> After {
+    let mut after = after.clone();
+    after.variables[DUE..DUE + THREADS].fill(0);
+    after.variables[END..END + THREADS].fill(0);
+    after
+}
+
+/// A table, an index of it, and its whole index, which is for the events at which
+/// a long table would be walked too often.
+pub struct Indexes<'a> {
+    pub table: &'a [u8],
+    given: &'a [usize],
+    whole: OnceCell<Vec<usize>>,
+}
+
+impl Indexes<'_> {
+    pub fn new<'a>(table: &'a [u8], given: &'a [usize]) -> Indexes<'a> {
+        Indexes {
+            table,
+            given,
+            whole: OnceCell::new(),
+        }
+    }
+
+    /// The index by which an event of this place among the others goes.
+    pub fn at(&self, number: usize) -> &[usize] {
+        if number < 4 + 250_000 / self.table.len().max(1) {
+            return self.given;
+        }
+        let whole = || index_into(self.table, index_size(self.table));
+        self.whole.get_or_init(whole)
+    }
+}
+
 /// A table stepped by an index; with an empty one it is walked.
-pub fn table_steps(table: &[u8], index: &[usize], start: &Variables, script: &[u8]) -> Vec<Step> {
+pub fn table_steps(indexes: &Indexes, start: &Variables, script: &[u8]) -> Vec<Step> {
     let mut variables = *start;
     steps(script)
         .map(|(number, start, event)| {
-            let after = lent_step(table, index, &variables, event);
+            let after = lent_step(indexes.table, indexes.at(number), &variables, event);
             variables = after.variables;
             Step {
                 number,

@@ -1,14 +1,16 @@
 //! Random cases that compare the verified library with the plain model.
 //!
 //! * [`random`], [`records`]: random numbers, records as bytes
-//! * [`models`], [`scripts`], [`tables`], [`damage`]: random inputs
+//! * [`models`], [`large`], [`scripts`], [`tables`], [`damage`]: random inputs
 //! * [`case`]: the inputs of one case
 //! * [`answers`]: what either side says of an input, in one form
 //! * [`wanted`], [`found`]: what the plain model says, what the library says
+//! * [`loose`]: what is promised of tables and indexes of any content
 //! * [`lending`], [`stepped`]: numbers lent to a call; what the library says event
 //!   by event on a lent state or by an index, and what is enabled
 //! * [`compare`]: the comparisons
-//! * [`check`], [`runner`], [`tally`]: one case, many cases, what they came to
+//! * [`check`], [`runner`]: one case, many cases
+//! * [`tally`], [`reach`]: what they came to, and by number
 
 pub mod answers;
 pub mod case;
@@ -16,9 +18,12 @@ pub mod check;
 pub mod compare;
 pub mod damage;
 pub mod found;
+pub mod large;
 pub mod lending;
+pub mod loose;
 pub mod models;
 pub mod random;
+pub mod reach;
 pub mod records;
 pub mod runner;
 pub mod scripts;

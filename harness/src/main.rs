@@ -2,7 +2,8 @@
 //!
 //!     harness [CASES] [--seed S] [--case N] [--only COMPARISON] [--threads T] [--trace]
 //!
-//! Prints a summary, or the first case with a difference and exit status 1.
+//! Without arguments it is the gate's run. Prints a summary, or the first case
+//! with a difference and exit status 1.
 //! `--trace` names each case before it is run, for a case that ends the program.
 
 use std::env;
@@ -32,13 +33,7 @@ fn main() {
 
 /// The plan that the arguments ask for.
 fn plan(mut arguments: impl Iterator<Item = String>) -> Result<Plan, String> {
-    let mut plan = Plan {
-        seed: 1,
-        cases: 0..20_000,
-        threads: 2,
-        only: None,
-        trace: false,
-    };
+    let mut plan = Plan::gate();
     while let Some(argument) = arguments.next() {
         let mut next = || arguments.next().unwrap_or_default();
         match argument.as_str() {

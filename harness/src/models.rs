@@ -1,12 +1,13 @@
 //! Random models. Most are accepted, and most of their events can happen.
 
 use crate::damage::{change_field, damage_records};
+use crate::large::large;
 use crate::random::Random;
 use crate::records::{model_body, operand, split, Record};
 
 /// A model of some style: plain ones often, rare shapes now and then.
 pub fn model(random: &mut Random) -> Vec<u8> {
-    match random.weighted(&[380, 170, 100, 15, 50, 20, 25, 1, 9, 220, 10]) {
+    match random.weighted(&[380, 170, 100, 15, 50, 20, 25, 1, 9, 220, 10, 18, 1]) {
         0 => drawn(random, few_threads),
         1 => drawn(random, flowing),
         2 => drawn(random, coinciding_threads),
@@ -17,7 +18,9 @@ pub fn model(random: &mut Random) -> Vec<u8> {
         7 => full(random).concat(),
         8 => one_too_many(random),
         9 => damaged(random),
-        _ => any_bytes(random),
+        10 => any_bytes(random),
+        11 => large(random),
+        _ => drawn(random, far_threads),
     }
 }
 
@@ -61,7 +64,12 @@ enum Figures {
     Extreme,
     /// Periods with a least common multiple near the last clock.
     Long,
+    /// Periods that soon lead to late clocks.
+    Far,
 }
+
+/// A behaviour state that no transition leaves.
+const AT_REST: u8 = 6;
 
 fn few_threads(random: &mut Random) -> Style {
     Style {
@@ -144,6 +152,16 @@ fn long_hyperperiods(random: &mut Random) -> Style {
         critical: 90,
         mode_transitions: 2,
         ..few_threads(random)
+    }
+}
+
+fn far_threads(random: &mut Random) -> Style {
+    Style {
+        modes: 2,
+        figures: Figures::Far,
+        mode_transitions: 2,
+        mask: 90,
+        ..extreme_figures(random)
     }
 }
 
@@ -259,10 +277,14 @@ impl Draft {
     }
 
     /// From the first behaviour state, mostly back to it, always with a new
-    /// value for some output port.
+    /// value for some output port; now and then it is the last one taken.
     fn add_steady_transition(&mut self, random: &mut Random, thread: usize) {
         let first_state = self.records[1 + thread][19];
-        let to = if random.chance(80) { first_state } else { 1 };
+        let to = match random.below(100) {
+            0..=64 => first_state,
+            65..=79 => 1,
+            _ => AT_REST,
+        };
         self.records.push(vec![0x08, thread as u8, first_state, to]);
         let (readable, outputs) = (self.readable(thread), owned(3, &self.outputs, thread));
         if !outputs.is_empty() {
@@ -291,13 +313,9 @@ impl Draft {
         let readable = self.readable(thread);
         let mut targets = owned(2, &self.locals, thread);
         targets.extend(owned(3, &self.outputs, thread));
-        for _ in 0..count.min(targets.len()) {
-            let (tag, number) = targets.swap_remove(random.below(targets.len()));
-            let left = [0x0A, tag, number, random.below(3) as u8];
-            let first = any_operand(random, &readable);
-            let second = any_operand(random, &readable);
-            self.records.push([&left[..], &first, &second].concat());
-        }
+        let any_op = |random: &mut Random| random.below(3) as u8;
+        self.records
+            .extend(assignments(random, &readable, targets, count, any_op));
     }
 
     /// The thread's input ports and locals, as tags and numbers.
@@ -306,6 +324,25 @@ impl Draft {
         items.extend(owned(2, &self.locals, thread));
         items
     }
+}
+
+/// Assignment records to some of the targets, each at most once.
+pub fn assignments(
+    random: &mut Random,
+    readable: &[(u8, u8)],
+    mut targets: Vec<(u8, u8)>,
+    count: usize,
+    any_op: impl Fn(&mut Random) -> u8,
+) -> Vec<Vec<u8>> {
+    let mut records = Vec::new();
+    for _ in 0..count.min(targets.len()) {
+        let (tag, number) = targets.swap_remove(random.below(targets.len()));
+        let left = [0x0A, tag, number, any_op(random)];
+        let first = any_operand(random, readable);
+        let second = any_operand(random, readable);
+        records.push([&left[..], &first, &second].concat());
+    }
+    records
 }
 
 /// The owners of some items; in a chain or ring every thread has the first few.
@@ -324,14 +361,16 @@ fn owners(random: &mut Random, style: &Style) -> Vec<usize> {
     owners
 }
 
-fn owned(tag: u8, owners: &[usize], thread: usize) -> Vec<(u8, u8)> {
+/// The items of a thread, as tags and numbers.
+pub fn owned(tag: u8, owners: &[usize], thread: usize) -> Vec<(u8, u8)> {
     (0..owners.len())
         .filter(|&item| owners[item] == thread)
         .map(|item| (tag, item as u8))
         .collect()
 }
 
-fn any_operand(random: &mut Random, readable: &[(u8, u8)]) -> Vec<u8> {
+/// A constant, or one of those.
+pub fn any_operand(random: &mut Random, readable: &[(u8, u8)]) -> Vec<u8> {
     if readable.is_empty() || random.chance(45) {
         operand(0, random.value())
     } else {
@@ -377,6 +416,10 @@ fn figures(random: &mut Random, figures: Figures) -> [usize; 4] {
             let [period, deadline] = ordered(random);
             let [max, min] = ordered(random);
             [period, deadline, min, max]
+        }
+        Figures::Far => {
+            let period = random.one_of(&[14_050, 17_600, 23_500, 35_200]);
+            with_small_lengths(random, period)
         }
         Figures::Long => {
             let period = random.one_of(&[

@@ -42,6 +42,13 @@ impl Random {
         choices[self.below(choices.len())]
     }
 
+    /// Puts things into some order.
+    pub fn shuffle<T>(&mut self, things: &mut [T]) {
+        for last in (1..things.len()).rev() {
+            things.swap(last, self.below(last + 1));
+        }
+    }
+
     /// The place of one of several weights, each as often as it weighs.
     pub fn weighted(&mut self, weights: &[usize]) -> usize {
         let mut left = self.below(weights.iter().sum());

@@ -20,6 +20,19 @@ pub struct Plan {
     pub trace: bool,
 }
 
+impl Plan {
+    /// What the gate runs.
+    pub fn gate() -> Plan {
+        Plan {
+            seed: 20_000,
+            cases: 0..20_000,
+            threads: 2,
+            only: None,
+            trace: false,
+        }
+    }
+}
+
 /// A case with differences.
 pub struct Failure {
     pub case: Case,

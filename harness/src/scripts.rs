@@ -7,8 +7,8 @@ use plain::model::{
     self, Model, State, EXECUTION, NONE, WAITING_DISPATCH, WAITING_EXECUTION, WAITING_MODE,
 };
 use plain::script::{
-    read_event, ACTIVATE, COMPLETE, DEACTIVATE, DEADLINE, DISPATCH, ENTER, LEAVE, MISS, REQUEST,
-    START, TICK,
+    read_event, ACTIVATE, COMPLETE, DEACTIVATE, DEADLINE, DISPATCH, ENTER, LAST_NOW, LEAVE, MISS,
+    REQUEST, START, TICK,
 };
 
 use crate::damage::damage_bytes;
@@ -21,12 +21,12 @@ pub struct Budget {
     pub ticks: usize,
 }
 
-/// A script for an accepted model.
-pub fn script(random: &mut Random, model: &Model, budget: Budget) -> Vec<u8> {
+/// A script for an accepted model in some state.
+pub fn script(random: &mut Random, model: &Model, state: State, budget: Budget) -> Vec<u8> {
     let noise = random.one_of(&[0, 0, 0, 5, 10, 25, 70]);
     let mut writer = Writer {
         model,
-        state: model::start_state(model),
+        state,
         noise,
         ticks: budget.ticks,
         script: Vec::new(),
@@ -34,6 +34,9 @@ pub fn script(random: &mut Random, model: &Model, budget: Budget) -> Vec<u8> {
     for _ in 0..budget.events {
         let event = writer.event(random);
         writer.give(event);
+        if writer.is_at_the_end() && random.chance(30) {
+            break;
+        }
     }
     let mut script = writer.script;
     if random.chance(8) {
@@ -112,6 +115,11 @@ impl Writer<'_> {
         self.script.extend(event);
     }
 
+    /// Whether there is no more time, and nothing is left to be done.
+    fn is_at_the_end(&self) -> bool {
+        self.state.now.0 >= u64::from(LAST_NOW) && self.urgent().is_empty()
+    }
+
     /// Mostly an event that is enabled now.
     fn event(&mut self, random: &mut Random) -> Vec<u8> {
         if random.chance(self.noise) {
@@ -128,6 +136,10 @@ impl Writer<'_> {
         let urgent = self.urgent();
         if urgent.is_empty() {
             return self.tick_onward(random);
+        }
+        if self.state.now.0 == u64::from(LAST_NOW) && random.chance(30) {
+            // What is due goes before the clock's end.
+            return tick(1);
         }
         let (mut kind, mut id) = random.one_of(&urgent);
         if random.chance(30) {
@@ -215,6 +227,11 @@ impl Writer<'_> {
             85..=94 => random.within(1, next.clamp(1, 100)),
             _ if random.chance(self.noise) => next + 1,
             _ => next,
+        };
+        let room = u64::from(LAST_NOW).saturating_sub(self.state.now.0) as usize;
+        let wanted = match random.chance(80) {
+            true => wanted.min(room),
+            false => wanted,
         };
         let count = wanted.clamp(1, self.ticks.clamp(1, 65_535));
         self.ticks = self.ticks.saturating_sub(count);

@@ -12,6 +12,8 @@ use crate::lending::{lend, lend_marks, Lending, Number};
 #[derive(Default)]
 pub struct StateWalk {
     pub read: Told,
+    /// The same into one number too few.
+    pub short_read: Told,
     /// None of the following where the model is refused.
     pub words: Vec<u32>,
     /// The state at the end.
@@ -26,7 +28,15 @@ pub struct StateWalk {
     pub short: Vec<Lending<u32>>,
 }
 
+/// Where the clock stands among the numbers of a state.
+const CLOCK_PLACE: usize = 0;
+
 pub fn on_state(model: &[u8], script: &[u8], more_rooms: bool) -> StateWalk {
+    on_late_state(model, 0, script, more_rooms)
+}
+
+/// The walk starts at that clock.
+pub fn on_late_state(model: &[u8], clock: u32, script: &[u8], more_rooms: bool) -> StateWalk {
     let mut walk = StateWalk::default();
     walk.read(model);
     if walk.read.number != 0 {
@@ -34,6 +44,7 @@ pub fn on_state(model: &[u8], script: &[u8], more_rooms: bool) -> StateWalk {
     }
     let words = walk.words.clone();
     walk.change(|state| raw::model_start(&words, state));
+    walk.state[CLOCK_PLACE] = clock;
     walk.look(more_rooms);
     for (number, start, event) in steps(script) {
         let answer = walk.change(|state| raw::model_step(&words, state, event));
@@ -56,21 +67,14 @@ impl StateWalk {
         let read = lend(&vec![u32::MARK; MODEL_WORDS], |words| {
             raw::model_read(model, words, &mut told)
         });
-        let [start, end] = told;
-        self.read = Told {
-            number: read.answer,
-            start,
-            end,
-        };
-        self.words = read.after.clone();
-        // What a refused model leaves in its own numbers is not looked at.
-        self.lendings.push(Lending {
-            before: read.after.clone(),
-            ..read
+        self.read = told_of(&read, told);
+        let mut told = [usize::MAX; 2];
+        let short = lend_marks(MODEL_WORDS - 1, |words| {
+            raw::model_read(model, words, &mut told)
         });
-        self.short.push(lend_marks(MODEL_WORDS - 1, |words| {
-            raw::model_read(model, words, &mut [])
-        }));
+        self.short_read = told_of(&short, told);
+        self.words.clone_from(&read.after);
+        self.lendings.extend([read, short]);
         self.state = vec![u32::MARK; STATE_WORDS];
     }
 
@@ -105,6 +109,14 @@ impl StateWalk {
                 raw::model_enabled(words, &state[..few], output, &mut [])
             }),
         ]);
+    }
+}
+
+fn told_of(lending: &Lending<u32>, [start, end]: [usize; 2]) -> Told {
+    Told {
+        number: lending.answer,
+        start,
+        end,
     }
 }
 

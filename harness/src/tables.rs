@@ -14,7 +14,7 @@ pub fn table_and_script(
     made: Option<&[u8]>,
     script: &[u8],
 ) -> (Vec<u8>, Vec<u8>) {
-    match (random.weighted(&[900, 400, 660, 37, 3]), made) {
+    match (random.weighted(&[900, 400, 660, 39, 1]), made) {
         (0, _) | (2, None) => wild(random),
         (1, _) => {
             let (table, script) = wild(random);

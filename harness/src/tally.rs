@@ -7,6 +7,7 @@ use crate::answers::{
     After, Offers, Said, Step, Translation, BEHAVIOR_STATE, FIRST_VALUE, MISSED, NOW, THREADS,
 };
 use crate::case::Case;
+use crate::reach::{add_each, Reach, KINDS, LATE};
 use crate::records::{model_body, split};
 
 /// Counts; those in arrays go by number of refusal, 0 for none, or by kind of
@@ -21,6 +22,8 @@ pub struct Tally {
     pub model_events: [u64; 14],
     pub table_events: [u64; 14],
     pub lent_steps: [u64; 14],
+    /// The same of tables and indexes of any content.
+    pub any_steps: [u64; 14],
     /// Events after which a model's state was looked at.
     pub shown: u64,
     /// Events taken by models, and by tables that no model made.
@@ -45,6 +48,10 @@ pub struct Tally {
     pub most_threads: u64,
     pub longest_model: u64,
     pub longest_made_table: u64,
+    /// What the events of models did, by number; and those at late clocks after
+    /// all the ticks up to there, by kind.
+    pub reach: Reach,
+    pub far: [u64; 12],
     /// How often each comparison was made.
     pub comparisons: BTreeMap<&'static str, u64>,
 }
@@ -93,6 +100,16 @@ impl Tally {
         );
     }
 
+    /// What the events of a model did, from its start and from a late clock on.
+    pub fn note_reach(&mut self, reach: &Reach) {
+        self.reach.add(reach);
+        add_each(&mut self.far, &reach.late);
+    }
+
+    pub fn note_late_reach(&mut self, reach: &Reach) {
+        self.reach.add(reach);
+    }
+
     pub fn note_offers_of_model(&mut self, wanted: &[Offers]) {
         note_offers(wanted, &mut self.offered_by_models);
     }
@@ -128,6 +145,12 @@ impl Tally {
         }
     }
 
+    pub fn note_any_steps(&mut self, wanted: &[After]) {
+        for after in wanted {
+            self.any_steps[after.answer as usize] += 1;
+        }
+    }
+
     /// This tally and that of other cases together.
     pub fn add(&mut self, other: &Tally) {
         self.cases += other.cases;
@@ -137,6 +160,7 @@ impl Tally {
         add_each(&mut self.model_events, &other.model_events);
         add_each(&mut self.table_events, &other.table_events);
         add_each(&mut self.lent_steps, &other.lent_steps);
+        add_each(&mut self.any_steps, &other.any_steps);
         add_each(&mut self.taken_by_models, &other.taken_by_models);
         add_each(&mut self.taken_by_tables, &other.taken_by_tables);
         add_each(&mut self.moved, &other.moved);
@@ -152,6 +176,8 @@ impl Tally {
         self.most_threads = self.most_threads.max(other.most_threads);
         self.longest_model = self.longest_model.max(other.longest_model);
         self.longest_made_table = self.longest_made_table.max(other.longest_made_table);
+        self.reach.add(&other.reach);
+        add_each(&mut self.far, &other.far);
         for (comparison, count) in &other.comparisons {
             *self.comparisons.entry(comparison).or_default() += count;
         }
@@ -176,12 +202,6 @@ fn note_offers(wanted: &[Offers], counts: &mut [u64; 12]) {
     }
 }
 
-fn add_each(counts: &mut [u64], others: &[u64]) {
-    for (count, other) in counts.iter_mut().zip(others) {
-        *count += other;
-    }
-}
-
 fn raise(most: &mut u64, figure: usize) {
     *most = (*most).max(figure as u64);
 }
@@ -196,6 +216,7 @@ impl Display for Tally {
             ("events on models", &self.model_events),
             ("events on tables", &self.table_events),
             ("single steps on lent variables", &self.lent_steps),
+            ("single steps of any content", &self.any_steps),
         ];
         for (what, counts) in by_number {
             writeln!(formatter, "{what}: {}", numbers(counts))?;
@@ -225,6 +246,13 @@ impl Display for Tally {
             self.longest_model,
             self.longest_made_table
         )?;
+        for (what, counts) in [
+            ("taken by models", &self.reach.late),
+            ("tick by tick", &self.far),
+        ] {
+            writeln!(formatter, "{what} above clock {LATE}: {}", kinds(counts))?;
+        }
+        write!(formatter, "{}", self.reach)?;
         let comparisons: Vec<String> = self
             .comparisons
             .iter()
@@ -246,20 +274,7 @@ fn numbers(counts: &[u64]) -> String {
 
 /// The kinds that there were.
 fn kinds(counts: &[u64]) -> String {
-    let names = [
-        "ACTIVATE",
-        "DEACTIVATE",
-        "DISPATCH",
-        "START",
-        "COMPLETE",
-        "DEADLINE",
-        "MISS",
-        "REQUEST",
-        "ENTER",
-        "LEAVE",
-        "TICK",
-    ];
-    let named = names.iter().zip(&counts[1..]).filter(|named| *named.1 > 0);
+    let named = KINDS.iter().zip(&counts[1..]).filter(|named| *named.1 > 0);
     let texts: Vec<String> = named
         .map(|(name, count)| format!("{name} {count}"))
         .collect();

@@ -1,8 +1,10 @@
 //! What the plain model says of an input.
 
-use plain::model::{self, Model, State};
+use std::cell::RefCell;
+
+use plain::model::{self, Duration, Model, State};
 use plain::refusal::{Refusal, EVENT};
-use plain::script::{self, Event, TICK};
+use plain::script::{self, Event};
 use plain::table::{self, Table};
 use plain::{listing, offers, show, translate};
 
@@ -10,59 +12,74 @@ use crate::answers::{
     After, Listing, Offers, Run, Said, Step, Told, Translation, Variables, BEHIND, BYTE, DUE, END,
     FIGURE, NOW, THREADS, VARIABLES,
 };
+use crate::case::Late;
+use crate::reach::Reach;
 
-/// All that is to be said of a model and a script. The listing goes into an
-/// output with room behind it and, with `more_rooms`, one that is too short.
-pub fn of_model(bytes: &[u8], script: &[u8], more_rooms: bool) -> Said {
+/// All that is to be said of a model and a script, and what the events did. The
+/// listing goes into an output with room behind it and, with `more_rooms`, one
+/// that is too short.
+pub fn of_model(bytes: &[u8], script: &[u8], more_rooms: bool) -> (Said, Reach) {
     let listings = into_rooms(listing::steps(bytes, script).as_bytes(), more_rooms);
     match model::read(bytes) {
-        Err(refusal) => refused(refusal, listings),
+        Err(refusal) => (refused(refusal, listings), Reach::default()),
         Ok(model) => {
             let start = model::start_state(&model);
+            let (seen, reach) = model_seen(&model, start.clone(), script);
             let step = |state: &State, event: &Event| model::step(&model, state, event);
-            let look = |state: &State| Look {
-                variables: show_without_times(&model, state),
-                shown: Some(show::show_jobs(&model, state)),
-                offers: offered(offers::of_model(&model, state)),
-            };
-            let seen = seen(script, start.clone(), step, look);
-            Said {
+            let said = Said {
                 read: Told::default(),
                 // It is shown by an empty event, which is refused.
-                start: after(EVENT, look(&start).variables),
+                start: after(EVENT, show_without_times(&model, &start)),
                 steps: seen.steps,
                 run: run(script, start, step, |state| state.now.0 as usize),
                 listings,
                 offers: seen.offers,
                 shown: seen.shown,
-            }
+            };
+            (said, reach)
         }
     }
 }
 
+/// What is seen along a script of a model whose clock starts late, and what the
+/// events did.
+pub fn of_late_model(bytes: &[u8], late: &Late) -> (Seen, Reach) {
+    let model = model::read(bytes).expect("an accepted model has a late clock");
+    let mut start = model::start_state(&model);
+    start.now = Duration(late.clock.into());
+    model_seen(&model, start, &late.script)
+}
+
+fn model_seen(model: &Model, start: State, script: &[u8]) -> (Seen, Reach) {
+    let reach = RefCell::new(Reach::default());
+    let step = |state: &State, event: &Event| {
+        let came = model::step(model, state, event);
+        reach.borrow_mut().note(model, state, event, &came);
+        came
+    };
+    let look = |state: &State| Look {
+        variables: show_without_times(model, state),
+        shown: Some(show::show_jobs(model, state)),
+        offers: offered(offers::of_model(model, state)),
+    };
+    let seen = seen(script, start, step, look);
+    (seen, reach.into_inner())
+}
+
 /// All that is to be said of a table and a script.
 pub fn of_table(bytes: &[u8], script: &[u8], more_rooms: bool) -> Said {
+    let listings = into_rooms(listing::of_table(bytes, script).as_bytes(), more_rooms);
     match table::read(bytes) {
-        Err(refusal) => {
-            let line = format!("end 0 {} 0\n", refusal.number);
-            refused(refusal, into_rooms(line.as_bytes(), more_rooms))
-        }
+        Err(refusal) => refused(refusal, listings),
         Ok(table) => {
             let start = table::start_state(&table);
+            let seen = table_seen(&table, start, script);
             let step = |state: &Variables, event: &Event| table::step(&table, state, event);
-            let look = |state: &Variables| Look {
-                variables: *state,
-                shown: None,
-                offers: table_offers(&table, state),
-            };
-            let seen = seen(script, start, step, look);
-            let run = run(script, start, step, |state| state[NOW] as usize);
-            let listings = into_rooms(lines(script, &seen.steps, &run).as_bytes(), more_rooms);
             Said {
                 read: Told::default(),
                 start: after(0, start),
                 steps: seen.steps,
-                run,
+                run: run(script, start, step, |state| state[NOW] as usize),
                 listings,
                 offers: seen.offers,
                 shown: seen.shown,
@@ -71,14 +88,22 @@ pub fn of_table(bytes: &[u8], script: &[u8], more_rooms: bool) -> Said {
     }
 }
 
-/// The same with the listing that the program `rules` prints for the model where
-/// it has room for every table.
-pub fn of_rules(made: &[u8], model: &[u8], script: &[u8], more_rooms: bool) -> Said {
-    let listing = listing::rules(model, script, usize::MAX);
-    Said {
-        listings: into_rooms(listing.as_bytes(), more_rooms),
-        ..of_table(made, script, more_rooms)
-    }
+/// The same as for a model, of its table.
+pub fn of_late_table(bytes: &[u8], late: &Late) -> Seen {
+    let table = table::read(bytes).expect("a made table is accepted");
+    let mut start = table::start_state(&table);
+    start[NOW] = late.clock as i32;
+    table_seen(&table, start, &late.script)
+}
+
+fn table_seen(table: &Table, start: Variables, script: &[u8]) -> Seen {
+    let step = |state: &Variables, event: &Event| table::step(table, state, event);
+    let look = |state: &Variables| Look {
+        variables: *state,
+        shown: None,
+        offers: table_offers(table, state),
+    };
+    seen(script, start, step, look)
 }
 
 /// The table made from a model, into an output of some room.
@@ -177,10 +202,10 @@ struct Look {
 
 /// What is seen along a script; offers and what is shown at the start too.
 #[derive(Default)]
-struct Seen {
-    steps: Vec<Step>,
-    shown: Vec<Variables>,
-    offers: Vec<Offers>,
+pub struct Seen {
+    pub steps: Vec<Step>,
+    pub shown: Vec<Variables>,
+    pub offers: Vec<Offers>,
 }
 
 fn seen<S>(
@@ -219,22 +244,6 @@ fn run<S>(
         taken,
         clock: clock(&state),
     }
-}
-
-/// The listing of a table that no model made; the plain model itself lists made
-/// tables only.
-fn lines(script: &[u8], steps: &[Step], run: &Run) -> String {
-    let mut lines = String::new();
-    for step in steps.iter().take(run.taken) {
-        let (kind, id_or_n) = match script[step.start..step.end] {
-            [TICK, low, high] => (TICK, u16::from_le_bytes([low, high])),
-            [kind, id, ..] => (kind, id.into()),
-            _ => continue,
-        };
-        let (number, clock) = (step.number + 1, step.after.variables[NOW]);
-        lines += &format!("{number} {clock} {kind} {id_or_n}\n");
-    }
-    lines + &format!("end {} {} {}\n", run.taken, run.told.number, run.clock)
 }
 
 fn into_rooms(listing: &[u8], more_rooms: bool) -> Vec<Listing> {

@@ -3,7 +3,9 @@
 //! moved, each cut. Library and plain model read all of them alike.
 
 use harness::answers::{Listed, Said};
+use harness::found::Indexes;
 use harness::records::{fields, model_body, split, table_body, Record};
+use harness::stepped::StateWalk;
 use harness::{compare, found, stepped, wanted};
 
 /// A model with all kinds of records, small enough to change it everywhere.
@@ -143,8 +145,8 @@ fn every_move(records: Vec<Record>) -> Vec<Vec<u8>> {
 type Counts = [usize; 8];
 
 fn agree_on_model(counts: &mut Counts, bytes: &[u8]) {
-    let wanted = wanted::of_model(bytes, &[], false);
-    let found = found::of_model(bytes, &[], &[]);
+    let (wanted, _) = wanted::of_model(bytes, &[], false);
+    let found = found::of_model(bytes, &[], &[], &StateWalk::default());
     let on_state = stepped::on_state(bytes, &[], false);
     compare::reading(&wanted.read, &found.read)
         .and_then(|()| compare::reading(&wanted.read, &on_state.read))
@@ -183,7 +185,7 @@ fn agree_by_index(bytes: &[u8], wanted: &Said, found: &Said) {
     let after = found.steps.iter().map(|step| &step.after.variables);
     for room in [stepped::index_size(bytes), 4] {
         let index = stepped::index_into(bytes, room);
-        let steps = found::table_steps(bytes, &index, start, SCRIPT);
+        let steps = found::table_steps(&Indexes::new(bytes, &index), start, SCRIPT);
         let offers = |variables| stepped::table_offers(bytes, &index, variables, false);
         let stages = std::iter::once(start).chain(after.clone());
         let offers: Vec<Listed> = stages.map(offers).collect();
@@ -196,8 +198,8 @@ fn agree_by_index(bytes: &[u8], wanted: &Said, found: &Said) {
 
 fn agree_on_script(script: &[u8]) {
     let model = model();
-    let wanted = wanted::of_model(&model, script, false);
-    let found = found::of_model(&model, script, &[]);
+    let (wanted, _) = wanted::of_model(&model, script, false);
+    let found = found::of_model(&model, script, &[], &StateWalk::default());
     let on_state = stepped::on_state(&model, script, false);
     compare::answers(&wanted.steps, &on_state.steps)
         .and_then(|()| compare::shown(&wanted.shown, &on_state.shown))

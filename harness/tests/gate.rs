@@ -1,28 +1,26 @@
-//! Twenty thousand cases of a fixed seed: no difference, and enough of
+//! The gate: many cases of a fixed seed, no difference, and enough of
 //! everything that can happen.
 
+use harness::reach::Reach;
 use harness::runner::{self, Plan};
 use harness::tally::Tally;
-
-const SEED: u64 = 20_000;
-const CASES: u64 = 20_000;
+use plain::script::{
+    ACTIVATE, COMPLETE, DEACTIVATE, DEADLINE, DISPATCH, ENTER, LEAVE, MISS, REQUEST, START,
+};
 
 #[test]
 fn library_and_plain_model_agree() {
-    let outcome = runner::run(&Plan {
-        seed: SEED,
-        cases: 0..CASES,
-        threads: 2,
-        only: None,
-        trace: false,
-    });
+    let plan = Plan::gate();
+    let outcome = runner::run(&plan);
     print!("{}", outcome.tally);
     if let Some(failure) = outcome.failure {
         panic!("{}", failure.report());
     }
-    assert_eq!(outcome.tally.cases, CASES);
+    assert_eq!(outcome.tally.cases, plan.cases.end);
     inputs_are_of_all_sorts(&outcome.tally);
     runs_go_far(&outcome.tally);
+    every_number_has_its_part(&outcome.tally.reach);
+    thin_places_are_met(&outcome.tally);
     every_comparison_is_made(&outcome.tally);
 }
 
@@ -57,7 +55,7 @@ fn inputs_are_of_all_sorts(tally: &Tally) {
     at_least(
         "tables",
         &tally.tables,
-        &[(0, 10_000), (1, 100), (2, 1_500), (3, 10), (4, 2_000)],
+        &[(0, 10_000), (1, 100), (2, 1_500), (3, 4), (4, 2_000)],
     );
     assert_eq!(tally.most_threads, 16);
     assert_eq!(tally.longest_model, 6_995);
@@ -93,6 +91,11 @@ fn runs_go_far(tally: &Tally) {
             (13, 500),
         ],
     );
+    at_least(
+        "single steps of any content",
+        &tally.any_steps,
+        &[(0, 2_000), (9, 500), (10, 10_000), (11, 1_000), (12, 100)],
+    );
     for kind in 1..=11 {
         at_least("taken by models", &tally.taken_by_models, &[(kind, 200)]);
         at_least("taken by tables", &tally.taken_by_tables, &[(kind, 1_000)]);
@@ -123,9 +126,58 @@ fn runs_go_far(tally: &Tally) {
     assert!(tally.most_missed >= 20, "{}", tally.most_missed);
 }
 
+/// Each of the counts is at least the floor.
+fn all_at_least(what: &str, counts: &[u64], floor: u64) {
+    let floors: Vec<(usize, u64)> = (0..counts.len()).map(|number| (number, floor)).collect();
+    at_least(what, counts, &floors);
+}
+
+/// By thread, mode transition, mode, connection and behaviour transition.
+fn every_number_has_its_part(reach: &Reach) {
+    for (kind, floor) in [
+        (ACTIVATE, 150),
+        (DEACTIVATE, 20),
+        (DISPATCH, 300),
+        (START, 200),
+        (COMPLETE, 200),
+        (DEADLINE, 150),
+        (MISS, 80),
+        (REQUEST, 30),
+        (ENTER, 30),
+        (LEAVE, 20),
+    ] {
+        let what = format!("kind {kind} by number");
+        all_at_least(&what, &reach.taken[usize::from(kind)], floor);
+    }
+    all_at_least("ENTER by new mode", &reach.entered, 50);
+    all_at_least("LEAVE by new mode", &reach.left, 50);
+    all_at_least("sends by connection", &reach.sent, 30);
+    all_at_least("guards by transition", &reach.guarded, 15);
+    all_at_least("assignments by transition", &reach.assigned, 20);
+}
+
+fn thin_places_are_met(tally: &Tally) {
+    let places = &tally.reach.places;
+    for (what, count, floor) in [
+        ("default sends", places.default_sends, 20),
+        ("guards of four atoms", places.four_atoms, 500),
+        ("sums that wrap", places.wrapped_sums, 200),
+        ("differences that wrap", places.wrapped_differences, 100),
+        ("past the last clock", places.past_the_last_clock, 500),
+        ("held at the last clock", places.held_at_the_last_clock, 200),
+    ] {
+        assert!(count >= floor, "{what}: {count} below {floor}");
+    }
+    all_at_least("late, by kind", &tally.reach.late[1..], 50);
+    for kind in [DISPATCH, START, COMPLETE, DEADLINE, ENTER, LEAVE] {
+        let floor = (usize::from(kind), 10);
+        at_least("late after all ticks, by kind", &tally.far, &[floor]);
+    }
+}
+
 fn every_comparison_is_made(tally: &Tally) {
     assert_eq!(tally.comparisons.len(), 33, "{:?}", tally.comparisons);
     for (comparison, &count) in &tally.comparisons {
-        assert!(count >= CASES / 2, "{comparison} made {count} times");
+        assert!(count >= tally.cases / 5, "{comparison} made {count} times");
     }
 }

@@ -4,6 +4,11 @@ use futonkestrel::{
     events, model_after, run_model, run_table, translate_to_vec, Model, Refusal, Run, Table,
     VARIABLES,
 };
+use harness::case::Late;
+use harness::random::Random;
+use harness::scripts::{self, Budget};
+use harness::wanted;
+use plain::model::{self, Duration};
 
 /// The head alone: no thread, nothing that time waits for.
 const HEAD: &[u8] = &[0x01, 1, 0];
@@ -80,4 +85,69 @@ fn time_may_pass_up_to_the_last_clock() {
         assert_eq!(model.step(&mut state, &tick(ticks)), answer);
         assert_eq!(table.step(&mut variables, &tick(ticks)), answer);
     }
+}
+
+/// A thread that the second mode has alone.
+fn thread(period: u8, deadline: u8, longest: u8) -> Vec<u8> {
+    let figures = [period, deadline, 1, longest].map(|figure| [figure, 0, 0, 0]);
+    [&[0x02], &figures.concat()[..], &[0b10, 0, 0]].concat()
+}
+
+/// Two threads that are idle until the mode changes; the first sends a count to
+/// the second.
+fn idle_model() -> Vec<u8> {
+    let records: [&[u8]; 9] = [
+        &[0x01, 2, 0],
+        &thread(2, 2, 1),
+        &thread(5, 4, 2),
+        &[0x03, 1, 0x04, 0, 0x05, 0, 0, 0, 0, 0],
+        &[0x06, 0, 0, 0, 0b10],
+        &[0x07, 0, 1],
+        &[0x07, 1, 0],
+        &[0x08, 0, 0, 0],
+        &[0x0A, 3, 0, 2, 2, 0, 0, 0, 0, 0, 1, 0, 0, 0],
+    ];
+    records.concat()
+}
+
+/// A script whose first events are ticks of an idle model, up to a clock.
+fn after_ticks_up_to(clock: u32, script: &[u8]) -> Vec<u8> {
+    let most = u32::from(u16::MAX);
+    let mut whole = tick(u16::MAX).repeat((clock / most) as usize);
+    whole.extend(tick((clock % most) as u16));
+    whole.extend(script);
+    whole
+}
+
+/// While a model is idle its ticks move the clock alone: so the plain model starts
+/// where the library comes by a run of all of them.
+#[test]
+fn threads_stop_at_the_last_clock() {
+    let bytes = idle_model();
+    let read = model::read(&bytes).expect("accepted");
+    let random = &mut Random::new(1, 0);
+    let (mut past, mut held) = (0, 0);
+    for _ in 0..40 {
+        let clock = 999_999_999 - random.below(30) as u32;
+        let mut start = model::start_state(&read);
+        start.now = Duration(clock.into());
+        let budget = Budget {
+            events: 40,
+            ticks: 40,
+        };
+        let script = scripts::script(random, &read, start, budget);
+        let whole = after_ticks_up_to(clock, &script);
+        let before = whole.len() - script.len();
+        let (wanted, reach) = wanted::of_late_model(&bytes, &Late { clock, script });
+        past += reach.places.past_the_last_clock;
+        held += reach.places.held_at_the_last_clock;
+        for step in wanted.steps {
+            let (start, end) = (before + step.start, before + step.end);
+            let mut variables = [0; VARIABLES];
+            let answer = model_after(&bytes, &whole[..start], &whole[start..end], &mut variables);
+            assert_eq!(answer, step.after.answer, "{step} of {whole:02x?}");
+            assert!(variables == step.after.variables, "{step} of {whole:02x?}");
+        }
+    }
+    assert!(past >= 3 && held >= 10, "{past} past, {held} held");
 }

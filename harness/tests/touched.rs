@@ -3,6 +3,7 @@
 
 use harness::answers::{After, Listing, Said, Step, Told, Translation};
 use harness::answers::{BEHIND, BYTE, FIGURE, VARIABLES};
+use harness::stepped::StateWalk;
 use harness::{compare, found};
 
 fn listing(length: usize, output: &[u8]) -> Vec<Listing> {
@@ -74,21 +75,6 @@ fn figures_behind_the_variables() {
     assert!(compare::lent_steps(&good, &bad).is_err());
 }
 
-#[test]
-fn any_step() {
-    let before = [7; VARIABLES];
-    assert!(compare::any_step(&before, &untouched()).is_ok());
-    assert!(compare::any_step(&before, &written_behind()).is_err());
-    assert!(compare::any_step(&[6; VARIABLES], &untouched()).is_err());
-    let answered = |answer| After {
-        answer,
-        ..untouched()
-    };
-    assert!(compare::any_step(&[6; VARIABLES], &answered(0)).is_ok());
-    assert!(compare::any_step(&before, &answered(8)).is_err());
-    assert!(compare::any_step(&before, &answered(14)).is_err());
-}
-
 /// One thread of a Period, a Deadline, Min 1, Max 5; and an input port.
 fn model(period: u8, deadline: u8) -> Vec<u8> {
     let mut model = vec![0x01, 1, 0, 0x02];
@@ -105,7 +91,7 @@ const SCRIPT: &[u8] = &[
 ];
 
 fn of_model() -> Said {
-    found::of_model(&model(5, 4), SCRIPT, &[200])
+    found::of_model(&model(5, 4), SCRIPT, &[200], &StateWalk::default())
 }
 
 fn of_table(table: &[u8]) -> Said {

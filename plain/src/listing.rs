@@ -36,8 +36,15 @@ pub fn steps(model_bytes: &[u8], script: &[u8]) -> String {
 /// What `rules` prints: the run of the table made from the model, read back
 /// from its bytes.
 pub fn rules(model_bytes: &[u8], script: &[u8], room: usize) -> String {
-    let table = translate::translate(model_bytes, room).and_then(|bytes| table::read(&bytes));
-    match table {
+    match translate::translate(model_bytes, room) {
+        Err(refusal) => last_line(0, refusal.number, 0),
+        Ok(table_bytes) => of_table(&table_bytes, script),
+    }
+}
+
+/// The same lines for any table, made or not.
+pub fn of_table(table_bytes: &[u8], script: &[u8]) -> String {
+    match table::read(table_bytes) {
         Err(refusal) => last_line(0, refusal.number, 0),
         Ok(table) => run_lines(
             script,

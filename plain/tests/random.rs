@@ -6,6 +6,7 @@ mod common;
 
 use common::simulation;
 use plain::model::{self, Model, State};
+use plain::refusal::Refusal;
 use plain::script::{
     read_event, run_on, Event, ACTIVATE, COMPLETE, DEACTIVATE, DEADLINE, DISPATCH, ENTER, LEAVE,
     MISS, REQUEST, START, TICK,
@@ -424,21 +425,154 @@ fn damaged_tables_are_refused_or_run() {
     );
 }
 
+/// Some whole records of any content, mostly in the order of their kinds, and
+/// now and then cut.
+fn random_records(random: &mut Random, kinds: &[u8], body_length: fn(u8) -> usize) -> Vec<u8> {
+    let mut kinds: Vec<u8> = (0..random.below(8)).map(|_| random.one_of(kinds)).collect();
+    if random.chance(70) {
+        kinds.sort_unstable();
+    }
+    let mut bytes = Vec::new();
+    for kind in kinds {
+        bytes.push(kind);
+        let body = (0..body_length(kind)).map(|_| random.one_of(&[0, 0, 0, 0, 0, 1, 1, 2, 255]));
+        bytes.extend(body);
+    }
+    if random.chance(20) {
+        bytes.truncate(random.below(bytes.len() + 1));
+    }
+    bytes
+}
+
+/// A head and two threads.
+const TWO_THREADS: &[u8] = &[
+    1, 1, 0, // one mode
+    2, 2, 0, 0, 0, 2, 0, 0, 0, 1, 0, 0, 0, 1, 0, 0, 0, 1, 0, 0, // Period 2
+    2, 3, 0, 0, 0, 2, 0, 0, 0, 1, 0, 0, 0, 2, 0, 0, 0, 0, 1, 0, // Period 3
+];
+
+/// The body lengths of document 01, written here apart from the readers.
+fn model_body(kind: u8) -> usize {
+    [0, 2, 19, 1, 1, 5, 4, 2, 3, 8, 13][usize::from(kind).min(10)]
+}
+
+fn table_body(kind: u8) -> usize {
+    match kind {
+        0x20..=0x24 => [6, 10, 0, 8, 16][usize::from(kind) - 0x20],
+        _ => 0,
+    }
+}
+
+/// What a refusal of bytes promises: the records before the part are accepted by
+/// themselves, the part is one whole record or goes up to the end, and what
+/// follows it has no say.
+fn refusal_fits<T>(
+    bytes: &[u8],
+    refusal: Refusal,
+    read: fn(&[u8]) -> Result<T, Refusal>,
+    known: std::ops::RangeInclusive<u8>,
+    body_length: fn(u8) -> usize,
+) {
+    let Refusal { number, start, end } = refusal;
+    assert!(start <= end && end <= bytes.len(), "{refusal:?}");
+    assert!(
+        start == 0 || read(&bytes[..start]).is_ok(),
+        "{refusal:?} of {bytes:02x?}"
+    );
+    assert_eq!(read(&bytes[..end]).err(), Some(refusal), "{bytes:02x?}");
+    let Some(&kind) = bytes.get(start) else {
+        // No record at all, and so no head.
+        assert_eq!((number, start, bytes.len()), (2, 0, 0));
+        return;
+    };
+    let whole = start + 1 + body_length(kind);
+    match number {
+        1 => assert!(known.contains(&kind) && whole > bytes.len() && end == bytes.len()),
+        2 if !known.contains(&kind) => assert_eq!(end, bytes.len(), "{bytes:02x?}"),
+        2..=7 => assert_eq!(end, whole, "{refusal:?} of {bytes:02x?}"),
+        _ => panic!("{refusal:?} of {bytes:02x?}"),
+    }
+}
+
 #[test]
 fn any_bytes_are_read() {
     let mut random = Random(0x0123_4567_89AB_CDEF);
-    for _ in 0..20_000 {
-        let bytes: Vec<u8> = (0..random.below(60))
-            .map(|_| (random.next() >> 40) as u8 % 48)
-            .collect();
-        for refusal in [model::read(&bytes).err(), table::read(&bytes).err()]
-            .into_iter()
-            .flatten()
-        {
-            assert!(refusal.start <= refusal.end && refusal.end <= bytes.len());
+    let (mut models, mut tables, mut events) = ([0; 8], [0; 8], [0; 2]);
+    for case in 0..60_000 {
+        let bytes: Vec<u8> = match case % 3 {
+            0 => (0..random.below(60))
+                .map(|_| (random.next() >> 40) as u8 % 48)
+                .collect(),
+            1 => {
+                let kinds = [3, 3, 4, 4, 5, 5, 6, 6, 7, 8, 9, 10];
+                let records = random_records(&mut random, &kinds, model_body);
+                [TWO_THREADS, &records].concat()
+            }
+            _ => random_records(&mut random, &[0x20, 0x21, 0x22, 0x23, 0x24], table_body),
+        };
+        let refusal = model::read(&bytes).err();
+        models[refusal.map_or(0, |refusal| usize::from(refusal.number))] += 1;
+        match refusal {
+            Some(refusal) => refusal_fits(&bytes, refusal, model::read, 1..=10, model_body),
+            None => drop(simulation(&bytes, &[]).expect("model and table agree at the start")),
         }
-        if let Ok((_, end)) = read_event(&bytes, 0) {
-            assert!(0 < end && end <= bytes.len());
+        let refusal = table::read(&bytes).err();
+        tables[refusal.map_or(0, |refusal| usize::from(refusal.number))] += 1;
+        if let Some(refusal) = refusal {
+            refusal_fits(&bytes, refusal, table::read, 0x20..=0x24, table_body);
+        }
+        if !bytes.is_empty() {
+            let taken = any_event_is_read(&bytes);
+            events[usize::from(taken)] += 1;
+        }
+    }
+    for (what, counts) in [("models", models), ("tables", tables)] {
+        for number in [0, 1, 2, 4] {
+            assert!(counts[number] > 500, "{what}, {number}: {counts:?}");
+        }
+    }
+    assert!(events.iter().all(|&count| count > 1_000), "{events:?}");
+}
+
+/// The event at the start of some bytes, and whether there is one: it is what its
+/// bytes say, or the part that is refused is.
+fn any_event_is_read(bytes: &[u8]) -> bool {
+    let kind = bytes[0];
+    let length = match kind {
+        START => 6,
+        TICK => 3,
+        ACTIVATE..=LEAVE => 2,
+        _ => bytes.len(),
+    };
+    match read_event(bytes, 0) {
+        Ok((event, end)) => {
+            assert_eq!((event.kind, end), (kind, length), "{bytes:02x?}");
+            let figure = |bytes: &[u8]| {
+                bytes
+                    .iter()
+                    .rev()
+                    .fold(0, |sum, &byte| sum * 256 + u64::from(byte))
+            };
+            let wanted = match kind {
+                TICK => (0, 0, figure(&bytes[1..3])),
+                START => (bytes[1], figure(&bytes[2..6]), 0),
+                _ => (bytes[1], 0, 0),
+            };
+            let found = (event.id, u64::from(event.length), u64::from(event.ticks));
+            assert_eq!(found, wanted, "{bytes:02x?}");
+            true
+        }
+        Err(refusal) => {
+            let wanted = Refusal {
+                number: 9,
+                start: 0,
+                end: length.min(bytes.len()),
+            };
+            assert_eq!(refusal, wanted, "{bytes:02x?}");
+            let known = (ACTIVATE..=TICK).contains(&kind);
+            let none = kind == TICK && bytes.len() >= 3 && bytes[1..3] == [0, 0];
+            assert!(!known || bytes.len() < length || none, "{bytes:02x?}");
+            false
         }
     }
 }

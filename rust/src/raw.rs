@@ -357,9 +357,9 @@ pub fn state_words() -> usize {
     unsafe { fk_state_words() }
 }
 
-/// Reads a model into `words`. The result is 0 to 7, or 8 for fewer words than a
-/// model takes, which then stay as they were; told are start and end of the part
-/// refused. A refused model leaves words that stand for an empty one.
+/// Reads a model into `words`. The result is 0, or the model's refusal, 1 to 7, or
+/// 8 for fewer words than a model takes; any but 0 leaves the words as they were.
+/// Told are start and end of the part refused.
 pub fn model_read(model: &[u8], words: &mut [u32], told: &mut [usize]) -> u32 {
     // SAFETY: pointers and counts are those of slices.
     unsafe {

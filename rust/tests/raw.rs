@@ -424,7 +424,8 @@ fn model_read_tells_the_part() {
     let read = |model: &[u8], told: &mut [usize]| {
         let mut words = vec![WORD; MODEL_WORDS + 3];
         let number = raw::model_read(model, &mut words, told);
-        assert_eq!(words[MODEL_WORDS..], [WORD; 3]);
+        let kept = if number == 0 { MODEL_WORDS } else { 0 };
+        assert!(words[kept..].iter().all(|&word| word == WORD));
         number
     };
     tells(&[0, 0], 0, |told| read(M, told));
@@ -435,14 +436,17 @@ fn model_read_tells_the_part() {
 
 #[test]
 fn model_read_wants_room() {
-    for (model, length) in [(M, 0), (M, 1), (M, MODEL_WORDS - 1), (&M[..9], 5), (&[], 0)] {
-        let end = model.len();
-        tells(&[end, end], 8, |told| {
-            let mut words = vec![WORD; MODEL_WORDS];
-            let number = raw::model_read(model, &mut words[..length], told);
-            assert!(words.iter().all(|&word| word == WORD));
-            number
-        });
+    let read = |model: &[u8], length: usize, told: &mut [usize]| {
+        let mut words = vec![WORD; MODEL_WORDS];
+        let number = raw::model_read(model, &mut words[..length], told);
+        assert!(words.iter().all(|&word| word == WORD));
+        number
+    };
+    for length in [0, 1, MODEL_WORDS - 1] {
+        tells(&[M.len(), M.len()], 8, |told| read(M, length, told));
+        // The model's own refusal comes first.
+        tells(&[3, 9], 1, |told| read(&M[..9], length, told));
+        tells(&[0, 0], 2, |told| read(&[], length, told));
     }
 }
 

@@ -296,7 +296,7 @@ fn complete(model: &Model, state: &mut State, thread: usize) {
 
 /// Transition priority: the lowest number that leaves the present behaviour
 /// state with a true guard.
-fn first_enabled<'a>(
+pub fn first_enabled<'a>(
     model: &'a Model,
     state: &State,
     thread: usize,

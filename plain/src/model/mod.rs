@@ -5,8 +5,8 @@ mod machine;
 mod reader;
 
 pub use machine::{
-    due, enabled, item_count, start_state, step, State, ThreadState, COMPLETED, EXECUTION, NONE,
-    WAITING_DISPATCH, WAITING_EXECUTION, WAITING_MODE,
+    due, enabled, first_enabled, item_count, start_state, step, State, ThreadState, COMPLETED,
+    EXECUTION, NONE, WAITING_DISPATCH, WAITING_EXECUTION, WAITING_MODE,
 };
 pub use reader::{hyperperiod, read};
 
