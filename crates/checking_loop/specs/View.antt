@@ -21,9 +21,12 @@ use Rattle.checking_loop.specs.declared.Turn.{Turn}
 abbrev pub viewOf : State → ℕ → View
 viewOf s n = record { clock = s .clock .now; mode = s .clock .mode; phase = s .clock .phase; taken = n }
 
--- one event more; the count has 64 bits, and stops at the last number that they hold, 18,446,744,073,709,551,615
+-- one event more; the count has 64 bits, and stops at the last number that they hold
+abbrev pub lastCount : ℕ
+lastCount = 18446744073709551615
+
 unfoldable pub nextCount : ℕ → ℕ
-nextCount n = cond (ltb n 18446744073709551615) (n + 1) n
+nextCount n = cond (ltb n lastCount) (n + 1) n
 
 -- "lends its state and gets it back one event further": where the event is taken, a view of the state after it with one event more;
 -- where it is refused, the view as it was

@@ -25,64 +25,67 @@ pub struct Turn {
 }
 
 // The view of a state, with a count.
-fn view_with(s: StateWords, n: u64) -> View
-    ensures { λ v. ⌜ v ≡ viewOf (stateIn (s .word)) n ⌝ }
+fn view_with(state: StateWords, count: u64) -> View
+    ensures { λ v. ⌜ v ≡ viewOf (stateIn (state .word)) count ⌝ }
 {
-    let l = s.word;
-    let k = clock_of(&l);
-    let now = k.now;
+    let list = state.word;
+    let clock = clock_of(&list);
+    let now = clock.now;
     View {
         clock: now,
-        mode: k.mode,
-        phase: k.phase,
-        taken: n,
+        mode: clock.mode,
+        phase: clock.phase,
+        taken: count,
     }
 }
 
 // The view with which a loop begins.
-pub fn view_of(s: StateWords) -> View
-    ensures { λ v. ⌜ v ≡ viewOf (stateIn (s .word)) 0 ⌝ }
+pub fn view_of(state: StateWords) -> View
+    ensures { λ v. ⌜ v ≡ viewOf (stateIn (state .word)) 0 ⌝ }
 {
-    view_with(s, 0)
+    view_with(state, 0)
 }
 
-// One event more, and no more than 64 bits hold.
-fn next_count(n: u64) -> u64
-    ensures { λ r. ⌜ r ≡ nextCount n ⌝ }
+// The last number that 64 bits hold.
+const LAST_COUNT: u64 = 18446744073709551615;
+
+// One event more, and no more than they hold.
+fn next_count(count: u64) -> u64
+    ensures { λ r. ⌜ r ≡ nextCount count ⌝ }
 {
-    if n < 18446744073709551615 { n + 1 } else { n }
+    if count < LAST_COUNT { count + 1 } else { count }
 }
 
 // The view after an answer: of the state after it and one event more where the event is taken, else as it was.
-pub fn view_after(v: View, r: Answered) -> View
-    ensures { λ w. ⌜ w ≡ viewAfter v (toldBy r) ⌝ }
+pub fn view_after(view: View, answered: Answered) -> View
+    ensures { λ w. ⌜ w ≡ viewAfter view (toldBy answered) ⌝ }
 {
-    let c = r.answer;
-    if !records::is_none(c) {
-        return v;
+    let cause = answered.answer;
+    if !records::is_none(cause) {
+        return view;
     }
-    let s = r.state;
-    let n = next_count(v.taken);
-    view_with(s, n)
+    let state = answered.state;
+    let count = next_count(view.taken);
+    view_with(state, count)
 }
 
 // One event. The view is lent, and comes back one event further.
-pub fn advance(view: &mut View, m: ModelWords, s: StateWords, e: Event) -> Answered
-    ensures { λ r. ⌜ Steps m s e r × (now (view .exit) ≡ viewAfter (now (view .entry)) (stepIn m s e)) ⌝ }
+pub fn advance(view: &mut View, model: ModelWords, state: StateWords, event: Event) -> Answered
+    ensures { λ answered. ⌜ Steps model state event answered × (now (view .exit) ≡ viewAfter (now (view .entry)) (stepIn model state event)) ⌝ }
 {
-    let r = model_by_value::step(m, s, e);
-    *view = view_after(*view, r);
-    r
+    let answered = model_by_value::step(model, state, event);
+    *view = view_after(*view, answered);
+    answered
 }
 
 // A turn for callers that lend nothing: the view is lent from a local.
-pub fn take_turn(v: View, m: ModelWords, s: StateWords, e: Event) -> Turn
-    ensures { λ t. ⌜ Turns v m s e t ⌝ }
+pub fn take_turn(given: View, model: ModelWords, state: StateWords, event: Event) -> Turn
+    ensures { λ t. ⌜ Turns given model state event t ⌝ }
 {
-    let mut view = v;
-    let r = advance(&mut view, m, s, e);
+    let mut view = given;
+    let answered = advance(&mut view, model, state, event);
     Turn {
         view: view,
-        answered: r,
+        answered: answered,
     }
 }

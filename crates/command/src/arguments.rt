@@ -2,12 +2,12 @@
 
 use crate::say::say;
 
-fn is_option(i: usize) -> bool {
+fn is_option(argument: usize) -> bool {
     let mut path = io::buffer();
-    let n = os::arg(i, &mut path);
-    let a = numbers::byte_at(&path[..n], 0);
-    let b = numbers::byte_at(&path[..n], 1);
-    (a == b'-') & (b == b'-')
+    let length = os::arg(argument, &mut path);
+    let first = numbers::byte_at(&path[..length], 0);
+    let second = numbers::byte_at(&path[..length], 1);
+    (first == b'-') & (second == b'-')
 }
 
 // At most two arguments, none of which begins with two dashes; else the program tells how it is called, and does nothing.
@@ -34,21 +34,21 @@ pub fn begins_with(path: &[u8], start: &[u8]) -> bool {
     true
 }
 
-fn is_same(a: &[u8], b: &[u8]) -> bool {
-    if a.len() != b.len() {
+fn is_same(path: &[u8], other: &[u8]) -> bool {
+    if path.len() != other.len() {
         return false;
     }
-    begins_with(a, b)
+    begins_with(path, other)
 }
 
 // Whether the table would be written over the model that it is made from.
 pub fn is_own_model() -> bool {
     let mut model = io::buffer();
-    let m = os::arg(1, &mut model);
+    let model_length = os::arg(1, &mut model);
     if os::arg_count() <= 2 {
-        return is_same(&model[..m], b"table.bin");
+        return is_same(&model[..model_length], b"table.bin");
     }
     let mut table = io::buffer();
-    let t = os::arg(2, &mut table);
-    is_same(&model[..m], &table[..t])
+    let table_length = os::arg(2, &mut table);
+    is_same(&model[..model_length], &table[..table_length])
 }

@@ -44,58 +44,58 @@ fn read_more(fd: i32) -> isize {
 }
 
 // Where a file is longer than the room for it.
-fn tell_more(path: &[u8], n: usize, more: isize) {
+fn tell_more(path: &[u8], length: usize, more: isize) {
     if more <= 0 {
         return;
     }
     say(path);
     say(b": only the first ");
-    say_number(n);
+    say_number(length);
     say(b" bytes were read, there are more\n");
 }
 
 // A short count may be the end of the file or a failure: one more read tells which.
-fn read_open(fd: i32, path: &[u8], buf: &mut [u8]) -> Input
-    ensures { λ r. ⌜ Counts (r .length) (now (buf .exit)) ⌝ }
+fn read_open(fd: i32, path: &[u8], buffer: &mut [u8]) -> Input
+    ensures { λ r. ⌜ Counts (r .length) (now (buffer .exit)) ⌝ }
 {
-    let n = io::read_full(fd, buf);
+    let length = io::read_full(fd, buffer);
     let more = read_more(fd);
     if more < 0 {
         return failed(path);
     }
-    tell_more(path, n, more);
+    tell_more(path, length, more);
     Input {
-        length: n,
+        length: length,
         good: true,
     }
 }
 
 // The start of a file, as much as the buffer has room for.
-fn read_file(path: &[u8], buf: &mut [u8]) -> Input
-    ensures { λ r. ⌜ Counts (r .length) (now (buf .exit)) ⌝ }
+fn read_file(path: &[u8], buffer: &mut [u8]) -> Input
+    ensures { λ r. ⌜ Counts (r .length) (now (buffer .exit)) ⌝ }
 {
     let fd = os::open_read(path);
     if fd < 0 {
         return failed(path);
     }
-    let r = read_open(fd, path, buf);
+    let input = read_open(fd, path, buffer);
     libc::close(fd);
-    r
+    input
 }
 
-// The file that argument i names, or the one of the given name where there is no such argument.
-fn read_argument(i: usize, name: &[u8], buf: &mut [u8]) -> Input
-    ensures { λ r. ⌜ Counts (r .length) (now (buf .exit)) ⌝ }
+// The file that an argument names, or the one of the given name where there is no such argument.
+fn read_argument(argument: usize, name: &[u8], buffer: &mut [u8]) -> Input
+    ensures { λ r. ⌜ Counts (r .length) (now (buffer .exit)) ⌝ }
 {
-    if os::arg_count() <= i {
-        return read_file(name, buf);
+    if os::arg_count() <= argument {
+        return read_file(name, buffer);
     }
     let mut path = io::buffer();
-    let n = os::arg(i, &mut path);
+    let length = os::arg(argument, &mut path);
     if os::errno() != 0 {
         return failed(b"argument");
     }
-    read_file(&path[..n], buf)
+    read_file(&path[..length], buffer)
 }
 
 // The model, or the table that stands for it, and the script: the first two arguments.
@@ -109,20 +109,20 @@ pub fn read_inputs(usage: &[u8], name: &[u8], model: &mut [u8], script: &mut [u8
             good: false,
         };
     }
-    let m = read_argument(1, name, model);
-    let s = read_argument(2, b"script.bin", script);
-    let a = m.good;
-    let b = s.good;
+    let first = read_argument(1, name, model);
+    let second = read_argument(2, b"script.bin", script);
+    let first_good = first.good;
+    let second_good = second.good;
     Inputs {
-        model: m.length,
-        script: s.length,
-        good: a & b,
+        model: first.length,
+        script: second.length,
+        good: first_good & second_good,
     }
 }
 
 // The model that `make_table` reads: its first argument.
-pub fn read_model(usage: &[u8], buf: &mut [u8]) -> Input
-    ensures { λ r. ⌜ Counts (r .length) (now (buf .exit)) ⌝ }
+pub fn read_model(usage: &[u8], buffer: &mut [u8]) -> Input
+    ensures { λ r. ⌜ Counts (r .length) (now (buffer .exit)) ⌝ }
 {
     if !is_called_well(usage) {
         return unread();
@@ -132,5 +132,5 @@ pub fn read_model(usage: &[u8], buf: &mut [u8]) -> Input
         say(b": the table would be written over its model\n");
         return unread();
     }
-    read_argument(1, b"model.bin", buf)
+    read_argument(1, b"model.bin", buffer)
 }

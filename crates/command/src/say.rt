@@ -9,19 +9,19 @@ pub fn say(text: &[u8]) {
     io::write_all(STDERR_FILENO, text);
 }
 
-pub fn say_number(n: usize) {
-    io::print_decimal(STDERR_FILENO, n as u64);
+pub fn say_number(number: usize) {
+    io::print_decimal(STDERR_FILENO, number as u64);
 }
 
-// The name that argument i gives, or the given one where there is no such argument.
-pub fn say_name(i: usize, name: &[u8]) {
-    if os::arg_count() <= i {
+// The name that an argument gives, or the given one where there is no such argument.
+pub fn say_name(argument: usize, name: &[u8]) {
+    if os::arg_count() <= argument {
         say(name);
         return;
     }
     let mut path = io::buffer();
-    let n = os::arg(i, &mut path);
-    say(&path[..n]);
+    let length = os::arg(argument, &mut path);
+    say(&path[..length]);
 }
 
 fn say_byte(byte: u8) {

@@ -12,13 +12,13 @@ const LONGEST_NAME: usize = 4096;
 // The digits of a process number.
 const MOST_DIGITS: usize = 20;
 
-// The first n bytes of a buffer.
-pub fn print_start(buf: &[u8], n: usize) {
-    if buf.len() < n {
+// As many bytes of a buffer, from its start on.
+pub fn print_start(buffer: &[u8], length: usize) {
+    if buffer.len() < length {
         io::write_all(STDERR_FILENO, b"listing: too long\n");
         return;
     }
-    if !io::write_all(STDOUT_FILENO, &buf[..n]) {
+    if !io::write_all(STDOUT_FILENO, &buffer[..length]) {
         os::fail(b"standard output");
     }
 }
@@ -69,17 +69,17 @@ fn write_whole(new: &[u8], path: &[u8], bytes: &[u8]) {
 fn write_beside(path: &[u8], bytes: &[u8]) {
     let mut digits = [0u8; MOST_DIGITS];
     let process = Value(libc::getpid());
-    let k = io::decimal(numbers::bits(process) as u64, &mut digits);
+    let count = io::decimal(numbers::bits(process) as u64, &mut digits);
     let mut new = io::buffer();
-    let a = listing_writer::put_text(&mut new, 0, path);
-    let b = listing_writer::put_text(&mut new, a, b".");
-    let n = listing_writer::put_text(&mut new, b, &digits[..k]);
-    if n > LONGEST_NAME {
+    let at = listing_writer::put_text(&mut new, 0, path);
+    let at = listing_writer::put_text(&mut new, at, b".");
+    let length = listing_writer::put_text(&mut new, at, &digits[..count]);
+    if length > LONGEST_NAME {
         say(path);
         say(b": the name is too long\n");
         return;
     }
-    write_whole(&new[..n], path, bytes);
+    write_whole(&new[..length], path, bytes);
 }
 
 // A file is replaced as a whole. What is no regular file, as a pipe or a device, is written as it is and never replaced: it lies under
@@ -116,17 +116,17 @@ fn write_missing(path: &[u8], bytes: &[u8]) {
     write_beside(path, bytes);
 }
 
-// The bytes of a table to the file that argument i names, or to the one of the given name.
-pub fn write_argument(i: usize, name: &[u8], bytes: &[u8]) {
-    if os::arg_count() <= i {
+// The bytes of a table to the file that an argument names, or to the one of the given name.
+pub fn write_argument(argument: usize, name: &[u8], bytes: &[u8]) {
+    if os::arg_count() <= argument {
         write_file(name, bytes);
         return;
     }
     let mut path = io::buffer();
-    let n = os::arg(i, &mut path);
+    let length = os::arg(argument, &mut path);
     if os::errno() != 0 {
         os::fail(b"argument");
         return;
     }
-    write_file(&path[..n], bytes);
+    write_file(&path[..length], bytes);
 }

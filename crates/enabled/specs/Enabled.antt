@@ -6,7 +6,7 @@ use lib.Dec.{eqb, ltb}
 use Rattle.numbers.specs.declared.Value.{Value}
 use Rattle.numbers.specs.Lists.{joinBelow, only}
 use Rattle.numbers.specs.Values.{natural, lessValue}
-use Rattle.records.specs.Events.{startKind, lastClock}
+use Rattle.records.specs.Events.{activateKind, deactivateKind, dispatchKind, startKind, completeKind, deadlineKind, missKind, requestKind, enterKind, leaveKind, lastClock}
 use Rattle.model_format.specs.declared.Timing.{Timing}
 use Rattle.model_format.specs.Model.{threadAt}
 use Rattle.model_semantics.specs.declared.State.{State}
@@ -33,7 +33,7 @@ ids = 256
 
 -- the kinds are those from 1 to the one before TICK
 abbrev pub lastOffered : ℕ
-lastOffered = 10
+lastOffered = leaveKind
 
 -- "in the order kind, id"
 unfoldable pub inOrder : (ℕ → ℕ → List Offer) → List Offer
@@ -50,15 +50,15 @@ unfoldable pub mayTake : Timing → State → ℕ → ℕ → Bool
 mayTake m s kind i =
     let here = ltb i (m .threads) in
     let there = ltb i (m .switches) in
-    cond (eqb kind 1) (here && tests.canActivate s i)
-    (cond (eqb kind 2) (here && tests.canDeactivate s i)
-    (cond (eqb kind 3) (here && tests.canDispatch m s i)
-    (cond (eqb kind 4) (tests.canStart m s i (threadAt m i .bcet .0))
-    (cond (eqb kind 5) (here && tests.canComplete s i)
-    (cond (eqb kind 6) (here && tests.canMeetDeadline m s i)
-    (cond (eqb kind 7) (here && tests.canMiss m s i)
-    (cond (eqb kind 8) there
-    (cond (eqb kind 9) (there && tests.canEnter m s i)
+    cond (eqb kind activateKind) (here && tests.canActivate s i)
+    (cond (eqb kind deactivateKind) (here && tests.canDeactivate s i)
+    (cond (eqb kind dispatchKind) (here && tests.canDispatch m s i)
+    (cond (eqb kind startKind) (tests.canStart m s i (threadAt m i .bcet .0))
+    (cond (eqb kind completeKind) (here && tests.canComplete s i)
+    (cond (eqb kind deadlineKind) (here && tests.canMeetDeadline m s i)
+    (cond (eqb kind missKind) (here && tests.canMiss m s i)
+    (cond (eqb kind requestKind) there
+    (cond (eqb kind enterKind) (there && tests.canEnter m s i)
     (there && tests.canLeave m s i)))))))))
 
 abbrev pub offerOf : Timing → ℕ → ℕ → Offer

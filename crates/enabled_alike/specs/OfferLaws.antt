@@ -8,6 +8,7 @@ use lib.Dec.{ltb, leb}
 use borrow.Author.Tests.{ltb-true, le-leb}
 use Rattle.numbers.specs.declared.Value.{Value}
 use Rattle.numbers.specs.Lists.{joinBelow, only}
+use Rattle.records.specs.Events.{activateKind, deactivateKind, dispatchKind, startKind, completeKind, deadlineKind, missKind, requestKind, enterKind, leaveKind}
 use Rattle.model_format.specs.declared.Model.{Model}
 use Rattle.model_format.specs.Model.{threadAt}
 use Rattle.model_format.specs.WellFormed.{WellFormed}
@@ -39,16 +40,16 @@ join-same (suc n) f g e = rw (join-same n f g (λ i l. e i (omega arith)), e n (
 
 -- the kinds by number, as "in order" goes through them
 record EachKind (P : ℕ → Type 0) : Type 0 where
-  activate : P 1
-  deactivate : P 2
-  dispatch : P 3
-  start : P 4
-  complete : P 5
-  deadline : P 6
-  miss : P 7
-  request : P 8
-  enter : P 9
-  leave : P 10
+  activate : P activateKind
+  deactivate : P deactivateKind
+  dispatch : P dispatchKind
+  start : P startKind
+  complete : P completeKind
+  deadline : P deadlineKind
+  miss : P missKind
+  request : P requestKind
+  enter : P enterKind
+  leave : P leaveKind
 
 each-kind : (P : ℕ → Type 0) → EachKind P → (k : ℕ) → k < lastOffered → P (k + 1)
 each-kind P x zero l = x .activate
@@ -97,16 +98,16 @@ module _ (m : Model) (w : WellFormed m) (d : Dispatched) (s : State) (v : List V
   each-offered : EachKind Offered
   unfolding mayTake offersBy stamped activateRules deactivateRules dispatchRules startRules enterRules leaveRules
   each-offered = record {
-    activate = λ i. rw (activate-rules m d s v w h i) (of-item 1 i (ltb i (m .timing .threads) && tests.canActivate s i) (offerOf (m .timing) 1 i) (activateRules (m .timing) i) refl);
-    deactivate = λ i. rw (deactivate-rules m d s v w h i) (of-item 2 i (ltb i (m .timing .threads) && tests.canDeactivate s i) (offerOf (m .timing) 2 i) (deactivateRules (m .timing) i) refl);
-    dispatch = λ i. rw (dispatch-rules m d s v w h i) (of-item 3 i (ltb i (m .timing .threads) && tests.canDispatch (m .timing) s i) (offerOf (m .timing) 3 i) (dispatchRules (m .timing) i) refl);
-    start = λ i. rw (start-rules m d s v w h i, start-allowed i) (of-item 4 i (ltb i (m .timing .threads) && mayStart (m .timing) s i) (offerOf (m .timing) 4 i) (startRules (m .timing) i) refl);
-    complete = λ i. rw (complete-rules m d s v w h i) (of-item 5 i (ltb i (m .timing .threads) && tests.canComplete s i) (offerOf (m .timing) 5 i) (completeRule m s i ∷ []) refl);
-    deadline = λ i. rw (deadline-rules m d s v w h i) (of-item 6 i (ltb i (m .timing .threads) && tests.canMeetDeadline (m .timing) s i) (offerOf (m .timing) 6 i) (deadlineRule (m .timing) i (bit (isActive s i)) (restCode s i) ∷ []) refl);
-    miss = λ i. rw (miss-rules m d s v w h i) (of-item 7 i (ltb i (m .timing .threads) && tests.canMiss (m .timing) s i) (offerOf (m .timing) 7 i) (missRule (m .timing) s i ∷ []) refl);
-    request = λ i. rw (request-rules m d s v w h i) (of-item 8 i (ltb i (m .timing .switches)) (offerOf (m .timing) 8 i) (requestRule (m .timing) s i ∷ []) refl);
-    enter = λ i. rw (enter-rules m d s v w h i) (of-item 9 i (ltb i (m .timing .switches) && tests.canEnter (m .timing) s i) (offerOf (m .timing) 9 i) (enterRules (m .timing) i) refl);
-    leave = λ i. rw (leave-rules m d s v w h i) (of-item 10 i (ltb i (m .timing .switches) && tests.canLeave (m .timing) s i) (offerOf (m .timing) 10 i) (leaveRules (m .timing) i) refl);
+    activate = λ i. rw (activate-rules m d s v w h i) (of-item activateKind i (ltb i (m .timing .threads) && tests.canActivate s i) (offerOf (m .timing) activateKind i) (activateRules (m .timing) i) refl);
+    deactivate = λ i. rw (deactivate-rules m d s v w h i) (of-item deactivateKind i (ltb i (m .timing .threads) && tests.canDeactivate s i) (offerOf (m .timing) deactivateKind i) (deactivateRules (m .timing) i) refl);
+    dispatch = λ i. rw (dispatch-rules m d s v w h i) (of-item dispatchKind i (ltb i (m .timing .threads) && tests.canDispatch (m .timing) s i) (offerOf (m .timing) dispatchKind i) (dispatchRules (m .timing) i) refl);
+    start = λ i. rw (start-rules m d s v w h i, start-allowed i) (of-item startKind i (ltb i (m .timing .threads) && mayStart (m .timing) s i) (offerOf (m .timing) startKind i) (startRules (m .timing) i) refl);
+    complete = λ i. rw (complete-rules m d s v w h i) (of-item completeKind i (ltb i (m .timing .threads) && tests.canComplete s i) (offerOf (m .timing) completeKind i) (completeRule m s i ∷ []) refl);
+    deadline = λ i. rw (deadline-rules m d s v w h i) (of-item deadlineKind i (ltb i (m .timing .threads) && tests.canMeetDeadline (m .timing) s i) (offerOf (m .timing) deadlineKind i) (deadlineRule (m .timing) i (bit (isActive s i)) (restCode s i) ∷ []) refl);
+    miss = λ i. rw (miss-rules m d s v w h i) (of-item missKind i (ltb i (m .timing .threads) && tests.canMiss (m .timing) s i) (offerOf (m .timing) missKind i) (missRule (m .timing) s i ∷ []) refl);
+    request = λ i. rw (request-rules m d s v w h i) (of-item requestKind i (ltb i (m .timing .switches)) (offerOf (m .timing) requestKind i) (requestRule (m .timing) s i ∷ []) refl);
+    enter = λ i. rw (enter-rules m d s v w h i) (of-item enterKind i (ltb i (m .timing .switches) && tests.canEnter (m .timing) s i) (offerOf (m .timing) enterKind i) (enterRules (m .timing) i) refl);
+    leave = λ i. rw (leave-rules m d s v w h i) (of-item leaveKind i (ltb i (m .timing .switches) && tests.canLeave (m .timing) s i) (offerOf (m .timing) leaveKind i) (leaveRules (m .timing) i) refl);
   }
 
   pub same-events : modelOffers (m .timing) s ≡ tableOffers (rulesOf m) v

@@ -1,9 +1,6 @@
 // The static library: what programs in C and other languages call. Each function takes slices (in C a pointer and a count) and has no
 // condition on what they hold.
 
-use enabled::Enabled;
-use model_state::STATE_WORDS;
-use records::Cause;
 ghost use mathlib.Core.Path.{_≡_};
 ghost use lib.ListN.{length};
 ghost use lib.Seq.{sets};
@@ -18,7 +15,9 @@ ghost use Rattle.listing.specs.Programs.{stepsListing, tableListing};
 ghost use Rattle.listing.specs.Outcomes.{modelOutcome, tableOutcome};
 ghost use Rattle.table_enabled.specs.EnabledBy.{enabledBy, listBy};
 ghost use Rattle.futonkestrel_lending.specs.Lending as lending;
+ghost use Rattle.futonkestrel_reading.specs.Reading as reading;
 ghost use Rattle.futonkestrel_states.specs.States as states;
+ghost use Rattle.futonkestrel_variables.specs.Shown as shown;
 ghost use Rattle.model_state.specs.Words.{stateWords, stateIn};
 ghost use Rattle.model_words.specs.Words.{modelWords, timingIn};
 ghost use Rattle.enabled.specs.Enabled.{modelOffers, modelMayTick};
@@ -38,7 +37,7 @@ pub extern "C" fn fk_read_model(model: &[u8], told: &mut [usize]) -> u32
 pub extern "C" fn fk_read_table(table: &[u8], told: &mut [usize]) -> u32
     ensures { λ r. ⌜ lending.Tells (readTable (now (table .entry)) .cause) (lending.toldRefusal (readTable (now (table .entry)))) (now (told .entry)) r (now (told .exit)) ⌝ }
 {
-    let f = table_format::read_table(table);
+    let f = table_faults::read_table(table);
     futonkestrel_lending::tell_refusal(told, f)
 }
 
@@ -104,7 +103,7 @@ pub extern "C" fn fk_table_start(table: &[u8], variables: &mut [u32]) -> u32
 pub extern "C" fn fk_table_index(table: &[u8], index: &mut [usize]) -> usize
     ensures { λ r. ⌜ (r ≡ indexSize (now (table .entry))) × (now (index .exit) ≡ sets (now (index .entry)) 0 (indexOf (now (table .entry)) (length (now (index .entry))))) ⌝ }
 {
-    table_index::list_rules(table, index)
+    futonkestrel_tables::table_index(table, index)
 }
 
 // One event by an index of any content: by none, the table is walked.
@@ -140,21 +139,21 @@ pub extern "C" fn fk_model_after(
 pub extern "C" fn fk_model_words() -> usize
     ensures { λ r. ⌜ r ≡ modelWords ⌝ }
 {
-    model_words::MODEL_WORDS
+    futonkestrel_reading::model_words()
 }
 
 #[no_mangle]
 pub extern "C" fn fk_state_words() -> usize
     ensures { λ r. ⌜ r ≡ stateWords ⌝ }
 {
-    model_state::STATE_WORDS
+    futonkestrel_states::state_words()
 }
 
 #[no_mangle]
 pub extern "C" fn fk_model_read(model: &[u8], words: &mut [u32], told: &mut [usize]) -> u32
-    ensures { λ r. ⌜ states.ReadsModel (now (model .entry)) (now (words .entry)) (now (words .exit)) (now (told .entry)) r (now (told .exit)) ⌝ }
+    ensures { λ r. ⌜ reading.ReadsModel (now (model .entry)) (now (words .entry)) (now (words .exit)) (now (told .entry)) r (now (told .exit)) ⌝ }
 {
-    futonkestrel_states::model_read(model, words, told)
+    futonkestrel_reading::model_read(model, words, told)
 }
 
 #[no_mangle]
@@ -175,9 +174,9 @@ pub extern "C" fn fk_model_step(words: &[u32], state: &mut [u32], event: &[u8]) 
 
 #[no_mangle]
 pub extern "C" fn fk_model_variables(words: &[u32], state: &[u32], variables: &mut [u32]) -> u32
-    ensures { λ r. ⌜ (r ≡ numberOf (states.shownAnswer (now (variables .entry)))) × (now (variables .exit) ≡ states.shownVariables (now (words .entry)) (now (state .entry)) (now (variables .entry))) ⌝ }
+    ensures { λ r. ⌜ (r ≡ numberOf (shown.shownAnswer (now (variables .entry)))) × (now (variables .exit) ≡ shown.shownVariables (now (words .entry)) (now (state .entry)) (now (variables .entry))) ⌝ }
 {
-    let c = futonkestrel_states::model_variables(words, state, variables);
+    let c = futonkestrel_variables::model_variables(words, state, variables);
     futonkestrel_lending::number(c)
 }
 
@@ -192,17 +191,7 @@ pub extern "C" fn fk_model_enabled(
 ) -> u32
     ensures { λ r. ⌜ (lending.TellsEnabled (toldFrom stateWords (now (state .entry)) (modelOffers (timingIn (now (words .entry))) (stateIn (now (state .entry)))) (modelMayTick (timingIn (now (words .entry))) (stateIn (now (state .entry)))) (length (now (output .entry)))) (now (told .entry)) r (now (told .exit))) × (now (output .exit) ≡ listFrom stateWords (now (state .entry)) (modelOffers (timingIn (now (words .entry))) (stateIn (now (state .entry)))) (now (output .entry))) ⌝ }
 {
-    if state.len() < STATE_WORDS {
-        let short = Cause::ShortOutput;
-        let nothing = Enabled {
-            answer: short,
-            count: 0,
-            tick: false,
-        };
-        return futonkestrel_lending::tell_enabled(told, nothing);
-    }
-    let e = model_enabled::enabled_in(words, state, output);
-    futonkestrel_lending::tell_enabled(told, e)
+    futonkestrel_enabled::model_enabled(words, state, output, told)
 }
 
 // Of a table and variables, by an index of any content: the same.
@@ -216,6 +205,5 @@ pub extern "C" fn fk_table_enabled(
 ) -> u32
     ensures { λ r. ⌜ (lending.TellsEnabled (enabledBy (now (table .entry)) (now (index .entry)) (now (variables .entry)) (length (now (output .entry)))) (now (told .entry)) r (now (told .exit))) × (now (output .exit) ≡ listBy (now (table .entry)) (now (index .entry)) (now (variables .entry)) (now (output .entry))) ⌝ }
 {
-    let e = table_enabled::enabled_in(table, index, variables, output);
-    futonkestrel_lending::tell_enabled(told, e)
+    futonkestrel_enabled::table_enabled(table, index, variables, output, told)
 }

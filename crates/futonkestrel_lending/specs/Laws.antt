@@ -4,8 +4,8 @@ use mathlib.Core.List.{List, [], _∷_, _++_}
 use Prim.Native.Nat.{ℕ, _+_, _≤_, _<_}
 use native.Mathlib.Omega.{arith}
 use native.Mathlib.Numerals.{add-one}
-use lib.ListN.{getD, length, drop, set}
-use lib.Seq.{sets, sets-eq, length-sets}
+use lib.ListN.{getD, length, take, drop, set}
+use lib.Seq.{sets, sets-eq, length-sets, length-take-le}
 use mir.Syntax.{w32}
 use mir.Val.{Fits}
 use mir.ValLaws.{ofZ-toZ}
@@ -51,6 +51,12 @@ all-numbers d₀ {d} f j h l p = at-end (λ k. d ≡ sets d₀ 0 (firstNumbers f
 
 pub same-size : (d₀ : List ℕ) {d : List ℕ} (f : ℕ → ℕ) (j : ℕ) → d ≡ sets d₀ 0 (firstNumbers f j) → length d ≡ length d₀
 same-size d₀ f j p = ap length p ∙ length-sets d₀ 0 (firstNumbers f j)
+
+-- ---- the first n numbers of a list, lent: y, which is w, is what comes back
+pub front-put : (n : ℕ) (d y w : List ℕ) → n ≤ length d → length y ≡ length (take n d) → y ≡ w → y ++ drop n d ≡ sets d 0 w
+front-put n d y w h m e =
+    let v : 0 + length w ≡ n = let k : length w ≡ n = ap length (sym e) ∙ m ∙ length-take-le n d h in omega arith in
+    sym (sets-eq w d 0 (omega arith) ∙ ap (λ (k : ℕ). w ++ drop k d) v ∙ ap (λ (r : List ℕ). r ++ drop n d) (sym e))
 
 -- ---- in place: all variables, by their bits v, stand before what lies behind them
 module _ (v d : List ℕ) (n : length v ≡ variables) (h : variables ≤ length d) where

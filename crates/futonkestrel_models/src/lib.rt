@@ -13,7 +13,7 @@ ghost use Rattle.futonkestrel_lending.specs.Lending as lending;
 fn number_shown(m: &[u32], s: &[u32], j: u16) -> u32
     ensures { λ r. ⌜ r ≡ lending.numbersShown (timingIn (now (m .entry))) (stateIn (now (s .entry))) j ⌝ }
 {
-    let value = translate_starts::shown(m, s, j);
+    let value = translate_shown::shown(m, s, j);
     numbers::bits(value)
 }
 

@@ -2,10 +2,8 @@
 use mathlib.Core.Path.{_≡_, refl, sym, _∙_, ap}
 use mathlib.Core.Bool.{Bool, true, false, cond}
 use mathlib.Core.List.{List, _++_}
-use Prim.Native.Nat.{ℕ, _+_, _<_, _≤_}
-use native.Mathlib.Omega.{arith}
+use Prim.Native.Nat.{ℕ, _<_, _≤_}
 use lib.ListN.{length, take, drop, take-append-drop}
-use lib.Seq.{sets, sets-eq, length-take-le}
 use borrow.Author.Tests.{lt-ltb, le-ltb}
 use Rattle.records.specs.declared.Cause.{Cause}
 use Rattle.records.specs.declared.Cause.the-variants.{None, ShortOutput}
@@ -14,46 +12,18 @@ use Rattle.records.specs.Events.{eventOf}
 use Rattle.records.specs.declared.Event.{Event}
 use Rattle.model_semantics.specs.declared.State.{State}
 use Rattle.model_semantics.specs.declared.Stepped.{Stepped}
-use Rattle.model_semantics.specs.Machine.{startState, step, refuse}
-use Rattle.model_words.specs.Words.{modelWords, timingIn, modelIn}
+use Rattle.model_semantics.specs.Machine.{startState, step}
+use Rattle.model_words.specs.Words.{timingIn, modelIn}
 use Rattle.model_state.specs.Words.{stateWords, stateIn}
-use Rattle.model_settling.specs.Words.{wordsOfState}
-use Rattle.model_settling.specs.SameState.{state-front}
-use Rattle.records.specs.declared.Refusal.{Refusal}
-use Rattle.model_format.specs.Reading.{readModel}
-use Rattle.model_reader.specs.Reads.{readRefusal, ReadInto}
-use Rattle.model_settling.specs.ModelWords.{wordsOfModel}
-use Rattle.futonkestrel_lending.specs.Lending.{Tells, toldRefusal}
+use Rattle.state_settling.specs.Words.{wordsOfState}
+use Rattle.state_settling.specs.SameState.{state-front}
 use Rattle.model_time.specs.Answers.{Answers}
-use Rattle.futonkestrel_states.specs.States.{readWords, ReadsModel, holding, startedAnswer, startedState, stepIn, steppedAnswer, steppedState}
+use Rattle.futonkestrel_lending.specs.Laws.{front-put}
+use Rattle.futonkestrel_states.specs.States.{holding, startedAnswer, startedState, stepIn, steppedAnswer, steppedState}
 
--- ---- the first n numbers of a list, lent and settled: y is what comes back
-front-put : (n : ℕ) (d y w : List ℕ) → n ≤ length d → length y ≡ length (take n d) → y ≡ w → y ++ drop n d ≡ sets d 0 w
-front-put n d y w h m e =
-    let v : 0 + length w ≡ n = let k : length w ≡ n = ap length (sym e) ∙ m ∙ length-take-le n d h in omega arith in
-    sym (sets-eq w d 0 (omega arith) ∙ ap (λ (k : ℕ). w ++ drop k d) v ∙ ap (λ (r : List ℕ). r ++ drop n d) (sym e))
-
+-- ---- the numbers of a state at the start of a list, lent and settled: y is what comes back
 front-held : (d y : List ℕ) (s : State) → stateWords ≤ length d → length y ≡ length (take stateWords d) → y ≡ wordsOfState s → y ++ drop stateWords d ≡ holding d s
 front-held d y s h n e = front-put stateWords d y (wordsOfState s) h n e
-
--- ---- a model read: on a list that has its numbers and no more
-pub read-settled : {model words after x : List ℕ} {f : Refusal} → length words ≡ modelWords → ReadInto model words after f → x ≡ wordsOfModel (modelIn after) →
-    (f ≡ readModel model .refusal) × (x ≡ wordsOfModel (readModel model .model))
-unfolding readRefusal
-read-settled {model} {words} n i e = (i .refusal ∙ rw (le-ltb (length words) modelWords (omega arith)), e ∙ ap wordsOfModel (i .model (omega arith)))
-
-module _ (model words told : List ℕ) {told′ : List ℕ} {f : Refusal} {r : ℕ} where
-  pub read-narrow : {after : List ℕ} → length words < modelWords → ReadInto model words after f → Tells (f .cause) (toldRefusal f) told r told′ → ReadsModel model words after told r told′
-  unfolding readWords
-  read-narrow h i w = record { tells = rw (← i .refusal) w; list = i .kept h ∙ rw (lt-ltb (length words) modelWords h) }
-
-  pub read-made : (y : List ℕ) → modelWords ≤ length words → length y ≡ length (take modelWords words) → (f ≡ readModel model .refusal) × (y ≡ wordsOfModel (readModel model .model)) →
-      Tells (f .cause) (toldRefusal f) told r told′ → ReadsModel model words (y ++ drop modelWords words) told r told′
-  unfolding readWords readRefusal
-  read-made y h n e w = record {
-    tells = rw (le-ltb (length words) modelWords h, ← e .0) w;
-    list = rw (le-ltb (length words) modelWords h) (front-put modelWords words y (wordsOfModel (readModel model .model)) h n (e .1));
-  }
 
 -- ---- the start
 module _ (m d : List ℕ) where

@@ -1,51 +1,26 @@
-// Models and states in lists of numbers that a caller keeps: started, taken one event further, and shown as a table's variables. A list of
-// any content stands for a model or a state, so no call asks how it was made.
+// States in lists of numbers that a caller keeps: started and taken one event further. A list of any content stands for a model or a state,
+// so no call asks how it was made.
 
-mod variables;
-
-use futonkestrel_lending::tell_refusal;
 use model_machine::step;
-use model_reader::read_model_into;
-use model_settling::settle_model;
-use model_settling::settle_state;
 use model_start::start_in;
 use model_state::STATE_WORDS;
-use model_words::MODEL_WORDS;
 use records::Cause;
 use records::Event;
-use records::Refusal;
-pub use variables::model_variables;
+use state_settling::settle_state;
 ghost use mathlib.Core.Path.{_≡_};
 ghost use lib.ListN.{length};
 ghost use Rattle.model_semantics.specs.Machine as machine;
-ghost use Rattle.model_format.specs.Reading.{readModel};
-ghost use Rattle.model_settling.specs.ModelWords.{wordsOfModel};
-ghost use Rattle.model_settling.specs.Words.{wordsOfState};
+ghost use Rattle.state_settling.specs.Words.{wordsOfState};
 ghost use Rattle.model_state.specs.Words.{stateIn, stateWords};
-ghost use Rattle.model_words.specs.Words.{modelIn, modelWords, timingIn};
+ghost use Rattle.model_words.specs.Words.{modelIn, timingIn};
 ghost use Rattle.futonkestrel_states.specs.States as states;
 ghost use Rattle.futonkestrel_states.specs.Laws.{eventMade};
 
-// ---- reading
-fn read_settled(model: &[u8], words: &mut [u32]) -> Refusal
-    requires { ⌜ length (now words) ≡ modelWords ⌝ }
-    ensures { λ r. ⌜ (r ≡ readModel (now (model .entry)) .refusal) × (now (words .exit) ≡ wordsOfModel (readModel (now (model .entry)) .model)) ⌝ }
+// How many numbers a state takes.
+pub fn state_words() -> usize
+    ensures { λ r. ⌜ r ≡ stateWords ⌝ }
 {
-    let refusal = read_model_into(model, words);
-    settle_model(words);
-    refusal
-}
-
-pub fn model_read(model: &[u8], words: &mut [u32], told: &mut [usize]) -> u32
-    ensures { λ r. ⌜ states.ReadsModel (now (model .entry)) (now (words .entry)) (now (words .exit)) (now (told .entry)) r (now (told .exit)) ⌝ }
-{
-    if words.len() < MODEL_WORDS {
-        let short = read_model_into(model, words);
-        return tell_refusal(told, short);
-    }
-    let room = MODEL_WORDS;
-    let refusal = read_settled(model, &mut words[..room]);
-    tell_refusal(told, refusal)
+    STATE_WORDS
 }
 
 // ---- the start

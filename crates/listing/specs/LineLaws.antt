@@ -11,8 +11,8 @@ use Rattle.records.specs.declared.Cause.{Cause}
 use Rattle.records.specs.Refusals.{numberOf}
 use Rattle.records.specs.Events.{figureOf}
 use Rattle.listing.specs.declared.Line.{Line}
-use Rattle.listing.specs.Listing.{digitsIn, decimal, space, newline, line, lastLine}
-use Rattle.listing.specs.Lines.{lineRoom, zeros, textOf, Room, Written}
+use Rattle.listing.specs.Listing.{zeroDigit, digitsIn, mostDigits, decimal, space, newline, line, lastLine}
+use Rattle.listing.specs.Lines.{figureRoom, lineRoom, zeros, textOf, Room, Written}
 
 take-zeros : (k n : ℕ) → k ≤ n → take k (zeros n) ≡ zeros k
 take-zeros zero n h = refl
@@ -43,26 +43,26 @@ module _ (l : Line) (n : length (l .bytes) ≡ lineRoom) where
         used = omega arith;
       }
 
--- ---- a number written digit by digit: of n, m is left, of 20 digits, f are left, and o is what has become of l
+-- ---- a number written digit by digit: of n, m is left, of all digits, f are left, and o is what has become of l
 pub record Digits (l o : Line) (n m f : ℕ) : Type 0 where
   pub text : digitsIn f m (textOf o) ≡ decimal n (textOf l)
   pub room : Room o f
-  pub used : l .start + f ≤ o .start + 20
+  pub used : l .start + f ≤ o .start + mostDigits
 
-pub digits-begin : (l : Line) (n : ℕ) → Room l 20 → Digits l l n n 20
+pub digits-begin : (l : Line) (n : ℕ) → Room l mostDigits → Digits l l n n mostDigits
 digits-begin l n m = record { text = refl; room = m; used = omega arith }
 
 -- the last digit of m, before r
 module _ (f g m : ℕ) (r : List ℕ) (s : f ≡ suc g) where
-  digits-more : 10 ≤ m → digitsIn f m r ≡ digitsIn g (m / 10) ((48 + m % 10) ∷ r)
+  digits-more : 10 ≤ m → digitsIn f m r ≡ digitsIn g (m / 10) ((zeroDigit + m % 10) ∷ r)
   unfolding digitsIn
   digits-more k = rw s (rw (le-ltb m 10 k))
 
-  digits-one : m < 10 → digitsIn f m r ≡ (48 + m % 10) ∷ r
+  digits-one : m < 10 → digitsIn f m r ≡ (zeroDigit + m % 10) ∷ r
   unfolding digitsIn
   digits-one k = rw s (rw (lt-ltb m 10 k))
 
-module _ {l o r : Line} {n m f d : ℕ} (g : Digits l o n m f) (h : 0 < f) (e : d ≡ 48 + m % 10) (w : Written o r 1 (d ∷ textOf o)) where
+module _ {l o r : Line} {n m f d : ℕ} (g : Digits l o n m f) (h : 0 < f) (e : d ≡ zeroDigit + m % 10) (w : Written o r 1 (d ∷ textOf o)) where
   pub digits-on : 10 ≤ m → Digits l r n (m / 10) (f - 1)
   digits-on k = record {
     text = rw (w .text, e) (sym (digits-more f (f - 1) m (textOf o) (omega arith) k) ∙ g .text);
@@ -70,10 +70,10 @@ module _ {l o r : Line} {n m f d : ℕ} (g : Digits l o n m f) (h : 0 < f) (e : 
     used = omega arith;
   }
 
-  pub digits-last : m < 10 → Written l r 20 (decimal n (textOf l))
+  pub digits-last : m < 10 → Written l r mostDigits (decimal n (textOf l))
   digits-last k = record { text = rw (w .text, e) (sym (digits-one f (f - 1) m (textOf o) (omega arith) k) ∙ g .text); padded = w .padded; used = omega arith }
 
-pub digits-end : {l o : Line} {n m f : ℕ} → Digits l o n m f → f ≤ 0 → Written l o 20 (decimal n (textOf l))
+pub digits-end : {l o : Line} {n m f : ℕ} → Digits l o n m f → f ≤ 0 → Written l o mostDigits (decimal n (textOf l))
 unfolding digitsIn
 digits-end {l} {o} {n} {m} {f} g h = let z : f ≡ 0 = omega arith in record { text = rw z at (g .text); padded = g .room .padded; used = omega arith }
 
@@ -81,18 +81,18 @@ digits-end {l} {o} {n} {m} {f} g h = let z : f ≡ 0 = omega arith in record { t
 abbrev pub figure : ℕ → ℕ → List ℕ → List ℕ
 figure n b r = decimal n (b ∷ r)
 
-pub figure-written : {l o r : Line} (n b : ℕ) → Written l o 1 (b ∷ textOf l) → Written o r 20 (decimal n (textOf o)) → Written l r 21 (figure n b (textOf l))
+pub figure-written : {l o r : Line} (n b : ℕ) → Written l o 1 (b ∷ textOf l) → Written o r mostDigits (decimal n (textOf o)) → Written l r figureRoom (figure n b (textOf l))
 figure-written n b v w = record { text = rw (← v .text) (w .text); padded = w .padded; used = omega arith }
 
 pub line-written : {o a b c r : Line} (step clock f : ℕ) (e : Event) → f ≡ figureOf e → textOf o ≡ [] →
-    Written o a 21 (figure f newline (textOf o)) → Written a b 21 (figure (e .kind) space (textOf a)) →
-    Written b c 21 (figure clock space (textOf b)) → Written c r 21 (figure step space (textOf c)) → textOf r ≡ line step clock e
+    Written o a figureRoom (figure f newline (textOf o)) → Written a b figureRoom (figure (e .kind) space (textOf a)) →
+    Written b c figureRoom (figure clock space (textOf b)) → Written c r figureRoom (figure step space (textOf c)) → textOf r ≡ line step clock e
 unfolding line
 line-written step clock f e h z s t u v = rw (v .text, u .text, t .text, s .text, z, h)
 
 -- the three figures of the last line, and "end " before them
 pub last-written : {o a b c d e f r : Line} (taken n clock : ℕ) (x : Cause) → n ≡ numberOf x → textOf o ≡ [] →
-    Written o a 21 (figure clock newline (textOf o)) → Written a b 21 (figure n space (textOf a)) → Written b c 21 (figure taken space (textOf b)) →
+    Written o a figureRoom (figure clock newline (textOf o)) → Written a b figureRoom (figure n space (textOf a)) → Written b c figureRoom (figure taken space (textOf b)) →
     Written c d 1 (space ∷ textOf c) → Written d e 1 (100 ∷ textOf d) → Written e f 1 (110 ∷ textOf e) → Written f r 1 (101 ∷ textOf f) →
     textOf r ≡ lastLine taken x clock
 unfolding lastLine

@@ -5,7 +5,10 @@ use Prim.Native.Nat.{ℕ, _+_, _≤_}
 use lib.ListN.{take, drop, replicate}
 use Rattle.listing.specs.declared.Line.{Line}
 
--- the room of a line: four figures of 20 digits at most, with the byte after each, and more
+-- the room of a figure, of `mostDigits` and the byte after it; and of a line: four figures and more
+abbrev pub figureRoom : ℕ
+figureRoom = 21
+
 abbrev pub lineRoom : ℕ
 lineRoom = 96
 

@@ -11,17 +11,24 @@ use Rattle.records.specs.Refusals.{numberOf, isNone}
 use Rattle.records.specs.Events.{eventOf, figureOf}
 use Rattle.records.specs.Run.{Machine}
 
+-- the byte of the digit 0; those of the others follow
+abbrev pub zeroDigit : ℕ
+zeroDigit = 48
+
 -- the decimal digits of a number, before the bytes r; f digits at most
 unfoldable pub digitsIn : ℕ → ℕ → List ℕ → List ℕ
 digitsIn zero n r = r
 digitsIn (suc f) n r =
-    let d = (48 + n % 10) ∷ r in
+    let d = (zeroDigit + n % 10) ∷ r in
     let more = digitsIn f (n / 10) d in
     cond (ltb n 10) d more
 
--- a number of 64 bits has at most 20
+-- a number of 64 bits has no more
+abbrev pub mostDigits : ℕ
+mostDigits = 20
+
 abbrev pub decimal : ℕ → List ℕ → List ℕ
-decimal n r = digitsIn 20 n r
+decimal n r = digitsIn mostDigits n r
 
 abbrev pub space : ℕ
 space = 32
@@ -34,10 +41,14 @@ unfoldable pub line : ℕ → ℕ → Event → List ℕ
 line step clock e =
     decimal step (space ∷ decimal clock (space ∷ decimal (e .kind) (space ∷ decimal (figureOf e) (newline ∷ []))))
 
+-- the bytes of "end", before the bytes r
+abbrev pub endText : List ℕ → List ℕ
+endText r = 101 ∷ 110 ∷ 100 ∷ r
+
 -- the last line: "end", events taken, refusal, clock
 unfoldable pub lastLine : ℕ → Cause → ℕ → List ℕ
 lastLine taken c clock =
-    101 ∷ 110 ∷ 100 ∷ space ∷ decimal taken (space ∷ decimal (numberOf c) (space ∷ decimal clock (newline ∷ [])))
+    endText (space ∷ decimal taken (space ∷ decimal (numberOf c) (space ∷ decimal clock (newline ∷ []))))
 
 -- "a refused model or table prints that line alone, taken and clock 0"
 abbrev pub refusedListing : Cause → List ℕ

@@ -5,14 +5,17 @@ use records::Event;
 ghost use mathlib.Core.Path.{_≡_};
 ghost use mathlib.Core.List.{[], _∷_};
 ghost use Prim.Native.Nat.{_+_, _%_};
-ghost use Rattle.listing.specs.Listing.{decimal, line, lastLine};
-ghost use Rattle.listing.specs.Lines.{lineRoom, textOf, Padded, Room, Written};
+ghost use Rattle.listing.specs.Listing.{zeroDigit, mostDigits, decimal, line, lastLine};
+ghost use Rattle.listing.specs.Lines.{figureRoom, lineRoom, textOf, Padded, Room, Written};
 
-// More than any line has: four figures of at most 20 digits and the byte after each, or three and "end ".
+// More than any line has: four figures of MOST_DIGITS and the byte after each, or three and "end ".
 const LINE_ROOM: usize = 96;
 
 // The digits of a number of 64 bits.
 const MOST_DIGITS: usize = 20;
+
+// The byte of the digit 0; those of the others follow.
+const ZERO_DIGIT: u64 = 48;
 
 // A line of text. It is written from its end: the text stands from `start` to the end of `bytes`, after zeros.
 pub struct Line {
@@ -44,15 +47,15 @@ fn with_byte(line: Line, byte: u8) -> Line
 }
 
 fn digit(n: u64) -> u8
-    ensures { λ r. ⌜ r ≡ 48 + n % 10 ⌝ }
+    ensures { λ r. ⌜ r ≡ zeroDigit + n % 10 ⌝ }
 {
-    (48 + n % 10) as u8
+    (ZERO_DIGIT + n % 10) as u8
 }
 
 // The digits go in from the last to the first.
 fn with_decimal(line: Line, n: u64) -> Line
-    requires { ⌜ Room line 20 ⌝ }
-    ensures { λ r. ⌜ Written line r 20 (decimal n (textOf line)) ⌝ }
+    requires { ⌜ Room line mostDigits ⌝ }
+    ensures { λ r. ⌜ Written line r mostDigits (decimal n (textOf line)) ⌝ }
 {
     let mut out = line;
     let mut rest = n;
@@ -70,8 +73,8 @@ fn with_decimal(line: Line, n: u64) -> Line
 
 // A number and the byte that ends it.
 fn with_figure(line: Line, n: u64, end: u8) -> Line
-    requires { ⌜ Room line 21 ⌝ }
-    ensures { λ r. ⌜ Written line r 21 (decimal n (end ∷ textOf line)) ⌝ }
+    requires { ⌜ Room line figureRoom ⌝ }
+    ensures { λ r. ⌜ Written line r figureRoom (decimal n (end ∷ textOf line)) ⌝ }
 {
     with_decimal(with_byte(line, end), n)
 }

@@ -43,7 +43,7 @@ fn run_listing(table: &[u8], script: &[u8], out: &mut [u8]) -> Printed
 pub fn table_listing(table: &[u8], script: &[u8], out: &mut [u8]) -> Printed
     ensures { λ r. ⌜ Prints (tableListing (now (table .entry)) (now (script .entry))) (tableOutcome (now (table .entry)) (now (script .entry)) .refusal) (now (out .entry)) r (now (out .exit)) ⌝ }
 {
-    let refusal = table_format::read_table(table);
+    let refusal = table_faults::read_table(table);
     let cause = refusal.cause;
     if records::is_none(cause) {
         return run_listing(table, script, out);

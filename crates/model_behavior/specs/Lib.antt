@@ -1,4 +1,2 @@
-pub mod OperandLaws
-pub mod OpenLaws
 pub mod AssignLaws
 pub mod AdvanceLaws

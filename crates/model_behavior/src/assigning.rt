@@ -1,11 +1,11 @@
 // The assignments of a transition: all new values are computed before the first is stored.
 
-use crate::values::assigned_value;
 use model_format::Assignment;
 use model_format::MAX_EACH;
 use model_format::OUTPUT_TAG;
 use model_state::put_local;
 use model_state::put_output;
+use model_transitions::assigned_value;
 use model_words::assignment_at;
 use numbers::Value;
 use numbers::bits;

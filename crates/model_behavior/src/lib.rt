@@ -3,12 +3,10 @@
 // values of one transition.
 
 mod assigning;
-mod opening;
-mod values;
 
 use crate::assigning::assign;
-use crate::opening::first_open;
 use model_state::put_behavior;
+use model_transitions::first_open;
 use model_words::transition_at;
 use model_words::transitions;
 ghost use mathlib.Core.Path.{_≡_};

@@ -55,7 +55,7 @@ use records::Cause;
 use records::Operand;
 ghost use mathlib.Core.Path.{_≡_};
 ghost use Rattle.model_format.specs.declared.Record.the-variants as variants;
-ghost use Rattle.model_format.specs.Model as model;
+ghost use Rattle.model_format.specs.Model as models;
 ghost use Rattle.model_format.specs.Reading as reading;
 ghost use Rattle.model_words.specs.Words as words;
 ghost use Rattle.model_faults.specs.Causes as causes;
@@ -63,14 +63,14 @@ ghost use Rattle.model_faults.specs.Laws as laws;
 ghost use Rattle.model_causes.specs.Readings as readings;
 
 // ---- what the items tell
-fn is_connected(m: &[u32], i: u16) -> bool
-    ensures { λ r. ⌜ r ≡ reading.isConnected (words.timingIn (now (m .entry))) i ⌝ }
+fn is_connected(model: &[u32], port: u16) -> bool
+    ensures { λ r. ⌜ r ≡ reading.isConnected (words.timingIn (now (model .entry))) port ⌝ }
 {
-    let n = connections(m);
+    let count = connections(model);
     let mut c: usize = 0;
-    while c < n {
-        let x = connection_at(m, c);
-        if x.target == i {
+    while c < count {
+        let connection = connection_at(model, c);
+        if connection.target == port {
             return true;
         }
         c += 1;
@@ -78,25 +78,25 @@ fn is_connected(m: &[u32], i: u16) -> bool
     false
 }
 
-fn hyperperiod(m: &[u32], old: u8, new: u8) -> u64
-    ensures { λ r. ⌜ r ≡ model.hyperperiod (words.timingIn (now (m .entry))) old new ⌝ }
+fn hyperperiod(model: &[u32], old: u8, new: u8) -> u64
+    ensures { λ r. ⌜ r ≡ models.hyperperiod (words.timingIn (now (model .entry))) old new ⌝ }
 {
-    let n = threads(m);
+    let count = threads(model);
     let mut h: u64 = 1;
     let mut t: usize = 0;
-    while t < n {
-        h = with_period(thread_at(m, t), old, new, h);
+    while t < count {
+        h = with_period(thread_at(model, t), old, new, h);
         t += 1;
     }
     h
 }
 
 // The hyperperiods that a mode transition gets.
-pub fn periods_of(m: &[u32], x: ModeTransition) -> Found
-    ensures { λ f. ⌜ f ≡ causes.foundIn (words.timingIn (now (m .entry))) (variants.ModeRecord x) ⌝ }
+pub fn periods_of(model: &[u32], switch: ModeTransition) -> Found
+    ensures { λ found. ⌜ found ≡ causes.foundIn (words.timingIn (now (model .entry))) (variants.ModeRecord switch) ⌝ }
 {
-    let h1 = hyperperiod(m, x.from, x.from);
-    let h2 = hyperperiod(m, x.from, x.to);
+    let h1 = hyperperiod(model, switch.from, switch.from);
+    let h2 = hyperperiod(model, switch.from, switch.to);
     Found {
         connected: false,
         h1: h1,
@@ -104,36 +104,36 @@ pub fn periods_of(m: &[u32], x: ModeTransition) -> Found
     }
 }
 
-// The owner of the item that a tag and a number name is the thread t.
-fn is_owned_by(m: &[u32], t: u8, tag: u8, n: usize) -> bool
-    ensures { λ r. ⌜ r ≡ reading.isOwnedBy (words.timingIn (now (m .entry))) t tag n ⌝ }
+// The owner of the item that a tag and a number name is the thread.
+fn is_owned_by(model: &[u32], thread: u8, tag: u8, number: usize) -> bool
+    ensures { λ r. ⌜ r ≡ reading.isOwnedBy (words.timingIn (now (model .entry))) thread tag number ⌝ }
 {
     match tag {
-        1 => input_owner(m, n) == t,
+        1 => input_owner(model, number) == thread,
         2 => {
-            let x = local_at(m, n);
-            x.owner == t
+            let local = local_at(model, number);
+            local.owner == thread
         }
-        3 => output_owner(m, n) == t,
+        3 => output_owner(model, number) == thread,
         _ => true,
     }
 }
 
-fn operand_owned(m: &[u32], t: u8, o: Operand) -> bool
-    ensures { λ r. ⌜ r ≡ reading.operandOwned (words.timingIn (now (m .entry))) t o ⌝ }
+fn operand_owned(model: &[u32], thread: u8, operand: Operand) -> bool
+    ensures { λ r. ⌜ r ≡ reading.operandOwned (words.timingIn (now (model .entry))) thread operand ⌝ }
 {
-    is_owned_by(m, t, o.tag, number_in(o))
+    is_owned_by(model, thread, operand.tag, number_in(operand))
 }
 
-// One of the first n assignments of transition k has the target of a.
-fn is_assigned(m: &[u32], k: usize, n: u8, a: Assignment) -> bool
-    ensures { λ r. ⌜ r ≡ readings.isAmong (words.behaviorIn (now (m .entry))) k n a ⌝ }
+// One of the assignments that the transition has so far has the target of this one.
+fn is_assigned(model: &[u32], transition: usize, assigned: u8, assignment: Assignment) -> bool
+    ensures { λ r. ⌜ r ≡ readings.isAmong (words.behaviorIn (now (model .entry))) transition assigned assignment ⌝ }
 {
-    let count = usize_of_u8(n);
+    let count = usize_of_u8(assigned);
     let mut j: usize = 0;
     while j < count {
-        let x = assignment_at(m, k, j);
-        if same_target(x, a) {
+        let other = assignment_at(model, transition, j);
+        if same_target(other, assignment) {
             return true;
         }
         j += 1;
@@ -142,109 +142,114 @@ fn is_assigned(m: &[u32], k: usize, n: u8, a: Assignment) -> bool
 }
 
 // ---- the cause of a record of each kind, after one of the rank `last`
-fn stand_of(m: &[u32], last: u8) -> Stand
-    ensures { λ r. ⌜ r ≡ laws.standOf (readings.readingIn last (now (m .entry))) ⌝ }
+fn stand_of(model: &[u32], last: u8) -> Stand
+    ensures { λ r. ⌜ r ≡ laws.standOf (readings.readingIn last (now (model .entry))) ⌝ }
 {
     Stand {
         last: last,
-        modes: modes(m),
-        initial: initial(m),
-        threads: threads(m),
-        inputs: inputs(m),
-        outputs: outputs(m),
-        locals: locals(m),
-        connections: connections(m),
-        switches: switches(m),
+        modes: modes(model),
+        initial: initial(model),
+        threads: threads(model),
+        inputs: inputs(model),
+        outputs: outputs(model),
+        locals: locals(model),
+        connections: connections(model),
+        switches: switches(model),
     }
 }
 
-pub fn cause_of_thread(m: &[u32], last: u8, x: Thread) -> Cause
-    ensures { λ c. ⌜ c ≡ reading.causeOf (readings.readingIn last (now (m .entry))) (variants.ThreadRecord x) ⌝ }
+pub fn cause_of_thread(model: &[u32], last: u8, thread: Thread) -> Cause
+    ensures { λ cause. ⌜ cause ≡ reading.causeOf (readings.readingIn last (now (model .entry))) (variants.ThreadRecord thread) ⌝ }
 {
     let order = !in_order(last, THREAD_RANK);
-    thread_cause(order, stand_of(m, last), x)
+    thread_cause(order, stand_of(model, last), thread)
 }
 
-pub fn cause_of_input(m: &[u32], last: u8, x: u8) -> Cause
-    ensures { λ c. ⌜ c ≡ reading.causeOf (readings.readingIn last (now (m .entry))) (variants.InputRecord x) ⌝ }
+pub fn cause_of_input(model: &[u32], last: u8, owner: u8) -> Cause
+    ensures { λ cause. ⌜ cause ≡ reading.causeOf (readings.readingIn last (now (model .entry))) (variants.InputRecord owner) ⌝ }
 {
     let order = !in_order(last, INPUT_RANK);
-    let n = stand_of(m, last);
-    port_cause(order, n.inputs, MAX_INPUTS, n, x)
+    let stand = stand_of(model, last);
+    port_cause(order, stand.inputs, MAX_INPUTS, stand, owner)
 }
 
-pub fn cause_of_output(m: &[u32], last: u8, x: u8) -> Cause
-    ensures { λ c. ⌜ c ≡ reading.causeOf (readings.readingIn last (now (m .entry))) (variants.OutputRecord x) ⌝ }
+pub fn cause_of_output(model: &[u32], last: u8, owner: u8) -> Cause
+    ensures { λ cause. ⌜ cause ≡ reading.causeOf (readings.readingIn last (now (model .entry))) (variants.OutputRecord owner) ⌝ }
 {
     let order = !in_order(last, OUTPUT_RANK);
-    let n = stand_of(m, last);
-    port_cause(order, n.outputs, MAX_OUTPUTS, n, x)
+    let stand = stand_of(model, last);
+    port_cause(order, stand.outputs, MAX_OUTPUTS, stand, owner)
 }
 
-pub fn cause_of_local(m: &[u32], last: u8, x: Local) -> Cause
-    ensures { λ c. ⌜ c ≡ reading.causeOf (readings.readingIn last (now (m .entry))) (variants.LocalRecord x) ⌝ }
+pub fn cause_of_local(model: &[u32], last: u8, local: Local) -> Cause
+    ensures { λ cause. ⌜ cause ≡ reading.causeOf (readings.readingIn last (now (model .entry))) (variants.LocalRecord local) ⌝ }
 {
     let order = !in_order(last, LOCAL_RANK);
-    let n = stand_of(m, last);
-    port_cause(order, n.locals, MAX_LOCALS, n, x.owner)
+    let stand = stand_of(model, last);
+    port_cause(order, stand.locals, MAX_LOCALS, stand, local.owner)
 }
 
-pub fn cause_of_connection(m: &[u32], last: u8, x: Connection) -> Cause
-    ensures { λ c. ⌜ c ≡ reading.causeOf (readings.readingIn last (now (m .entry))) (variants.ConnectionRecord x) ⌝ }
+pub fn cause_of_connection(model: &[u32], last: u8, connection: Connection) -> Cause
+    ensures { λ cause. ⌜ cause ≡ reading.causeOf (readings.readingIn last (now (model .entry))) (variants.ConnectionRecord connection) ⌝ }
 {
     let order = !in_order(last, CONNECTION_RANK);
-    let n = stand_of(m, last);
-    let connected = is_connected(m, x.target);
-    let f = Found {
+    let stand = stand_of(model, last);
+    let connected = is_connected(model, connection.target);
+    let found = Found {
         connected: connected,
         h1: 1,
         h2: 1,
     };
-    connection_cause(order, n, f, x)
+    connection_cause(order, stand, found, connection)
 }
 
-// f has the hyperperiods of x.
-pub fn cause_of_switch(m: &[u32], last: u8, f: Found, x: ModeTransition) -> Cause
-    requires { ⌜ f ≡ causes.foundIn (words.timingIn (now m)) (variants.ModeRecord x) ⌝ }
-    ensures { λ c. ⌜ c ≡ reading.causeOf (readings.readingIn last (now (m .entry))) (variants.ModeRecord x) ⌝ }
+// `found` has the hyperperiods of the mode transition.
+pub fn cause_of_switch(model: &[u32], last: u8, found: Found, switch: ModeTransition) -> Cause
+    requires { ⌜ found ≡ causes.foundIn (words.timingIn (now model)) (variants.ModeRecord switch) ⌝ }
+    ensures { λ cause. ⌜ cause ≡ reading.causeOf (readings.readingIn last (now (model .entry))) (variants.ModeRecord switch) ⌝ }
 {
     let order = !in_order(last, SWITCH_RANK);
-    switch_cause(order, stand_of(m, last), f, x)
+    switch_cause(order, stand_of(model, last), found, switch)
 }
 
-pub fn cause_of_transition(m: &[u32], last: u8, x: Transition) -> Cause
-    ensures { λ c. ⌜ c ≡ reading.causeOf (readings.readingIn last (now (m .entry))) (variants.TransitionRecord x) ⌝ }
+pub fn cause_of_transition(model: &[u32], last: u8, transition: Transition) -> Cause
+    ensures { λ cause. ⌜ cause ≡ reading.causeOf (readings.readingIn last (now (model .entry))) (variants.TransitionRecord transition) ⌝ }
 {
     let order = !in_order(last, TRANSITION_RANK);
-    transition_cause(order, stand_of(m, last), transitions(m), x)
+    transition_cause(order, stand_of(model, last), transitions(model), transition)
 }
 
-pub fn cause_of_atom(m: &[u32], last: u8, x: Atom) -> Cause
-    ensures { λ c. ⌜ c ≡ reading.causeOf (readings.readingIn last (now (m .entry))) (variants.AtomRecord x) ⌝ }
+pub fn cause_of_atom(model: &[u32], last: u8, atom: Atom) -> Cause
+    ensures { λ cause. ⌜ cause ≡ reading.causeOf (readings.readingIn last (now (model .entry))) (variants.AtomRecord atom) ⌝ }
 {
     let order = !in_order(last, ATOM_RANK);
-    let open = transition_at(m, last_transition(m));
-    let left = is_owned_by(m, open.thread, x.tag, usize_of_u16(x.number));
-    let right = operand_owned(m, open.thread, x.right);
-    atom_cause(order, stand_of(m, last), open, left & right, x)
+    let open = transition_at(model, last_transition(model));
+    let left = is_owned_by(model, open.thread, atom.tag, usize_of_u16(atom.number));
+    let right = operand_owned(model, open.thread, atom.right);
+    atom_cause(order, stand_of(model, last), open, left & right, atom)
 }
 
-pub fn cause_of_assignment(m: &[u32], last: u8, x: Assignment) -> Cause
-    ensures { λ c. ⌜ c ≡ reading.causeOf (readings.readingIn last (now (m .entry))) (variants.AssignmentRecord x) ⌝ }
+pub fn cause_of_assignment(model: &[u32], last: u8, assignment: Assignment) -> Cause
+    ensures { λ cause. ⌜ cause ≡ reading.causeOf (readings.readingIn last (now (model .entry))) (variants.AssignmentRecord assignment) ⌝ }
 {
     let order = !in_order(last, ASSIGNMENT_RANK);
-    let k = last_transition(m);
-    let open = transition_at(m, k);
-    let target = is_owned_by(m, open.thread, x.tag, usize_of_u16(x.number));
-    let first = operand_owned(m, open.thread, x.first);
-    let second = operand_owned(m, open.thread, x.second);
-    let twice = is_assigned(m, k, open.assignments, x);
+    let current = last_transition(model);
+    let open = transition_at(model, current);
+    let target = is_owned_by(
+        model,
+        open.thread,
+        assignment.tag,
+        usize_of_u16(assignment.number),
+    );
+    let first = operand_owned(model, open.thread, assignment.first);
+    let second = operand_owned(model, open.thread, assignment.second);
+    let twice = is_assigned(model, current, open.assignments, assignment);
     assignment_cause(
         order,
-        stand_of(m, last),
+        stand_of(model, last),
         open,
         target & (first & second),
         twice,
-        x,
+        assignment,
     )
 }

@@ -1,4 +1,1 @@
-pub mod Ports
-pub mod Sends
 pub mod Events
-pub mod Modes

@@ -10,7 +10,7 @@ use lib.ListN.{length, length-append}
 use Rattle.numbers.specs.declared.Duration.{Duration}
 use Rattle.numbers.specs.Lists.{joinBelow, only}
 use Rattle.records.specs.declared.Cause.the-variants.{None, ShortOutput}
-use Rattle.records.specs.Events.{lastClock}
+use Rattle.records.specs.Events.{requestKind, lastClock}
 use Rattle.model_format.specs.declared.Timing.{Timing}
 use Rattle.model_format.specs.Model.{maxThreads}
 use Rattle.model_semantics.specs.declared.State.{State}
@@ -74,7 +74,7 @@ module _ (m : Timing) (s : State) (kind : ℕ) where
 
   pub items-few : itemsOf m kind ≤ ids
   unfolding itemsOf
-  items-few = go (ltb kind 8)
+  items-few = go (ltb kind requestKind)
     where
       go : (b : Bool) → cond b (min (m .threads) maxThreads) (min (m .switches) ids) ≤ ids
       go true = omega arith

@@ -7,7 +7,7 @@ use native.Mathlib.Decide.{decLt}
 use lib.Dec.{eqb, ltb}
 use borrow.Author.Tests.{lt-ltb, le-ltb, eq-eqb, ne-eqb}
 use Rattle.numbers.specs.ListLaws.{item-past}
-use Rattle.records.specs.Events.{startKind}
+use Rattle.records.specs.Events.{activateKind, deactivateKind, dispatchKind, startKind, completeKind, deadlineKind, missKind, requestKind, enterKind}
 use Rattle.model_format.specs.declared.Thread.{Thread}
 use Rattle.model_format.specs.declared.Timing.{Timing}
 use Rattle.model_format.specs.Model.{maxThreads, threadAt}
@@ -19,67 +19,67 @@ use Rattle.model_enabled.specs.Walks.{itemsOf}
 
 -- ---- each kind: n is how many threads or mode transitions there are, b the test
 module _ (m : Timing) (s : State) (kind i n : ℕ) (b : Bool) where
-  pub take-activate : kind ≡ 1 → n ≡ m .threads → b ≡ canActivate s i → (ltb i n && b) ≡ mayTake m s kind i
+  pub take-activate : kind ≡ activateKind → n ≡ m .threads → b ≡ canActivate s i → (ltb i n && b) ≡ mayTake m s kind i
   unfolding mayTake
   take-activate k e f = rw (k, e, f)
 
-  pub take-deactivate : kind ≡ 2 → n ≡ m .threads → b ≡ canDeactivate s i → (ltb i n && b) ≡ mayTake m s kind i
+  pub take-deactivate : kind ≡ deactivateKind → n ≡ m .threads → b ≡ canDeactivate s i → (ltb i n && b) ≡ mayTake m s kind i
   unfolding mayTake
   take-deactivate k e f = rw (k, e, f)
 
-  pub take-dispatch : kind ≡ 3 → n ≡ m .threads → b ≡ canDispatch m s i → (ltb i n && b) ≡ mayTake m s kind i
+  pub take-dispatch : kind ≡ dispatchKind → n ≡ m .threads → b ≡ canDispatch m s i → (ltb i n && b) ≡ mayTake m s kind i
   unfolding mayTake
   take-dispatch k e f = rw (k, e, f)
 
-  pub take-complete : kind ≡ 5 → n ≡ m .threads → b ≡ canComplete s i → (ltb i n && b) ≡ mayTake m s kind i
+  pub take-complete : kind ≡ completeKind → n ≡ m .threads → b ≡ canComplete s i → (ltb i n && b) ≡ mayTake m s kind i
   unfolding mayTake
   take-complete k e f = rw (k, e, f)
 
-  pub take-deadline : kind ≡ 6 → n ≡ m .threads → b ≡ canMeetDeadline m s i → (ltb i n && b) ≡ mayTake m s kind i
+  pub take-deadline : kind ≡ deadlineKind → n ≡ m .threads → b ≡ canMeetDeadline m s i → (ltb i n && b) ≡ mayTake m s kind i
   unfolding mayTake
   take-deadline k e f = rw (k, e, f)
 
-  pub take-miss : kind ≡ 7 → n ≡ m .threads → b ≡ canMiss m s i → (ltb i n && b) ≡ mayTake m s kind i
+  pub take-miss : kind ≡ missKind → n ≡ m .threads → b ≡ canMiss m s i → (ltb i n && b) ≡ mayTake m s kind i
   unfolding mayTake
   take-miss k e f = rw (k, e, f)
 
-  pub take-request : kind ≡ 8 → n ≡ m .switches → ltb i n ≡ mayTake m s kind i
+  pub take-request : kind ≡ requestKind → n ≡ m .switches → ltb i n ≡ mayTake m s kind i
   unfolding mayTake
   take-request k e = rw (k, e)
 
-  pub take-enter : kind ≡ 9 → n ≡ m .switches → b ≡ canEnter m s i → (ltb i n && b) ≡ mayTake m s kind i
+  pub take-enter : kind ≡ enterKind → n ≡ m .switches → b ≡ canEnter m s i → (ltb i n && b) ≡ mayTake m s kind i
   unfolding mayTake
   take-enter k e f = rw (k, e, f)
 
-  pub take-leave : (kind ≡ 1 → ⊥) → (kind ≡ 2 → ⊥) → (kind ≡ 3 → ⊥) → (kind ≡ 4 → ⊥) → (kind ≡ 5 → ⊥) → (kind ≡ 6 → ⊥) → (kind ≡ 7 → ⊥) → (kind ≡ 8 → ⊥) → (kind ≡ 9 → ⊥) →
+  pub take-leave : (kind ≡ activateKind → ⊥) → (kind ≡ deactivateKind → ⊥) → (kind ≡ dispatchKind → ⊥) → (kind ≡ startKind → ⊥) → (kind ≡ completeKind → ⊥) → (kind ≡ deadlineKind → ⊥) → (kind ≡ missKind → ⊥) → (kind ≡ requestKind → ⊥) → (kind ≡ enterKind → ⊥) →
       n ≡ m .switches → b ≡ canLeave m s i → (ltb i n && b) ≡ mayTake m s kind i
   unfolding mayTake
   take-leave k1 k2 k3 k4 k5 k6 k7 k8 k9 e f =
-      rw (ne-eqb kind 1 k1, ne-eqb kind 2 k2, ne-eqb kind 3 k3, ne-eqb kind 4 k4, ne-eqb kind 5 k5, ne-eqb kind 6 k6, ne-eqb kind 7 k7, ne-eqb kind 8 k8, ne-eqb kind 9 k9, e, f)
+      rw (ne-eqb kind activateKind k1, ne-eqb kind deactivateKind k2, ne-eqb kind dispatchKind k3, ne-eqb kind startKind k4, ne-eqb kind completeKind k5, ne-eqb kind deadlineKind k6, ne-eqb kind missKind k7, ne-eqb kind requestKind k8, ne-eqb kind enterKind k9, e, f)
 
 -- START: x is the thread, r the first step that fails with its shortest length
-pub take-start : (m : Timing) (s : State) (i r : ℕ) (x : Thread) → x ≡ threadAt m i → r ≡ startFault m s i (x .bcet .0) → eqb r 0 ≡ mayTake m s 4 i
+pub take-start : (m : Timing) (s : State) (i r : ℕ) (x : Thread) → x ≡ threadAt m i → r ≡ startFault m s i (x .bcet .0) → eqb r 0 ≡ mayTake m s startKind i
 unfolding mayTake
 take-start m s i r x e f = rw (f, e)
 
-pub take-start-kind : (m : Timing) (s : State) (kind i : ℕ) (b : Bool) → kind ≡ 4 → b ≡ mayTake m s 4 i → b ≡ mayTake m s kind i
+pub take-start-kind : (m : Timing) (s : State) (kind i : ℕ) (b : Bool) → kind ≡ startKind → b ≡ mayTake m s startKind i → b ≡ mayTake m s kind i
 take-start-kind m s kind i b k e = rw k e
 
 -- ---- lengths
-pub length-start : (kind n : ℕ) → kind ≡ 4 → n ≡ lengthIn kind n
+pub length-start : (kind n : ℕ) → kind ≡ startKind → n ≡ lengthIn kind n
 length-start kind n k = rw (eq-eqb kind startKind k)
 
-pub length-other : (kind n : ℕ) → (kind ≡ 4 → ⊥) → 0 ≡ lengthIn kind n
+pub length-other : (kind n : ℕ) → (kind ≡ startKind → ⊥) → 0 ≡ lengthIn kind n
 length-other kind n k = rw (ne-eqb kind startKind k)
 
 -- ---- the ids
-pub items-threads : (m : Timing) (kind n r : ℕ) → kind < 8 → n ≡ m .threads → r ≡ min n maxThreads → r ≡ itemsOf m kind
+pub items-threads : (m : Timing) (kind n r : ℕ) → kind < requestKind → n ≡ m .threads → r ≡ min n maxThreads → r ≡ itemsOf m kind
 unfolding itemsOf
-items-threads m kind n r k e f = f ∙ rw (e, lt-ltb kind 8 k)
+items-threads m kind n r k e f = f ∙ rw (e, lt-ltb kind requestKind k)
 
-pub items-switches : (m : Timing) (kind n r : ℕ) → 8 ≤ kind → n ≡ m .switches → r ≡ min n ids → r ≡ itemsOf m kind
+pub items-switches : (m : Timing) (kind n r : ℕ) → requestKind ≤ kind → n ≡ m .switches → r ≡ min n ids → r ≡ itemsOf m kind
 unfolding itemsOf
-items-switches m kind n r k e f = f ∙ rw (e, le-ltb kind 8 k)
+items-switches m kind n r k e f = f ∙ rw (e, le-ltb kind requestKind k)
 
 -- ---- past them
 module _ (m : Timing) (s : State) (i : ℕ) where
@@ -116,7 +116,7 @@ module _ (m : Timing) (s : State) (i : ℕ) where
       go (yes l) = rw (f (omega arith)) (and-false (ltb i (m .threads)))
       go (no l) = rw (le-ltb i (m .threads) (omega arith))
 
-  none-on-thread : min (m .threads) maxThreads ≤ i → (k : ℕ) → k < 8 → (k ≡ 0 → ⊥) → mayTake m s k i ≡ false
+  none-on-thread : min (m .threads) maxThreads ≤ i → (k : ℕ) → k < requestKind → (k ≡ 0 → ⊥) → mayTake m s k i ≡ false
   unfolding mayTake canActivate canDeactivate canDispatch canComplete canMeetDeadline
   none-on-thread h zero l z = absurd (z refl)
   none-on-thread h (suc zero) l z = of-thread _ (λ p. rw (not-active m s i p)) h
@@ -132,20 +132,20 @@ module _ (m : Timing) (s : State) (i : ℕ) where
   none-on-thread h (suc (suc (suc (suc (suc (suc (suc zero))))))) l z = of-thread _ (no-miss m s i) h
   none-on-thread h (suc (suc (suc (suc (suc (suc (suc (suc k)))))))) l z = absurd (omega arith)
 
-  none-on-switch : min (m .switches) ids ≤ i → i < ids → (k : ℕ) → 8 ≤ k → mayTake m s k i ≡ false
+  none-on-switch : min (m .switches) ids ≤ i → i < ids → (k : ℕ) → requestKind ≤ k → mayTake m s k i ≡ false
   unfolding mayTake
   none-on-switch h l k b =
       rw (
-        ne-eqb k 1 (λ e. omega arith),
-        ne-eqb k 2 (λ e. omega arith),
-        ne-eqb k 3 (λ e. omega arith),
-        ne-eqb k 4 (λ e. omega arith),
-        ne-eqb k 5 (λ e. omega arith),
-        ne-eqb k 6 (λ e. omega arith),
-        ne-eqb k 7 (λ e. omega arith),
+        ne-eqb k activateKind (λ e. omega arith),
+        ne-eqb k deactivateKind (λ e. omega arith),
+        ne-eqb k dispatchKind (λ e. omega arith),
+        ne-eqb k startKind (λ e. omega arith),
+        ne-eqb k completeKind (λ e. omega arith),
+        ne-eqb k deadlineKind (λ e. omega arith),
+        ne-eqb k missKind (λ e. omega arith),
         le-ltb i (m .switches) (omega arith),
       )
-      (go (eqb k 8) (eqb k 9))
+      (go (eqb k requestKind) (eqb k enterKind))
     where
       go : (a b : Bool) → cond a false (cond b false false) ≡ false
       go true b = refl
@@ -154,8 +154,8 @@ module _ (m : Timing) (s : State) (i : ℕ) where
 
   pub none-past : (kind : ℕ) → 1 ≤ kind → itemsOf m kind ≤ i → i < ids → mayTake m s kind i ≡ false
   unfolding itemsOf
-  none-past kind b h l = go (decLt kind 8)
+  none-past kind b h l = go (decLt kind requestKind)
     where
-      go : Dec (kind < 8) → mayTake m s kind i ≡ false
-      go (yes k) = none-on-thread (rw (lt-ltb kind 8 k) at h) kind k (λ e. omega arith)
-      go (no k) = none-on-switch (rw (le-ltb kind 8 (omega arith)) at h) l kind (omega arith)
+      go : Dec (kind < requestKind) → mayTake m s kind i ≡ false
+      go (yes k) = none-on-thread (rw (lt-ltb kind requestKind k) at h) kind k (λ e. omega arith)
+      go (no k) = none-on-switch (rw (le-ltb kind requestKind (omega arith)) at h) l kind (omega arith)

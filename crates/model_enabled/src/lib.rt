@@ -1,5 +1,4 @@
-// What is enabled in a state of a model, both as lists of numbers that a caller lends: m is the model's, s the state's. Four numbers an event
-// go into a lent list.
+// What is enabled in a state of a model, both as lists of numbers that a caller lends. Four numbers an event go into a lent list.
 
 use enabled::Enabled;
 use model_format::MAX_THREADS;
@@ -57,38 +56,38 @@ const SWITCH_KINDS: usize = 3;
 const OFFER: usize = 4;
 
 // START with the shortest length.
-fn may_start(m: &[u32], s: &[u32], t: usize) -> bool
-    ensures { λ r. ⌜ r ≡ mayTake (timingIn (now (m .entry))) (stateIn (now (s .entry))) 4 t ⌝ }
+fn may_start(model: &[u32], state: &[u32], t: usize) -> bool
+    ensures { λ r. ⌜ r ≡ mayTake (timingIn (now (model .entry))) (stateIn (now (state .entry))) 4 t ⌝ }
 {
-    let x = thread_at(m, t);
-    start_fault(m, s, t, x.bcet.0) == 0
+    let thread = thread_at(model, t);
+    start_fault(model, state, t, thread.bcet.0) == 0
 }
 
-fn may_take(m: &[u32], s: &[u32], kind: u8, i: usize) -> bool
-    ensures { λ r. ⌜ r ≡ mayTake (timingIn (now (m .entry))) (stateIn (now (s .entry))) kind i ⌝ }
+fn may_take(model: &[u32], state: &[u32], kind: u8, i: usize) -> bool
+    ensures { λ r. ⌜ r ≡ mayTake (timingIn (now (model .entry))) (stateIn (now (state .entry))) kind i ⌝ }
 {
     match kind {
-        ACTIVATE => (i < threads(m)) & can_activate(s, i),
-        DEACTIVATE => (i < threads(m)) & can_deactivate(s, i),
-        DISPATCH => (i < threads(m)) & can_dispatch(m, s, i),
-        START => may_start(m, s, i),
-        COMPLETE => (i < threads(m)) & can_complete(s, i),
-        DEADLINE => (i < threads(m)) & can_meet_deadline(m, s, i),
-        MISS => (i < threads(m)) & can_miss(m, s, i),
-        REQUEST => i < switches(m),
-        ENTER => (i < switches(m)) & can_enter(m, s, i),
-        _ => (i < switches(m)) & can_leave(m, s, i),
+        ACTIVATE => (i < threads(model)) & can_activate(state, i),
+        DEACTIVATE => (i < threads(model)) & can_deactivate(state, i),
+        DISPATCH => (i < threads(model)) & can_dispatch(model, state, i),
+        START => may_start(model, state, i),
+        COMPLETE => (i < threads(model)) & can_complete(state, i),
+        DEADLINE => (i < threads(model)) & can_meet_deadline(model, state, i),
+        MISS => (i < threads(model)) & can_miss(model, state, i),
+        REQUEST => i < switches(model),
+        ENTER => (i < switches(model)) & can_enter(model, state, i),
+        _ => (i < switches(model)) & can_leave(model, state, i),
     }
 }
 
 // The ids that a kind is looked at for: past them nothing is enabled.
-fn items_of(m: &[u32], kind: u8) -> usize
-    ensures { λ r. ⌜ r ≡ itemsOf (timingIn (now (m .entry))) kind ⌝ }
+fn items_of(model: &[u32], kind: u8) -> usize
+    ensures { λ r. ⌜ r ≡ itemsOf (timingIn (now (model .entry))) kind ⌝ }
 {
     if kind < REQUEST {
-        return within(threads(m), MAX_THREADS);
+        return within(threads(model), MAX_THREADS);
     }
-    within(switches(m), IDS)
+    within(switches(model), IDS)
 }
 
 // Lengths are START's alone.
@@ -111,69 +110,76 @@ fn put_offer(output: &mut [u32], n: usize, kind: u32, id: u32, low: u32, high: u
 }
 
 // The event of a kind and an id, where it is enabled, behind n events.
-fn put_event(output: &mut [u32], n: usize, m: &[u32], s: &[u32], kind: u8, i: usize) -> usize
+fn put_event(
+    output: &mut [u32],
+    n: usize,
+    model: &[u32],
+    state: &[u32],
+    kind: u8,
+    i: usize,
+) -> usize
     requires { ⌜ (i < ids) × (n ≤ farthest) ⌝ }
-    ensures { λ r. ⌜ Listed (now (output .entry)) n (only (mayTake (timingIn (now (m .entry))) (stateIn (now (s .entry))) kind i) (offerOf (timingIn (now (m .entry))) kind i)) (now (output .exit)) r ⌝ }
+    ensures { λ r. ⌜ Listed (now (output .entry)) n (only (mayTake (timingIn (now (model .entry))) (stateIn (now (state .entry))) kind i) (offerOf (timingIn (now (model .entry))) kind i)) (now (output .exit)) r ⌝ }
 {
-    if !may_take(m, s, kind, i) {
+    if !may_take(model, state, kind, i) {
         return n;
     }
-    let x = thread_at(m, i);
-    let low = length_in(kind, x.bcet.0);
-    let high = length_in(kind, x.wcet.0);
+    let thread = thread_at(model, i);
+    let low = length_in(kind, thread.bcet.0);
+    let high = length_in(kind, thread.wcet.0);
     put_offer(output, n, u32_of_u8(kind), i as u32, low, high);
     n + 1
 }
 
-fn put_kind(output: &mut [u32], n: usize, m: &[u32], s: &[u32], kind: u8) -> usize
-    requires { ⌜ (1 ≤ kind) × (n ≤ most (timingIn (now m))) ⌝ }
-    ensures { λ r. ⌜ Listed (now (output .entry)) n (ofKind (timingIn (now (m .entry))) (stateIn (now (s .entry))) kind) (now (output .exit)) r ⌝ }
+fn put_kind(output: &mut [u32], n: usize, model: &[u32], state: &[u32], kind: u8) -> usize
+    requires { ⌜ (1 ≤ kind) × (n ≤ most (timingIn (now model))) ⌝ }
+    ensures { λ r. ⌜ Listed (now (output .entry)) n (ofKind (timingIn (now (model .entry))) (stateIn (now (state .entry))) kind) (now (output .exit)) r ⌝ }
 {
-    let items = items_of(m, kind);
+    let items = items_of(model, kind);
     let mut n = n;
     let mut i: usize = 0;
     while i < items {
-        n = put_event(output, n, m, s, kind, i);
+        n = put_event(output, n, model, state, kind, i);
         i += 1;
     }
     n
 }
 
 // All events, as far as the list goes; it tells how many there are.
-fn put_events(output: &mut [u32], m: &[u32], s: &[u32]) -> usize
-    ensures { λ r. ⌜ Listed (now (output .entry)) 0 (modelOffers (timingIn (now (m .entry))) (stateIn (now (s .entry)))) (now (output .exit)) r ⌝ }
+fn put_events(output: &mut [u32], model: &[u32], state: &[u32]) -> usize
+    ensures { λ r. ⌜ Listed (now (output .entry)) 0 (modelOffers (timingIn (now (model .entry))) (stateIn (now (state .entry)))) (now (output .exit)) r ⌝ }
 {
     let mut n: usize = 0;
     let mut k: u8 = 0;
     while k < KINDS {
-        n = put_kind(output, n, m, s, k + 1);
+        n = put_kind(output, n, model, state, k + 1);
         k += 1;
     }
     n
 }
 
 // The same walk over a list of its own, past which it counts and does not write.
-fn count_events(m: &[u32], s: &[u32]) -> usize
-    ensures { λ r. ⌜ r ≡ length (modelOffers (timingIn (now (m .entry))) (stateIn (now (s .entry)))) ⌝ }
+fn count_events(model: &[u32], state: &[u32]) -> usize
+    ensures { λ r. ⌜ r ≡ length (modelOffers (timingIn (now (model .entry))) (stateIn (now (state .entry)))) ⌝ }
 {
     let mut none = [0u32; 1];
-    put_events(&mut none, m, s)
+    put_events(&mut none, model, state)
 }
 
 // No state of a model has more events enabled.
-fn most_events(m: &[u32]) -> usize
-    ensures { λ r. ⌜ r ≡ most (timingIn (now (m .entry))) ⌝ }
+fn most_events(model: &[u32]) -> usize
+    ensures { λ r. ⌜ r ≡ most (timingIn (now (model .entry))) ⌝ }
 {
-    let n = within(threads(m), MAX_THREADS);
-    let q = within(switches(m), IDS);
+    let n = within(threads(model), MAX_THREADS);
+    let q = within(switches(model), IDS);
     THREAD_KINDS * n + SWITCH_KINDS * q
 }
 
-fn may_tick(m: &[u32], s: &[u32]) -> bool
-    ensures { λ r. ⌜ r ≡ modelMayTick (timingIn (now (m .entry))) (stateIn (now (s .entry))) ⌝ }
+fn may_tick(model: &[u32], state: &[u32]) -> bool
+    ensures { λ r. ⌜ r ≡ modelMayTick (timingIn (now (model .entry))) (stateIn (now (state .entry))) ⌝ }
 {
-    let now = now_of(s);
-    let busy = is_busy(m, s);
+    let now = now_of(state);
+    let busy = is_busy(model, state);
     !busy & (now.0 < LAST_CLOCK)
 }
 
@@ -201,18 +207,18 @@ fn short(count: usize, tick: bool) -> Enabled
 
 // Every event that may come next, at the beginning of the output, where they fit; else the output is as it was. With room for as many as there
 // can be there is nothing to count first.
-pub fn enabled_in(m: &[u32], s: &[u32], output: &mut [u32]) -> Enabled
-    ensures { λ r. ⌜ (r ≡ toldOf (modelOffers (timingIn (now (m .entry))) (stateIn (now (s .entry)))) (modelMayTick (timingIn (now (m .entry))) (stateIn (now (s .entry)))) (length (now (output .entry)))) × (now (output .exit) ≡ listOf (modelOffers (timingIn (now (m .entry))) (stateIn (now (s .entry)))) (now (output .entry))) ⌝ }
+pub fn enabled_in(model: &[u32], state: &[u32], output: &mut [u32]) -> Enabled
+    ensures { λ r. ⌜ (r ≡ toldOf (modelOffers (timingIn (now (model .entry))) (stateIn (now (state .entry)))) (modelMayTick (timingIn (now (model .entry))) (stateIn (now (state .entry)))) (length (now (output .entry)))) × (now (output .exit) ≡ listOf (modelOffers (timingIn (now (model .entry))) (stateIn (now (state .entry)))) (now (output .entry))) ⌝ }
 {
-    let tick = may_tick(m, s);
-    if OFFER * most_events(m) <= output.len() {
-        let count = put_events(output, m, s);
+    let tick = may_tick(model, state);
+    if OFFER * most_events(model) <= output.len() {
+        let count = put_events(output, model, state);
         return listed(count, tick);
     }
-    let count = count_events(m, s);
+    let count = count_events(model, state);
     if output.len() < OFFER * count {
         return short(count, tick);
     }
-    put_events(output, m, s);
+    put_events(output, model, state);
     listed(count, tick)
 }

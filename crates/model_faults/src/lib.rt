@@ -64,7 +64,7 @@ const LONGEST_HYPERPERIOD: u64 = LAST_CLOCK as u64;
 const MAX_STATES: u8 = 8;
 
 // Atoms or assignments of a transition, which bytes count.
-const MAX_EACH_BYTE: u8 = 4;
+const MAX_EACH_BYTE: u8 = model_format::MAX_EACH as u8;
 
 // How many there are of: what a mark says, kinds of connections, tags of operands, comparisons, operations.
 const MARKS: u8 = 2;
@@ -88,30 +88,30 @@ fn least_kind(last: u8) -> u8
     }
 }
 
-// A record of kind k may follow one of kind `last`.
-pub fn in_order(last: u8, k: u8) -> bool
-    ensures { λ r. ⌜ r ≡ reading.inOrder last k ⌝ }
+// A record of one kind may follow one of kind `last`.
+pub fn in_order(last: u8, kind: u8) -> bool
+    ensures { λ r. ⌜ r ≡ reading.inOrder last kind ⌝ }
 {
     let least = least_kind(last);
-    match k {
+    match kind {
         HEAD_RANK => last == 0,
         ATOM_RANK => (last == TRANSITION_RANK) | (last == ATOM_RANK),
         ASSIGNMENT_RANK => TRANSITION_RANK <= last,
-        _ => (0 < last) & (least <= k),
+        _ => (0 < last) & (least <= kind),
     }
 }
 
-fn times_fit(x: Thread) -> bool
-    ensures { λ r. ⌜ r ≡ reading.timesFit x ⌝ }
+fn times_fit(thread: Thread) -> bool
+    ensures { λ r. ⌜ r ≡ reading.timesFit thread ⌝ }
 {
-    let p = x.period;
-    let d = x.deadline;
-    let b = x.bcet;
-    let w = x.wcet;
-    let period = p.0;
-    let deadline = d.0;
-    let bcet = b.0;
-    let wcet = w.0;
+    let written_period = thread.period;
+    let written_deadline = thread.deadline;
+    let written_bcet = thread.bcet;
+    let written_wcet = thread.wcet;
+    let period = written_period.0;
+    let deadline = written_deadline.0;
+    let bcet = written_bcet.0;
+    let wcet = written_wcet.0;
     (1 <= deadline)
         & ((deadline <= period)
             & ((period <= LONGEST_TIME)
@@ -119,166 +119,166 @@ fn times_fit(x: Thread) -> bool
 }
 
 // A mask has 8 bits, so it fits where there are 8 modes or more.
-fn mask_fits(m: Stand, mask: u8) -> bool
-    ensures { λ r. ⌜ r ≡ reading.maskFits (causes.bare m) mask ⌝ }
+fn mask_fits(stand: Stand, mask: u8) -> bool
+    ensures { λ r. ⌜ r ≡ reading.maskFits (causes.bare stand) mask ⌝ }
 {
-    let n = m.modes;
-    if n < MAX_MODES {
-        (mask >> n) == 0
+    let modes = stand.modes;
+    if modes < MAX_MODES {
+        (mask >> modes) == 0
     } else {
         true
     }
 }
 
 // The item that a tag and a number name is there.
-fn names_item(m: Stand, tag: u8, n: usize) -> bool
-    ensures { λ r. ⌜ r ≡ reading.namesItem (causes.bare m) tag n ⌝ }
+fn names_item(stand: Stand, tag: u8, number: usize) -> bool
+    ensures { λ r. ⌜ r ≡ reading.namesItem (causes.bare stand) tag number ⌝ }
 {
     match tag {
-        INPUT_TAG => n < m.inputs,
-        LOCAL_TAG => n < m.locals,
-        OUTPUT_TAG => n < m.outputs,
+        INPUT_TAG => number < stand.inputs,
+        LOCAL_TAG => number < stand.locals,
+        OUTPUT_TAG => number < stand.outputs,
         _ => true,
     }
 }
 
 // An operand's number as an item's. A negative one has bits that name nothing.
-pub fn number_in(o: Operand) -> usize
-    ensures { λ r. ⌜ r ≡ causes.numberIn o ⌝ }
+pub fn number_in(operand: Operand) -> usize
+    ensures { λ r. ⌜ r ≡ causes.numberIn operand ⌝ }
 {
-    let v = o.value;
-    let n = numbers::bits(v);
-    n as usize
+    let value = operand.value;
+    let bits = numbers::bits(value);
+    bits as usize
 }
 
-fn operand_tag(o: Operand) -> bool
-    ensures { λ r. ⌜ r ≡ reading.operandTag o ⌝ }
+fn operand_tag(operand: Operand) -> bool
+    ensures { λ r. ⌜ r ≡ reading.operandTag operand ⌝ }
 {
-    let t = o.tag;
-    t < OPERAND_TAGS
+    let tag = operand.tag;
+    tag < OPERAND_TAGS
 }
 
-fn operand_names(m: Stand, o: Operand) -> bool
-    ensures { λ r. ⌜ r ≡ reading.operandNames (causes.bare m) o ⌝ }
+fn operand_names(stand: Stand, operand: Operand) -> bool
+    ensures { λ r. ⌜ r ≡ reading.operandNames (causes.bare stand) operand ⌝ }
 {
-    let t = o.tag;
-    if t < OPERAND_TAGS {
-        let n = number_in(o);
-        names_item(m, t, n)
+    let tag = operand.tag;
+    if tag < OPERAND_TAGS {
+        let number = number_in(operand);
+        names_item(stand, tag, number)
     } else {
         true
     }
 }
 
-fn left_tag(a: Atom) -> bool
-    ensures { λ r. ⌜ r ≡ reading.leftTag a ⌝ }
+fn left_tag(atom: Atom) -> bool
+    ensures { λ r. ⌜ r ≡ reading.leftTag atom ⌝ }
 {
-    let t = a.tag;
-    (t == INPUT_TAG) | (t == LOCAL_TAG)
+    let tag = atom.tag;
+    (tag == INPUT_TAG) | (tag == LOCAL_TAG)
 }
 
-fn target_tag(a: Assignment) -> bool
-    ensures { λ r. ⌜ r ≡ reading.targetTag a ⌝ }
+fn target_tag(assignment: Assignment) -> bool
+    ensures { λ r. ⌜ r ≡ reading.targetTag assignment ⌝ }
 {
-    let t = a.tag;
-    (t == LOCAL_TAG) | (t == OUTPUT_TAG)
+    let tag = assignment.tag;
+    (tag == LOCAL_TAG) | (tag == OUTPUT_TAG)
 }
 
 // Where the tag is one that the place allows, the item is there.
-fn allowed_names(allowed: bool, m: Stand, tag: u8, n: u16) -> bool
-    ensures { λ r. ⌜ r ≡ cond allowed (reading.namesItem (causes.bare m) tag n) true ⌝ }
+fn allowed_names(allowed: bool, stand: Stand, tag: u8, number: u16) -> bool
+    ensures { λ r. ⌜ r ≡ cond allowed (reading.namesItem (causes.bare stand) tag number) true ⌝ }
 {
     if allowed {
-        names_item(m, tag, usize_of_u16(n))
+        names_item(stand, tag, usize_of_u16(number))
     } else {
         true
     }
 }
 
 // A hyperperiod with the period of a thread that is critical in both modes.
-pub fn with_period(x: Thread, old: u8, new: u8, h: u64) -> u64
-    ensures { λ r. ⌜ r ≡ laws.withPeriodOf x old new h ⌝ }
+pub fn with_period(thread: Thread, old: u8, new: u8, hyperperiod: u64) -> u64
+    ensures { λ r. ⌜ r ≡ laws.withPeriodOf thread old new hyperperiod ⌝ }
 {
-    let before = critical_in(x, old);
-    let after = critical_in(x, new);
+    let before = critical_in(thread, old);
+    let after = critical_in(thread, new);
     if before & after {
-        let p = x.period;
-        lcm_up_to(LAST_CLOCK, h, p.0)
+        let period = thread.period;
+        lcm_up_to(LAST_CLOCK, hyperperiod, period.0)
     } else {
-        h
+        hyperperiod
     }
 }
 
-pub fn same_target(x: Assignment, a: Assignment) -> bool
-    ensures { λ r. ⌜ r ≡ causes.sameTarget x a ⌝ }
+pub fn same_target(one: Assignment, other: Assignment) -> bool
+    ensures { λ r. ⌜ r ≡ causes.sameTarget one other ⌝ }
 {
-    let p = x.tag;
-    let i = x.number;
-    let q = a.tag;
-    let j = a.number;
-    (p == q) & (i == j)
+    let one_tag = one.tag;
+    let one_number = one.number;
+    let other_tag = other.tag;
+    let other_number = other.number;
+    (one_tag == other_tag) & (one_number == other_number)
 }
 
 // The first fault, in the order of the causes' numbers.
-fn judged(f: Faults) -> Cause
-    ensures { λ r. ⌜ r ≡ reading.judged f ⌝ }
+fn judged(faults: Faults) -> Cause
+    ensures { λ r. ⌜ r ≡ reading.judged faults ⌝ }
 {
-    if f.order {
+    if faults.order {
         return Cause::WrongKind;
     }
-    if f.excess {
+    if faults.excess {
         return Cause::TooMany;
     }
-    if f.names {
+    if faults.names {
         return Cause::WrongField;
     }
-    if f.times {
+    if faults.times {
         return Cause::WrongField;
     }
-    if f.ranges {
+    if faults.ranges {
         return Cause::WrongField;
     }
-    if f.owner {
+    if faults.owner {
         return Cause::OtherThread;
     }
-    if f.twice {
+    if faults.twice {
         return Cause::SetTwice;
     }
-    if f.hyperperiod {
+    if faults.hyperperiod {
         return Cause::LongHyperperiod;
     }
     Cause::None
 }
 
 // ---- the cause of each kind of record, where `order` says that its kind may not stand there
-pub fn head_cause(order: bool, x: Head) -> Cause
-    ensures { λ r. ⌜ r ≡ reading.judged (reading.headFaults order x) ⌝ }
+pub fn head_cause(order: bool, head: Head) -> Cause
+    ensures { λ r. ⌜ r ≡ reading.judged (reading.headFaults order head) ⌝ }
 {
-    let n = x.modes;
-    let i = x.initial;
+    let modes = head.modes;
+    let initial = head.initial;
     judged(Faults {
         order: order,
         excess: false,
-        names: n <= i,
+        names: modes <= initial,
         times: false,
-        ranges: !((1 <= n) & (n <= MAX_MODES)),
+        ranges: !((1 <= modes) & (modes <= MAX_MODES)),
         owner: false,
         twice: false,
         hyperperiod: false,
     })
 }
 
-pub fn thread_cause(order: bool, m: Stand, x: Thread) -> Cause
-    ensures { λ r. ⌜ r ≡ reading.judged (reading.threadFaults order (causes.bare m) x) ⌝ }
+pub fn thread_cause(order: bool, stand: Stand, thread: Thread) -> Cause
+    ensures { λ r. ⌜ r ≡ reading.judged (reading.threadFaults order (causes.bare stand) thread) ⌝ }
 {
-    let n = m.threads;
-    let fits = times_fit(x);
-    let mask = mask_fits(m, x.modes);
-    let critical = x.critical;
-    let first = x.first;
+    let threads = stand.threads;
+    let fits = times_fit(thread);
+    let mask = mask_fits(stand, thread.modes);
+    let critical = thread.critical;
+    let first = thread.first;
     judged(Faults {
         order: order,
-        excess: MAX_THREADS <= n,
+        excess: MAX_THREADS <= threads,
         names: false,
         times: !fits,
         ranges: !(mask & ((critical < MARKS) & (first < MAX_STATES))),
@@ -289,15 +289,15 @@ pub fn thread_cause(order: bool, m: Stand, x: Thread) -> Cause
 }
 
 // Of an input port, an output port or a local.
-pub fn port_cause(order: bool, count: usize, limit: usize, m: Stand, owner: u8) -> Cause
-    ensures { λ r. ⌜ r ≡ reading.judged (reading.portFaults order count limit (causes.bare m) owner) ⌝ }
+pub fn port_cause(order: bool, count: usize, limit: usize, stand: Stand, owner: u8) -> Cause
+    ensures { λ r. ⌜ r ≡ reading.judged (reading.portFaults order count limit (causes.bare stand) owner) ⌝ }
 {
-    let n = m.threads;
-    let t = usize_of_u8(owner);
+    let threads = stand.threads;
+    let thread = usize_of_u8(owner);
     judged(Faults {
         order: order,
         excess: limit <= count,
-        names: n <= t,
+        names: threads <= thread,
         times: false,
         ranges: false,
         owner: false,
@@ -306,20 +306,20 @@ pub fn port_cause(order: bool, count: usize, limit: usize, m: Stand, owner: u8) 
     })
 }
 
-pub fn connection_cause(order: bool, m: Stand, f: Found, x: Connection) -> Cause
-    ensures { λ r. ⌜ r ≡ reading.judged (causes.connectionFaultsBy order m f x) ⌝ }
+pub fn connection_cause(order: bool, stand: Stand, found: Found, connection: Connection) -> Cause
+    ensures { λ r. ⌜ r ≡ reading.judged (causes.connectionFaultsBy order stand found connection) ⌝ }
 {
-    let n = m.connections;
-    let outputs = m.outputs;
-    let inputs = m.inputs;
-    let kind = x.kind;
-    let source = usize_of_u16(x.source);
-    let target = usize_of_u16(x.target);
-    let mask = mask_fits(m, x.modes);
-    let connected = f.connected;
+    let connections = stand.connections;
+    let outputs = stand.outputs;
+    let inputs = stand.inputs;
+    let kind = connection.kind;
+    let source = usize_of_u16(connection.source);
+    let target = usize_of_u16(connection.target);
+    let mask = mask_fits(stand, connection.modes);
+    let connected = found.connected;
     judged(Faults {
         order: order,
-        excess: MAX_CONNECTIONS <= n,
+        excess: MAX_CONNECTIONS <= connections,
         names: !((source < outputs) & (target < inputs)),
         times: false,
         ranges: !((kind < CONNECTION_KINDS) & mask),
@@ -329,18 +329,18 @@ pub fn connection_cause(order: bool, m: Stand, f: Found, x: Connection) -> Cause
     })
 }
 
-pub fn switch_cause(order: bool, m: Stand, f: Found, x: ModeTransition) -> Cause
-    ensures { λ r. ⌜ r ≡ reading.judged (causes.switchFaultsBy order m f x) ⌝ }
+pub fn switch_cause(order: bool, stand: Stand, found: Found, switch: ModeTransition) -> Cause
+    ensures { λ r. ⌜ r ≡ reading.judged (causes.switchFaultsBy order stand found switch) ⌝ }
 {
-    let n = m.switches;
-    let modes = m.modes;
-    let from = x.from;
-    let to = x.to;
-    let h1 = f.h1;
-    let h2 = f.h2;
+    let switches = stand.switches;
+    let modes = stand.modes;
+    let from = switch.from;
+    let to = switch.to;
+    let h1 = found.h1;
+    let h2 = found.h2;
     judged(Faults {
         order: order,
-        excess: MAX_SWITCHES <= n,
+        excess: MAX_SWITCHES <= switches,
         names: !((from < modes) & (to < modes)),
         times: false,
         ranges: false,
@@ -350,16 +350,21 @@ pub fn switch_cause(order: bool, m: Stand, f: Found, x: ModeTransition) -> Cause
     })
 }
 
-pub fn transition_cause(order: bool, m: Stand, n: usize, x: Transition) -> Cause
-    ensures { λ r. ⌜ r ≡ reading.judged (causes.transitionFaultsBy order m n x) ⌝ }
+pub fn transition_cause(
+    order: bool,
+    stand: Stand,
+    transitions: usize,
+    transition: Transition,
+) -> Cause
+    ensures { λ r. ⌜ r ≡ reading.judged (causes.transitionFaultsBy order stand transitions transition) ⌝ }
 {
-    let threads = m.threads;
-    let thread = usize_of_u8(x.thread);
-    let from = x.from;
-    let to = x.to;
+    let threads = stand.threads;
+    let thread = usize_of_u8(transition.thread);
+    let from = transition.from;
+    let to = transition.to;
     judged(Faults {
         order: order,
-        excess: MAX_TRANSITIONS <= n,
+        excess: MAX_TRANSITIONS <= transitions,
         names: threads <= thread,
         times: false,
         ranges: !((from < MAX_STATES) & (to < MAX_STATES)),
@@ -369,17 +374,23 @@ pub fn transition_cause(order: bool, m: Stand, n: usize, x: Transition) -> Cause
     })
 }
 
-// x is the transition that it belongs to, whose thread owns what it names where `owned` says so.
-pub fn atom_cause(order: bool, m: Stand, x: Transition, owned: bool, a: Atom) -> Cause
-    ensures { λ r. ⌜ r ≡ reading.judged (causes.atomFaultsBy order m x owned a) ⌝ }
+// With the transition that it belongs to, whose thread owns what it names where `owned` says so.
+pub fn atom_cause(
+    order: bool,
+    stand: Stand,
+    transition: Transition,
+    owned: bool,
+    atom: Atom,
+) -> Cause
+    ensures { λ r. ⌜ r ≡ reading.judged (causes.atomFaultsBy order stand transition owned atom) ⌝ }
 {
-    let count = x.atoms;
-    let op = a.op;
-    let right = a.right;
-    let left = left_tag(a);
+    let count = transition.atoms;
+    let op = atom.op;
+    let right = atom.right;
+    let left = left_tag(atom);
     let tag = operand_tag(right);
-    let left_names = allowed_names(left, m, a.tag, a.number);
-    let right_names = operand_names(m, right);
+    let left_names = allowed_names(left, stand, atom.tag, atom.number);
+    let right_names = operand_names(stand, right);
     judged(Faults {
         order: order,
         excess: MAX_EACH_BYTE <= count,
@@ -392,25 +403,25 @@ pub fn atom_cause(order: bool, m: Stand, x: Transition, owned: bool, a: Atom) ->
     })
 }
 
-// `twice`: x has an assignment with this target.
+// `twice`: the transition has an assignment with this target.
 pub fn assignment_cause(
     order: bool,
-    m: Stand,
-    x: Transition,
+    stand: Stand,
+    transition: Transition,
     owned: bool,
     twice: bool,
-    a: Assignment,
+    assignment: Assignment,
 ) -> Cause
-    ensures { λ r. ⌜ r ≡ reading.judged (causes.assignmentFaultsBy order m x owned twice a) ⌝ }
+    ensures { λ r. ⌜ r ≡ reading.judged (causes.assignmentFaultsBy order stand transition owned twice assignment) ⌝ }
 {
-    let count = x.assignments;
-    let op = a.op;
-    let first = a.first;
-    let second = a.second;
-    let target = target_tag(a);
+    let count = transition.assignments;
+    let op = assignment.op;
+    let first = assignment.first;
+    let second = assignment.second;
+    let target = target_tag(assignment);
     let tags = operand_tag(first) & operand_tag(second);
-    let target_names = allowed_names(target, m, a.tag, a.number);
-    let names = operand_names(m, first) & operand_names(m, second);
+    let target_names = allowed_names(target, stand, assignment.tag, assignment.number);
+    let names = operand_names(stand, first) & operand_names(stand, second);
     judged(Faults {
         order: order,
         excess: MAX_EACH_BYTE <= count,

@@ -6,6 +6,7 @@ use lib.ListN.{getD, length}
 use lib.Dec.{eqb, ltb}
 use Rattle.numbers.specs.Values.{duration, durationAt, valueAt}
 use Rattle.records.specs.declared.Notation.the-variants as notations
+use Rattle.records.specs.Kinds.{modelHead, modelThread, modelInput, modelOutput, modelLocal, modelConnection, modelSwitch, modelTransition, modelAtom}
 use Rattle.records.specs.Format.{recordSize, operandAt}
 use Rattle.model_format.specs.declared.Head.{Head}
 use Rattle.model_format.specs.declared.Thread.{Thread}
@@ -60,15 +61,15 @@ assignmentOf x = record { tag = getD x 1 0; number = getD x 2 0; op = getD x 3 0
 
 abbrev pub recordOfWhole : ℕ → List ℕ → Record
 recordOfWhole k x =
-    cond (eqb k 1) (HeadRecord (headOf x))
-    (cond (eqb k 2) (ThreadRecord (threadOf x))
-    (cond (eqb k 3) (InputRecord (getD x 1 0))
-    (cond (eqb k 4) (OutputRecord (getD x 1 0))
-    (cond (eqb k 5) (LocalRecord (localOf x))
-    (cond (eqb k 6) (ConnectionRecord (connectionOf x))
-    (cond (eqb k 7) (ModeRecord (switchOf x))
-    (cond (eqb k 8) (TransitionRecord (transitionOf x))
-    (cond (eqb k 9) (AtomRecord (atomOf x)) (AssignmentRecord (assignmentOf x))))))))))
+    cond (eqb k modelHead) (HeadRecord (headOf x))
+    (cond (eqb k modelThread) (ThreadRecord (threadOf x))
+    (cond (eqb k modelInput) (InputRecord (getD x 1 0))
+    (cond (eqb k modelOutput) (OutputRecord (getD x 1 0))
+    (cond (eqb k modelLocal) (LocalRecord (localOf x))
+    (cond (eqb k modelConnection) (ConnectionRecord (connectionOf x))
+    (cond (eqb k modelSwitch) (ModeRecord (switchOf x))
+    (cond (eqb k modelTransition) (TransitionRecord (transitionOf x))
+    (cond (eqb k modelAtom) (AtomRecord (atomOf x)) (AssignmentRecord (assignmentOf x))))))))))
 
 -- the record that a part holds
 unfoldable pub recordOf : List ℕ → Record

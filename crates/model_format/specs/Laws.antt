@@ -2,11 +2,11 @@
 use mathlib.Core.Path.{_≡_, sym, _∙_, ap}
 use mathlib.Core.Bool.{Bool, true, false, cond, _&&_}
 use mathlib.Core.List.{List}
-use Prim.Native.Nat.{ℕ, _+_, _<_, _≤_, min}
+use Prim.Native.Nat.{ℕ, _+_, _<_, _≤_}
 use native.Mathlib.Omega.{arith}
 use lib.ListN.{getD, length}
 use borrow.Author.Tests.{lt-ltb, le-ltb, ne-eqb}
-use Rattle.numbers.specs.Lists.{item, anyBelow, foldBelow}
+use Rattle.numbers.specs.Lists.{anyBelow, foldBelow}
 use Rattle.numbers.specs.ListLaws.{any-next, any-some, fold-next}
 use Rattle.numbers.specs.Multiples.{lcmUpTo}
 use Rattle.records.specs.declared.Notation.the-variants as notations
@@ -16,14 +16,6 @@ use Rattle.model_format.specs.declared.Timing.{Timing}
 use Rattle.model_format.specs.declared.Record.the-variants.{Cut, Unknown}
 use Rattle.model_format.specs.Format.{recordOf, recordOfWhole}
 use Rattle.model_format.specs.Model.{threadAt, criticalIn, hyperperiod}
-
--- ---- an array read at a place that is drawn in to its room
-module _ {A : Type 0} (room : ℕ) (l : List A) (i n : ℕ) (d : A) (e : i ≡ min n room) where
-  pub drawn-within : i < room → getD l i d ≡ item room l n d
-  drawn-within h = let q : i ≡ n = omega arith in rw (q, lt-ltb n room (omega arith))
-
-  pub drawn-past : room ≤ i → item room l n d ≡ d
-  drawn-past h = rw (le-ltb n room (omega arith))
 
 -- ---- the record of a part: k is its kind byte, m the size of a record of that kind
 module _ (x : List ℕ) (k m : ℕ) (f : k ≡ getD x 0 0) (e : m ≡ recordSize notations.Model k) where

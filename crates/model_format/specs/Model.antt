@@ -151,6 +151,16 @@ emptyModel = record {
 unfoldable pub inMode : ℕ → ℕ → Bool
 inMode mask mode = cond (ltb mode 8) (eqb (mask / 2 ^ mode % 2) 1) false
 
+-- ---- "tag u8 (0 constant, 1 input port, 2 local)", "a target tag is 2 local or 3 output port"
+abbrev pub inputTag : ℕ
+inputTag = 1
+
+abbrev pub localTag : ℕ
+localTag = 2
+
+abbrev pub outputTag : ℕ
+outputTag = 3
+
 -- ---- connections
 -- "type u8 (0 immediate, 1 delayed)"
 abbrev pub immediate : ℕ

@@ -30,7 +30,7 @@ use Rattle.model_format.specs.declared.Reading.{Reading}
 use Rattle.model_format.specs.declared.Faults.{Faults}
 use Rattle.model_format.specs.declared.ModelRead.{ModelRead}
 use Rattle.model_format.specs.Format.{recordOf, rankOf, headRank, transitionRank, atomRank, assignmentRank}
-use Rattle.model_format.specs.Model.{maxThreads, maxInputs, maxOutputs, maxLocals, maxConnections, maxSwitches, maxTransitions, maxEach, maxTimes, inputOwner, outputOwner, localAt, connectionAt, transitionAt, assignmentAt, emptyModel, withThreads, withInputs, withOutputs, withLocals, withConnections, withSwitches, h1Of, h2Of}
+use Rattle.model_format.specs.Model.{maxThreads, maxInputs, maxOutputs, maxLocals, maxConnections, maxSwitches, maxTransitions, maxEach, maxTimes, inputOwner, outputOwner, localAt, connectionAt, transitionAt, assignmentAt, emptyModel, withThreads, withInputs, withOutputs, withLocals, withConnections, withSwitches, h1Of, h2Of, inputTag, localTag, outputTag}
 
 -- ---- order: "Kinds 01 to 08 never fall, one 01 first (a second is out of order); 09 follows 08 or 09, 0A follows 08, 09 or 0A". A record
 -- of rank k after one of rank `last`, which is 0 before the first:
@@ -58,15 +58,15 @@ maskFits m mask = ltb mask (2 ^ (m .modes))
 abbrev pub isState : ℕ → Bool
 isState n = ltb n 8
 
--- the item that a tag and a number name: 1 input port, 2 local, 3 output port
+-- the item that a tag and a number name
 unfoldable pub namesItem : Timing → ℕ → ℕ → Bool
 namesItem m tag n =
-    cond (eqb tag 1) (ltb n (m .inputs)) (cond (eqb tag 2) (ltb n (m .locals)) (cond (eqb tag 3) (ltb n (m .outputs)) true))
+    cond (eqb tag inputTag) (ltb n (m .inputs)) (cond (eqb tag localTag) (ltb n (m .locals)) (cond (eqb tag outputTag) (ltb n (m .outputs)) true))
 
 -- and its owner is the thread t
 unfoldable pub isOwnedBy : Timing → ℕ → ℕ → ℕ → Bool
 isOwnedBy m t tag n =
-    cond (eqb tag 1) (eqb (inputOwner m n) t) (cond (eqb tag 2) (eqb (localAt m n .owner) t) (cond (eqb tag 3) (eqb (outputOwner m n) t) true))
+    cond (eqb tag inputTag) (eqb (inputOwner m n) t) (cond (eqb tag localTag) (eqb (localAt m n .owner) t) (cond (eqb tag outputTag) (eqb (outputOwner m n) t) true))
 
 -- "a tag u8 (0 constant, 1 input port, 2 local) and an i32"; a negative number's bits name nothing.
 abbrev pub operandTag : Operand → Bool
@@ -80,10 +80,10 @@ operandOwned m t o = isOwnedBy m t (o .tag) (bitsOf (o .value .0))
 
 -- "A left tag is 1 or 2; a target tag is 2 local or 3 output port."
 abbrev pub leftTag : Atom → Bool
-leftTag a = eqb (a .tag) 1 || eqb (a .tag) 2
+leftTag a = eqb (a .tag) inputTag || eqb (a .tag) localTag
 
 abbrev pub targetTag : Assignment → Bool
-targetTag a = eqb (a .tag) 2 || eqb (a .tag) 3
+targetTag a = eqb (a .tag) localTag || eqb (a .tag) outputTag
 
 -- ---- what is there already
 -- "input port connected twice"

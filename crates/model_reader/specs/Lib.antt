@@ -1,2 +1,5 @@
 pub mod Reads
-pub mod Laws
+pub mod Places
+pub mod Ranks
+pub mod Walk
+pub mod Lent

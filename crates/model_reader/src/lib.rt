@@ -1,8 +1,8 @@
 // Reading a model into a lent list of numbers: its records one by one, up to the first that is refused.
 
-mod takes;
+mod parts;
 
-use crate::takes::take_part;
+use crate::parts::take_part;
 use model_words::MODEL_WORDS;
 use model_writer::clear;
 use numbers::byte_at;
@@ -15,28 +15,29 @@ ghost use mathlib.Core.Path.{_≡_};
 ghost use Prim.Native.Nat.{_<_, _≤_};
 ghost use lib.ListN.{length};
 ghost use Rattle.records.specs.Refusals as refusals;
-ghost use Rattle.model_format.specs.Model as model;
+ghost use Rattle.model_format.specs.Model.{emptyModel};
 ghost use Rattle.model_format.specs.Reading as reading;
 ghost use Rattle.model_words.specs.Words as words;
 ghost use Rattle.model_reader.specs.Reads as into;
-ghost use Rattle.model_reader.specs.Laws as laws;
+ghost use Rattle.model_reader.specs.Places.{endAt};
+ghost use Rattle.model_reader.specs.Walk.{readWith};
 
 // ---- the part at a place
-fn end_at(s: &[u8], at: usize) -> usize
-    requires { ⌜ at < length (now s) ⌝ }
-    ensures { λ r. ⌜ r ≡ laws.endAt (now (s .entry)) at ⌝ }
+fn end_at(bytes: &[u8], at: usize) -> usize
+    requires { ⌜ at < length (now bytes) ⌝ }
+    ensures { λ r. ⌜ r ≡ endAt (now (bytes .entry)) at ⌝ }
 {
-    let w = Notation::Model;
-    let n = records::part_length_at(w, s, at);
-    at + n
+    let notation = Notation::Model;
+    let size = records::part_length_at(notation, bytes, at);
+    at + size
 }
 
-fn refused(c: Cause, start: usize, end: usize) -> Refusal
-    ensures { λ r. ⌜ r ≡ refusals.inModel c start end ⌝ }
+fn refused(cause: Cause, start: usize, end: usize) -> Refusal
+    ensures { λ r. ⌜ r ≡ refusals.inModel cause start end ⌝ }
 {
     let holder = Holder::Model;
     Refusal {
-        cause: c,
+        cause: cause,
         holder: holder,
         start: start,
         end: end,
@@ -44,19 +45,19 @@ fn refused(c: Cause, start: usize, end: usize) -> Refusal
 }
 
 // The records of a model, into a list that is clear, up to the first that is refused. There the list has those before it.
-fn read_records(s: &[u8], m: &mut [u32]) -> Refusal
-    requires { ⌜ (words.modelWords ≤ length (now m)) × (words.modelIn (now m) ≡ model.emptyModel) ⌝ }
-    ensures { λ r. ⌜ laws.readWith r (now (m .exit)) ≡ reading.readModel (now (s .entry)) ⌝ }
+fn read_records(bytes: &[u8], model: &mut [u32]) -> Refusal
+    requires { ⌜ (words.modelWords ≤ length (now model)) × (words.modelIn (now model) ≡ emptyModel) ⌝ }
+    ensures { λ r. ⌜ readWith r (now (model .exit)) ≡ reading.readModel (now (bytes .entry)) ⌝ }
 {
     let mut last: u8 = 0;
     let mut at: usize = 0;
-    while at < s.len() {
-        let end = end_at(s, at);
-        let c = take_part(m, last, &s[at..end]);
-        if !is_none(c) {
-            return refused(c, at, end);
+    while at < bytes.len() {
+        let end = end_at(bytes, at);
+        let cause = take_part(model, last, &bytes[at..end]);
+        if !is_none(cause) {
+            return refused(cause, at, end);
         }
-        last = byte_at(&s[at..end], 0);
+        last = byte_at(&bytes[at..end], 0);
         at = end;
     }
     if last == 0 {
@@ -65,26 +66,26 @@ fn read_records(s: &[u8], m: &mut [u32]) -> Refusal
     refused(Cause::None, 0, 0)
 }
 
-fn read_all(s: &[u8], m: &mut [u32]) -> Refusal
-    requires { ⌜ words.modelWords ≤ length (now m) ⌝ }
-    ensures { λ r. ⌜ into.readAs r (now (m .exit)) ≡ reading.readModel (now (s .entry)) ⌝ }
+fn read_all(bytes: &[u8], model: &mut [u32]) -> Refusal
+    requires { ⌜ words.modelWords ≤ length (now model) ⌝ }
+    ensures { λ r. ⌜ into.readAs r (now (model .exit)) ≡ reading.readModel (now (bytes .entry)) ⌝ }
 {
-    clear(m);
-    let r = read_records(s, m);
-    let c = r.cause;
-    if is_none(c) {
-        return r;
+    clear(model);
+    let refusal = read_records(bytes, model);
+    let cause = refusal.cause;
+    if is_none(cause) {
+        return refusal;
     }
-    clear(m);
-    r
+    clear(model);
+    refusal
 }
 
 // What is wrong with a model, for callers who want no more of it.
 pub fn judge_model(bytes: &[u8]) -> Refusal
     ensures { λ r. ⌜ r ≡ reading.readModel (now (bytes .entry)) .refusal ⌝ }
 {
-    let mut m = [0u32; MODEL_WORDS];
-    read_records(bytes, &mut m)
+    let mut model = [0u32; MODEL_WORDS];
+    read_records(bytes, &mut model)
 }
 
 // The model that bytes stand for, read into the first numbers of a list that has room for one.

@@ -7,17 +7,18 @@ use Rattle.numbers.specs.declared.Value.{Value}
 use Rattle.numbers.specs.Lists.{store, anyBelow, allBelow, firstBelow, foldBelow}
 use Rattle.numbers.specs.Values.{combine, compares, bitsOf, oneMore}
 use Rattle.records.specs.declared.Operand.{Operand}
+use Rattle.records.specs.Format.{constantTag}
 use Rattle.model_format.specs.declared.Transition.{Transition}
 use Rattle.model_format.specs.declared.Atom.{Atom}
 use Rattle.model_format.specs.declared.Assignment.{Assignment}
 use Rattle.model_format.specs.declared.Timing.{Timing}
 use Rattle.model_format.specs.declared.Behavior.{Behavior}
 use Rattle.model_format.specs.declared.Model.{Model}
-use Rattle.model_format.specs.Model.{maxThreads, maxInputs, maxOutputs, maxLocals, maxConnections, threadAt, inputOwner, connectionAt, switchAt, transitionAt, atomAt, assignmentAt, inMode, immediate, delayed, isKind, sourceThread}
+use Rattle.model_format.specs.Model.{maxThreads, maxInputs, maxOutputs, maxLocals, maxConnections, threadAt, inputOwner, connectionAt, switchAt, transitionAt, atomAt, assignmentAt, inMode, inputTag, outputTag, immediate, delayed, isKind, sourceThread}
 use Rattle.model_semantics.specs.declared.Ports.{Ports}
 use Rattle.model_semantics.specs.declared.State.{State}
 use Rattle.model_semantics.specs.State.{none, isActive, codeOf, spentOf, behaviorOf, missedOf, isLive, inputValue, bufferValue, outputValue, localValue, nowOf, withLive, withPorts, withNow, withEntered, withMode, withPhase, withCpu, withActive, withCode, withDispatchTime, withJob, withSpent, withBehavior, withMissed}
-use Rattle.model_semantics.specs.Tests.{waitingMode, waitingDispatch, waitingExecution, execution, completed, runs}
+use Rattle.model_semantics.specs.Tests.{waitingMode, waitingDispatch, waitingExecution, execution, completed, steady, requested, changing, runs}
 
 -- ---- input ports
 -- input port i is fed by a live immediate connection
@@ -51,10 +52,10 @@ start m s t n = withPorts (withJob (withCpu m (withCode s t execution) t t) t n 
 -- "a tag u8 (0 constant, 1 input port, 2 local) and an i32"
 unfoldable pub operandValue : Ports → Operand → Value
 operandValue p o =
-    cond (eqb (o .tag) 0) (o .value) (cond (eqb (o .tag) 1) (inputValue p (bitsOf (o .value .0))) (localValue p (bitsOf (o .value .0))))
+    cond (eqb (o .tag) constantTag) (o .value) (cond (eqb (o .tag) inputTag) (inputValue p (bitsOf (o .value .0))) (localValue p (bitsOf (o .value .0))))
 
 unfoldable pub leftValue : Ports → Atom → Value
-leftValue p a = cond (eqb (a .tag) 1) (inputValue p (a .number)) (localValue p (a .number))
+leftValue p a = cond (eqb (a .tag) inputTag) (inputValue p (a .number)) (localValue p (a .number))
 
 unfoldable pub atomHolds : Ports → Atom → Bool
 atomHolds p a = compares (a .op) (leftValue p a) (operandValue p (a .right))
@@ -85,8 +86,8 @@ unfoldable pub assign : Behavior → Ports → ℕ → ℕ → Ports
 assign b p k n = record {
   input = p .input;
   buffer = p .buffer;
-  output = foldBelow n (λ j l. let a = assignmentAt b k j in cond (eqb (a .tag) 3) (store maxOutputs l (a .number) (assignedValue p a)) l) (p .output);
-  local = foldBelow n (λ j l. let a = assignmentAt b k j in cond (eqb (a .tag) 3) l (store maxLocals l (a .number) (assignedValue p a))) (p .local);
+  output = foldBelow n (λ j l. let a = assignmentAt b k j in cond (eqb (a .tag) outputTag) (store maxOutputs l (a .number) (assignedValue p a)) l) (p .output);
+  local = foldBelow n (λ j l. let a = assignmentAt b k j in cond (eqb (a .tag) outputTag) l (store maxLocals l (a .number) (assignedValue p a))) (p .local);
 }
 
 -- a live connection of a kind from thread t
@@ -134,7 +135,7 @@ miss m s t = withMissed (endJob m s t (restCode s t)) t (oneMore (missedOf s t))
 -- ---- modes
 -- "With Phase 0 and Mode the from-mode: Phase 1, Pending set; otherwise ignored, yet taken."
 unfoldable pub request : Timing → State → ℕ → State
-request m s q = cond (eqb (s .clock .phase) 0 && eqb (s .clock .mode) (switchAt m q .from)) (withPhase s 1 q) s
+request m s q = cond (eqb (s .clock .phase) steady && eqb (s .clock .mode) (switchAt m q .from)) (withPhase s requested q) s
 
 -- Active by a mode, Flag where the mask holds both of two modes
 unfoldable pub activeIn : Timing → ℕ → List Bool → List Bool
@@ -150,14 +151,14 @@ liveIn m old new l = foldBelow (m .connections) (λ c a. store maxConnections a 
 unfoldable pub enter : Timing → State → ℕ → State
 enter m s q =
     let x = switchAt m q in
-    withLive (withActive (withEntered (withPhase s 2 (s .clock .pending)) (nowOf s)) (activeIn m (x .to) (s .threads .active)))
+    withLive (withActive (withEntered (withPhase s changing (s .clock .pending)) (nowOf s)) (activeIn m (x .to) (s .threads .active)))
     (liveIn m (x .from) (x .to) (s .live))
 
 -- "Phase 0, Pending none, Mode and Flags new."
 unfoldable pub leave : Timing → State → ℕ → State
 leave m s q =
     let x = switchAt m q in
-    withLive (withMode (withPhase s 0 none) (x .to)) (liveIn m (x .to) (x .to) (s .live))
+    withLive (withMode (withPhase s steady none) (x .to)) (liveIn m (x .to) (x .to) (s .live))
 
 -- ---- "Now and a running Spent gain 1."
 unfoldable pub tick : Timing → State → State

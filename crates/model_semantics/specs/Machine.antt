@@ -9,7 +9,7 @@ use Rattle.numbers.specs.Values.{duration, natural}
 use Rattle.records.specs.declared.Cause.{Cause}
 use Rattle.records.specs.declared.Cause.the-variants.{None, BrokenEvent, NotEnabled, LastClock}
 use Rattle.records.specs.declared.Event.{Event}
-use Rattle.records.specs.Events.{tickKind, isBroken, lastClock}
+use Rattle.records.specs.Events.{activateKind, deactivateKind, dispatchKind, startKind, completeKind, deadlineKind, missKind, requestKind, enterKind, leaveKind, tickKind, isBroken, lastClock}
 use Rattle.records.specs.Run.{Machine, Ended, Stage, run, stages}
 use Rattle.model_format.specs.declared.Timing.{Timing}
 use Rattle.model_format.specs.declared.Model.{Model}
@@ -100,16 +100,16 @@ step m s e =
     let t = e .id in
     let r = ticks x s (e .amount) s in
     cond (isBroken e) (refuse BrokenEvent s)
-    (cond (eqb (e .kind) 1) (onActivate (x .threads) s t)
-    (cond (eqb (e .kind) 2) (onDeactivate (x .threads) s t)
-    (cond (eqb (e .kind) 3) (onDispatch x s t)
-    (cond (eqb (e .kind) 4) (onStart x s t (e .amount))
-    (cond (eqb (e .kind) 5) (onComplete m s t)
-    (cond (eqb (e .kind) 6) (onDeadline x s t)
-    (cond (eqb (e .kind) 7) (onMiss x s t)
-    (cond (eqb (e .kind) 8) (onRequest x s t)
-    (cond (eqb (e .kind) 9) (onEnter x s t)
-    (cond (eqb (e .kind) 10) (onLeave x s t)
+    (cond (eqb (e .kind) activateKind) (onActivate (x .threads) s t)
+    (cond (eqb (e .kind) deactivateKind) (onDeactivate (x .threads) s t)
+    (cond (eqb (e .kind) dispatchKind) (onDispatch x s t)
+    (cond (eqb (e .kind) startKind) (onStart x s t (e .amount))
+    (cond (eqb (e .kind) completeKind) (onComplete m s t)
+    (cond (eqb (e .kind) deadlineKind) (onDeadline x s t)
+    (cond (eqb (e .kind) missKind) (onMiss x s t)
+    (cond (eqb (e .kind) requestKind) (onRequest x s t)
+    (cond (eqb (e .kind) enterKind) (onEnter x s t)
+    (cond (eqb (e .kind) leaveKind) (onLeave x s t)
     (cond (eqb (e .kind) tickKind) r (refuse BrokenEvent s))))))))))))
 
 abbrev pub machineOf : Model → Machine State

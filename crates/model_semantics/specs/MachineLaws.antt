@@ -4,7 +4,7 @@ use Prim.Native.Nat.{ℕ}
 use lib.Dec.{eqb, ltb}
 use Rattle.records.specs.declared.Cause.the-variants.{BrokenEvent}
 use Rattle.records.specs.declared.Event.{Event}
-use Rattle.records.specs.Events.{tickKind, isBroken}
+use Rattle.records.specs.Events.{activateKind, deactivateKind, dispatchKind, startKind, completeKind, deadlineKind, missKind, requestKind, enterKind, leaveKind, tickKind, isBroken}
 use Rattle.model_format.specs.declared.Timing.{Timing}
 use Rattle.model_format.specs.declared.Model.{Model}
 use Rattle.model_semantics.specs.declared.State.{State}
@@ -66,14 +66,14 @@ module _ (P : Stepped → Type 0) (s : State) (tried : (b : Bool) (x : State) �
       let x = m .timing in
       let t = e .id in
       either P (isBroken e) _ _ broken
-      (either P (eqb (e .kind) 1) _ _ (on-activate (x .threads) t)
-      (either P (eqb (e .kind) 2) _ _ (on-deactivate (x .threads) t)
-      (either P (eqb (e .kind) 3) _ _ (on-dispatch x t)
-      (either P (eqb (e .kind) 4) _ _ (on-start x t (e .amount))
-      (either P (eqb (e .kind) 5) _ _ (on-complete m t)
-      (either P (eqb (e .kind) 6) _ _ (on-deadline x t)
-      (either P (eqb (e .kind) 7) _ _ (on-miss x t)
-      (either P (eqb (e .kind) 8) _ _ (on-request x t)
-      (either P (eqb (e .kind) 9) _ _ (on-enter x t)
-      (either P (eqb (e .kind) 10) _ _ (on-leave x t)
+      (either P (eqb (e .kind) activateKind) _ _ (on-activate (x .threads) t)
+      (either P (eqb (e .kind) deactivateKind) _ _ (on-deactivate (x .threads) t)
+      (either P (eqb (e .kind) dispatchKind) _ _ (on-dispatch x t)
+      (either P (eqb (e .kind) startKind) _ _ (on-start x t (e .amount))
+      (either P (eqb (e .kind) completeKind) _ _ (on-complete m t)
+      (either P (eqb (e .kind) deadlineKind) _ _ (on-deadline x t)
+      (either P (eqb (e .kind) missKind) _ _ (on-miss x t)
+      (either P (eqb (e .kind) requestKind) _ _ (on-request x t)
+      (either P (eqb (e .kind) enterKind) _ _ (on-enter x t)
+      (either P (eqb (e .kind) leaveKind) _ _ (on-leave x t)
       (either P (eqb (e .kind) tickKind) _ _ ticked broken)))))))))))

@@ -28,6 +28,16 @@ completed = 4
 abbrev pub lastCode : ℕ
 lastCode = completed
 
+-- the phases: no mode transition, one requested, one under way
+abbrev pub steady : ℕ
+steady = 0
+
+abbrev pub requested : ℕ
+requested = 1
+
+abbrev pub changing : ℕ
+changing = 2
+
 -- a job on its processor; no job yet; a job that is not finished; a job in hand
 abbrev pub runs : ℕ → Bool
 runs code = eqb code execution
@@ -114,12 +124,12 @@ canMiss m s t =
 
 -- "ENTER: Phase 1, Pending this, Now a multiple of H1"
 unfoldable pub canEnter : Timing → State → ℕ → Bool
-canEnter m s q = eqb (s .clock .phase) 1 && (eqb (s .clock .pending) q && isMultiple (nowOf s) (switchAt m q .h1 .0))
+canEnter m s q = eqb (s .clock .phase) requested && (eqb (s .clock .pending) q && isMultiple (nowOf s) (switchAt m q .h1 .0))
 
 -- "LEAVE: Phase 2, Pending this, Now ≠ EnteredAt, Now a multiple of H2"
 unfoldable pub canLeave : Timing → State → ℕ → Bool
 canLeave m s q =
-    eqb (s .clock .phase) 2 && (eqb (s .clock .pending) q && (not (eqb (nowOf s) (s .clock .entered .0)) && isMultiple (nowOf s) (switchAt m q .h2 .0)))
+    eqb (s .clock .phase) changing && (eqb (s .clock .pending) q && (not (eqb (nowOf s) (s .clock .entered .0)) && isMultiple (nowOf s) (switchAt m q .h2 .0)))
 
 -- some event of thread t, some event of mode transition q but REQUEST; "START counts with any allowed length", so with the shortest
 unfoldable pub threadBusy : Timing → State → ℕ → Bool

@@ -12,7 +12,7 @@ use lib.Seq.{take-suc, take-add, take-all, take-at, drop-at, getD-take, getD-dro
 use borrow.Author.Tests.{ne-eqb}
 use Rattle.numbers.specs.Lists.{listBelow, joinBelow}
 use Rattle.model_settling.specs.ModelWords.{joined}
-use Rattle.model_settling.specs.StateLaws.{partPut}
+use Rattle.state_settling.specs.Settled.{partPut}
 
 -- ---- one number; a width of 0 leaves it whole
 unfoldable pub cutTo : ℕ → ℕ → ℕ

@@ -11,7 +11,7 @@ use Rattle.model_format.specs.declared.Atom.{Atom}
 use Rattle.model_format.specs.declared.Assignment.{Assignment}
 use Rattle.model_format.specs.declared.Timing.{Timing}
 use Rattle.model_format.specs.declared.Model.{Model}
-use Rattle.model_settling.specs.Words.{valueNumber}
+use Rattle.state_settling.specs.Words.{valueNumber}
 
 -- ---- the numbers of an item, field by field
 unfoldable pub threadFields : Thread → List ℕ

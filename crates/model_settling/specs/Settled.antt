@@ -1,149 +1,155 @@
--- Laws of settling: a pass over a part of a list, and what all passes leave.
+-- Laws of a settled model: its items cut kind by kind are the numbers of the model.
 use mathlib.Core.Path.{_≡_, refl, sym, _∙_, ap}
-use mathlib.Core.Bool.{Bool}
-use mathlib.Core.List.{List, [], _∷_, _++_, map, append-nil}
-use Prim.Native.Nat.{ℕ, zero, suc, _+_, _-_, _%_, _<_, _≤_}
+use mathlib.Core.List.{List, [], _∷_, _++_, append-nil}
+use Prim.Native.Nat.{ℕ, _+_, _*_, _<_, _≤_}
 use native.Mathlib.Omega.{arith}
-use native.Mathlib.Numerals.{add-one}
-use lib.ListN.{getD, set, take, drop, length, length-map, length-append, length-drop, drop-of-length-le, take-append-drop, List·getD-map, List·getD-append}
-use lib.Seq.{take-suc, drop-cons, take-all, set-at, getD-at, append-snoc, getD-take, getD-drop, getD-append-add, length-take-le, take-add, drop-drop, ext-getD}
-use borrow.Author.Tests.{ne-eqb}
+use native.Mathlib.Nat.{add-zero}
+use lib.ListN.{getD, take, drop, length, drop-of-length-le}
 use mir.Syntax.{w32}
 use mir.Val.{Fits}
 use mir.ValLaws.{ofZ-toZ}
-use Rattle.numbers.specs.declared.Value.{Value}
-use Rattle.model_format.specs.Model.{maxThreads, maxInputs, maxOutputs, maxLocals, maxConnections}
-use Rattle.model_state.specs.Words.{nowPlace, enteredPlace, modePlace, phasePlace, pendingPlace, cpuPlace, clockWords, activeBase, codeBase, dispatchedBase, lengthBase, spentBase, behaviorBase, missedBase, liveBase, inputBase, bufferBase, outputBase, localBase, stateWords, byteIn, markIn, durationIn, valueIn, numberIn, section, clockIn, threadsIn, portsIn, stateIn}
-use Rattle.model_settling.specs.Words.{markNumber, durationNumber, valueNumber, clockNumbers, threadNumbers, portNumbers, wordsOfState}
+use Rattle.numbers.specs.Lists.{listBelow}
+use Rattle.model_format.specs.Model.{maxThreads, maxInputs, maxOutputs, maxLocals, maxConnections, maxSwitches, maxTransitions, maxTimes}
+use Rattle.model_words.specs.Words.{threadsFrom, inputsFrom, outputsFrom, localsFrom, connectionsFrom, switchesFrom, transitionsFrom, atomsFrom, assignmentsFrom, modelWords, byteIn, threadIn, localIn, connectionIn, switchIn, transitionIn, atomIn, assignmentIn, threadsIn, inputsIn, outputsIn, localsIn, connectionsIn, switchesIn, transitionsIn, atomsIn, assignmentsIn, timingIn, behaviorIn, modelIn}
+use Rattle.state_settling.specs.Words.{valueNumber}
+use Rattle.model_settling.specs.ModelWords.{threadFields, localFields, connectionFields, switchFields, transitionFields, atomFields, assignmentFields, joined, headFields, wordsOfModel}
+use Rattle.state_settling.specs.Settled.{partPut}
+use Rattle.model_settling.specs.Cut.{cutTo, CutBy, itemCut, Upto, from-start, one-done, kind-done, owners-done}
 
--- ---- a mark as the state has it
-abbrev pub settledMark : ℕ → ℕ
-settledMark n = markNumber (markIn n)
+-- ---- the widths of the fields of each kind
+abbrev pub headWidths : List ℕ
+headWidths = 256 ∷ 256 ∷ 0 ∷ 0 ∷ 0 ∷ 0 ∷ 0 ∷ 0 ∷ 0 ∷ []
 
-pub no-mark : (n : ℕ) → n ≡ 0 → 0 ≡ settledMark n
-unfolding markNumber markIn
-no-mark n e = rw e
+abbrev pub threadWidths : List ℕ
+threadWidths = 0 ∷ 0 ∷ 0 ∷ 0 ∷ 256 ∷ 256 ∷ 256 ∷ []
 
-pub a-mark : (n : ℕ) → (n ≡ 0 → ⊥) → 1 ≡ settledMark n
-unfolding markNumber markIn
-a-mark n e = rw (ne-eqb n 0 e)
+abbrev pub ownerWidths : List ℕ
+ownerWidths = 256 ∷ []
 
-pub a-byte : (n : ℕ) → n % 256 ≡ byteIn n
-unfolding byteIn
-a-byte n = refl
+abbrev pub localWidths : List ℕ
+localWidths = 256 ∷ 0 ∷ []
 
--- ---- a loop over a list: its first i numbers are done
-abbrev pub doneBelow : (ℕ → ℕ) → ℕ → List ℕ → List ℕ
-doneBelow f i l = map f (take i l) ++ drop i l
+abbrev pub connectionWidths : List ℕ
+connectionWidths = 256 ∷ 65536 ∷ 65536 ∷ 256 ∷ []
 
-map-append : (f : ℕ → ℕ) (l m : List ℕ) → map f (l ++ m) ≡ map f l ++ map f m
-map-append f [] m = refl
-map-append f (a ∷ l) m = ap (λ (r : List ℕ). f a ∷ r) (map-append f l m)
+abbrev pub switchWidths : List ℕ
+switchWidths = 256 ∷ 256 ∷ 0 ∷ 0 ∷ []
 
-module _ (f : ℕ → ℕ) (l : List ℕ) where
-  pub none-done : l ≡ doneBelow f 0 l
-  none-done = refl
+abbrev pub transitionWidths : List ℕ
+transitionWidths = 256 ∷ 256 ∷ 256 ∷ 256 ∷ 256 ∷ []
 
-  pub done-size : {x : List ℕ} (i : ℕ) → x ≡ doneBelow f i l → length x ≡ length l
-  done-size i e = ap length e ∙ length-append (map f (take i l)) (drop i l) ∙ ap (λ (k : ℕ). k + length (drop i l)) (length-map (take i l) f) ∙
-      sym (length-append (take i l) (drop i l)) ∙ ap length (take-append-drop i l)
+abbrev pub atomWidths : List ℕ
+atomWidths = 256 ∷ 256 ∷ 65536 ∷ 256 ∷ 0 ∷ []
 
-  one-done : (i : ℕ) → i < length l → doneBelow f i l ≡ map f (take i l) ++ getD l i 0 ∷ drop (suc i) l
-  one-done i h = ap (λ (r : List ℕ). map f (take i l) ++ r) (drop-cons l i 0 h)
+abbrev pub assignmentWidths : List ℕ
+assignmentWidths = 256 ∷ 65536 ∷ 256 ∷ 256 ∷ 0 ∷ 256 ∷ 0 ∷ []
 
-  done-width : (i : ℕ) → i < length l → length (map f (take i l)) ≡ i
-  done-width i h = length-map (take i l) f ∙ length-take-le i l (omega arith)
+-- ---- an item, cut field by field
+module _ (l : List ℕ) (q : ℕ) where
+  thread-fields : itemCut threadWidths l q ≡ threadFields (threadIn l q)
+  unfolding listBelow cutTo threadFields threadIn
+  thread-fields = rw (add-zero q)
 
-  pub not-done : {x : List ℕ} (i : ℕ) → i < length l → x ≡ doneBelow f i l → getD x i 0 ≡ getD l i 0
-  not-done i h e = ap (λ (r : List ℕ). getD r i 0) (e ∙ one-done i h) ∙ getD-at (map f (take i l)) (getD l i 0) (drop (suc i) l) 0 i (done-width i h)
+  owner-at : (i : ℕ) → itemCut ownerWidths l (q + i * 1) ≡ (byteIn l (q + i) ∷ [])
+  unfolding listBelow cutTo
+  owner-at i = let a : q + i * 1 + 0 ≡ q + i = omega arith in rw a
 
-  pub done-next : {x y : List ℕ} (i n : ℕ) → i < length l → x ≡ doneBelow f i l → n ≡ f (getD x i 0) → y ≡ set x i n → y ≡ doneBelow f (i + 1) l
-  done-next {x} i n h e g k =
-      k ∙ ap (λ (r : List ℕ). set r i n) (e ∙ one-done i h) ∙ set-at (map f (take i l)) (getD l i 0) (drop (suc i) l) n i (done-width i h) ∙
-      ap (λ (a : ℕ). map f (take i l) ++ a ∷ drop (suc i) l) (g ∙ ap f (not-done i h e)) ∙
-      sym (append-snoc (map f (take i l)) (f (getD l i 0)) (drop (suc i) l)) ∙
-      ap (λ (r : List ℕ). r ++ drop (suc i) l) (sym (map-append f (take i l) (getD l i 0 ∷ [])) ∙ ap (map f) (sym (take-suc l i 0 h))) ∙
-      ap (λ (j : ℕ). doneBelow f j l) (sym (add-one i))
+  connection-fields : itemCut connectionWidths l q ≡ connectionFields (connectionIn l q)
+  unfolding listBelow cutTo connectionFields connectionIn
+  connection-fields = rw (add-zero q)
 
-  pub all-done : {x : List ℕ} (i : ℕ) → length l ≤ i → x ≡ doneBelow f i l → x ≡ map f l
-  all-done i h e = e ∙ rw (take-all i l h, drop-of-length-le l h) (append-nil (map f l))
+  switch-fields : itemCut switchWidths l q ≡ switchFields (switchIn l q)
+  unfolding listBelow cutTo switchFields switchIn
+  switch-fields = rw (add-zero q)
 
--- ---- a part of a list with each number changed: k numbers from a on, which become y
-pub record Passed (f : ℕ → ℕ) (a k : ℕ) (l x : List ℕ) : Type 0 where
-  pub size : length x ≡ length l
-  pub before : (p : ℕ) → p < a → getD x p 0 ≡ getD l p 0
-  pub within : (i : ℕ) → i < k → getD x (a + i) 0 ≡ f (getD l (a + i) 0)
-  pub after : (p : ℕ) → a + k ≤ p → getD x p 0 ≡ getD l p 0
+  transition-fields : itemCut transitionWidths l q ≡ transitionFields (transitionIn l q)
+  unfolding listBelow cutTo transitionFields transitionIn
+  transition-fields = rw (add-zero q)
 
-getD-any : {A : Type 0} (l : List A) (i : ℕ) (d e : A) → i < length l → getD l i d ≡ getD l i e
-getD-any [] i d e h = absurd (omega arith)
-getD-any (a ∷ l) zero d e h = refl
-getD-any (a ∷ l) (suc i) d e h = getD-any l i d e (omega arith)
+  module _ (f : (p : ℕ) → Fits w32 (getD l p 0)) where
+    local-fields : itemCut localWidths l q ≡ localFields (localIn l q)
+    unfolding listBelow cutTo localFields localIn valueNumber
+    local-fields = rw (add-zero q, ofZ-toZ w32 (getD l (q + 1) 0) (f (q + 1)))
 
-module _ (f : ℕ → ℕ) (a k : ℕ) (l : List ℕ) (h : a + k ≤ length l) where
-  pub pass : (y : List ℕ) → y ≡ map f (take k (drop a l)) → Passed f a k l (take a l ++ (y ++ drop k (drop a l)))
-  pass y e = record { size = size; before = before; within = within; after = after }
-    where
-      front : length (take a l) ≡ a
-      front = length-take-le a l (omega arith)
+    atom-fields : itemCut atomWidths l q ≡ atomFields (atomIn l q)
+    unfolding listBelow cutTo atomFields atomIn valueNumber
+    atom-fields = let a : q + 3 + 1 ≡ q + 4 = omega arith in rw (add-zero q, ofZ-toZ w32 (getD l (q + 3 + 1) 0) (f (q + 3 + 1)), a)
 
-      middle : length y ≡ k
-      middle = ap length e ∙ length-map (take k (drop a l)) f ∙ length-take-le k (drop a l) (omega (arith, length-drop a l))
+    assignment-fields : itemCut assignmentWidths l q ≡ assignmentFields (assignmentIn l q)
+    unfolding listBelow cutTo assignmentFields assignmentIn valueNumber
+    assignment-fields =
+        let a : q + 3 + 1 ≡ q + 4 = omega arith in
+        let b : q + 5 + 1 ≡ q + 6 = omega arith in
+        rw (add-zero q, ofZ-toZ w32 (getD l (q + 3 + 1) 0) (f (q + 3 + 1)), ofZ-toZ w32 (getD l (q + 5 + 1) 0) (f (q + 5 + 1)), a, b)
 
-      rest : length (drop k (drop a l)) ≡ length l - a - k
-      rest = length-drop k (drop a l) ∙ ap (λ (n : ℕ). n - k) (length-drop a l)
+-- the head, which is one item
+head-fields : (l : List ℕ) → itemCut headWidths l 0 ≡ headFields (modelIn l)
+unfolding listBelow cutTo headFields timingIn behaviorIn
+head-fields l = refl
 
-      size : length (take a l ++ (y ++ drop k (drop a l))) ≡ length l
-      size = length-append (take a l) (y ++ drop k (drop a l)) ∙ (let q = length-append y (drop k (drop a l)) in omega (arith, front, middle, rest))
+-- ---- three stretches of a model: l is the list before all of them, p what the parts before this stretch have become
+pub record Whole (l : List ℕ) : Type 0 where
+  pub size : length l ≡ modelWords
+  pub fits : (p : ℕ) → Fits w32 (getD l p 0)
 
-      before : (p : ℕ) → p < a → getD (take a l ++ (y ++ drop k (drop a l))) p 0 ≡ getD l p 0
-      before p b = List·getD-append (take a l) (y ++ drop k (drop a l)) 0 p (omega (arith, front)) ∙ getD-take a l p 0 b
+pub record ThreadsCut (x y : List ℕ) : Type 0 where
+  pub cut : (l p : List ℕ) → Whole l → Upto 0 l x p → Upto localsFrom l y (p ++ headFields (modelIn l) ++ joined threadFields (threadsIn l) ++ inputsIn l ++ outputsIn l)
 
-      at : (i : ℕ) → getD (take a l ++ (y ++ drop k (drop a l))) (a + i) 0 ≡ getD (y ++ drop k (drop a l)) i 0
-      at i = ap (λ (n : ℕ). getD (take a l ++ (y ++ drop k (drop a l))) (n + i) 0) (sym front) ∙ getD-append-add (take a l) (y ++ drop k (drop a l)) i 0
+pub record LinksCut (x y : List ℕ) : Type 0 where
+  pub cut : (l p : List ℕ) → Whole l → Upto localsFrom l x p → Upto transitionsFrom l y (p ++ joined localFields (localsIn l) ++ joined connectionFields (connectionsIn l) ++ joined switchFields (switchesIn l))
 
-      within : (i : ℕ) → i < k → getD (take a l ++ (y ++ drop k (drop a l))) (a + i) 0 ≡ f (getD l (a + i) 0)
-      within i b =
-          at i ∙ List·getD-append y (drop k (drop a l)) 0 i (omega (arith, middle)) ∙ getD-any y i 0 (f 0) (omega (arith, middle)) ∙
-          ap (λ (r : List ℕ). getD r i (f 0)) e ∙ List·getD-map f (take k (drop a l)) i 0 ∙ ap f (getD-take k (drop a l) i 0 b ∙ getD-drop a l i 0)
+pub record BehaviorCut (x y : List ℕ) : Type 0 where
+  pub cut : (l p : List ℕ) → Whole l → Upto transitionsFrom l x p → Upto modelWords l y (p ++ joined transitionFields (transitionsIn l) ++ joined atomFields (atomsIn l) ++ joined assignmentFields (assignmentsIn l))
 
-      after : (p : ℕ) → a + k ≤ p → getD (take a l ++ (y ++ drop k (drop a l))) p 0 ≡ getD l p 0
-      after p b =
-          let j = p - a - k in
-          let q : p ≡ a + (k + j) = omega arith in
-          ap (λ (n : ℕ). getD (take a l ++ (y ++ drop k (drop a l))) n 0) q ∙ at (k + j) ∙
-          ap (λ (n : ℕ). getD (y ++ drop k (drop a l)) (n + j) 0) (sym middle) ∙ getD-append-add y (drop k (drop a l)) j 0 ∙
-          getD-drop k (drop a l) j 0 ∙ getD-drop a l (k + j) 0 ∙ ap (λ (n : ℕ). getD l n 0) (sym q)
+pub threads-cut : {x y₁ y₂ y₃ y₄ : List ℕ} →
+    let a = partPut 0 threadsFrom x y₁ in
+    let b = partPut threadsFrom (maxThreads * 7) a y₂ in
+    let c = partPut inputsFrom maxInputs b y₃ in
+    CutBy headWidths (take threadsFrom (drop 0 x)) y₁ → CutBy threadWidths (take (maxThreads * 7) (drop threadsFrom a)) y₂ → CutBy ownerWidths (take maxInputs (drop inputsFrom b)) y₃ →
+    CutBy ownerWidths (take maxOutputs (drop outputsFrom c)) y₄ → ThreadsCut x (partPut outputsFrom maxOutputs c y₄)
+unfolding threadsIn inputsIn outputsIn
+threads-cut c₁ c₂ c₃ c₄ = record {
+  cut = λ l p w u.
+      let n = w .size in
+      let u₁ = one-done headWidths 0 u (omega arith) (λ k h. omega arith) c₁ (head-fields l) in
+      let u₂ = kind-done threadWidths threadsFrom maxThreads u₁ (omega arith) (λ i k h. omega arith) (λ i h. omega arith) c₂ threadFields (λ i. threadIn l (threadsFrom + i * 7)) (λ i. thread-fields l (threadsFrom + i * 7)) in
+      let u₃ = owners-done ownerWidths inputsFrom maxInputs u₂ (omega arith) (λ i k h. omega arith) (λ i h. omega arith) c₃ (λ i. byteIn l (inputsFrom + i)) (λ i. owner-at l inputsFrom i) in
+      owners-done ownerWidths outputsFrom maxOutputs u₃ (omega arith) (λ i k h. omega arith) (λ i h. omega arith) c₄ (λ i. byteIn l (outputsFrom + i)) (λ i. owner-at l outputsFrom i);
+}
 
--- ---- the numbers of one array of a state: x has what the state in l has
-module _ {A : Type 0} (f : ℕ → A) (b r : ℕ) (l x : List ℕ) (n : length x ≡ length l) (h : b + r ≤ length l) where
-  array-width : length (take r (drop b l)) ≡ r
-  array-width = length-take-le r (drop b l) (omega (arith, length-drop b l))
+pub links-cut : {x y₁ y₂ y₃ : List ℕ} →
+    let a = partPut localsFrom (maxLocals * 2) x y₁ in
+    let b = partPut connectionsFrom (maxConnections * 4) a y₂ in
+    CutBy localWidths (take (maxLocals * 2) (drop localsFrom x)) y₁ → CutBy connectionWidths (take (maxConnections * 4) (drop connectionsFrom a)) y₂ →
+    CutBy switchWidths (take (maxSwitches * 4) (drop switchesFrom b)) y₃ → LinksCut x (partPut switchesFrom (maxSwitches * 4) b y₃)
+unfolding localsIn connectionsIn switchesIn
+links-cut c₁ c₂ c₃ = record {
+  cut = λ l p w u.
+      let n = w .size in
+      let u₁ = kind-done localWidths localsFrom maxLocals u (omega arith) (λ i k h. omega arith) (λ i h. omega arith) c₁ localFields (λ i. localIn l (localsFrom + i * 2)) (λ i. local-fields l (localsFrom + i * 2) (w .fits)) in
+      let u₂ = kind-done connectionWidths connectionsFrom maxConnections u₁ (omega arith) (λ i k h. omega arith) (λ i h. omega arith) c₂ connectionFields (λ i. connectionIn l (connectionsFrom + i * 4)) (λ i. connection-fields l (connectionsFrom + i * 4)) in
+      kind-done switchWidths switchesFrom maxSwitches u₂ (omega arith) (λ i k h. omega arith) (λ i h. omega arith) c₃ switchFields (λ i. switchIn l (switchesFrom + i * 4)) (λ i. switch-fields l (switchesFrom + i * 4));
+}
 
-  array-size : length (take r (drop b x)) ≡ r
-  array-size = length-take-le r (drop b x) (omega (arith, n, length-drop b x))
+pub behavior-cut : {x y₁ y₂ y₃ : List ℕ} →
+    let a = partPut transitionsFrom (maxTransitions * 5) x y₁ in
+    let b = partPut atomsFrom (maxTimes * 5) a y₂ in
+    CutBy transitionWidths (take (maxTransitions * 5) (drop transitionsFrom x)) y₁ → CutBy atomWidths (take (maxTimes * 5) (drop atomsFrom a)) y₂ →
+    CutBy assignmentWidths (take (maxTimes * 7) (drop assignmentsFrom b)) y₃ → BehaviorCut x (partPut assignmentsFrom (maxTimes * 7) b y₃)
+unfolding transitionsIn atomsIn assignmentsIn
+behavior-cut c₁ c₂ c₃ = record {
+  cut = λ l p w u.
+      let n = w .size in
+      let u₁ = kind-done transitionWidths transitionsFrom maxTransitions u (omega arith) (λ i k h. omega arith) (λ i h. omega arith) c₁ transitionFields (λ i. transitionIn l (transitionsFrom + i * 5)) (λ i. transition-fields l (transitionsFrom + i * 5)) in
+      let u₂ = kind-done atomWidths atomsFrom maxTimes u₁ (omega arith) (λ i k h. omega arith) (λ i h. omega arith) c₂ atomFields (λ i. atomIn l (atomsFrom + i * 5)) (λ i. atom-fields l (atomsFrom + i * 5) (w .fits)) in
+      kind-done assignmentWidths assignmentsFrom maxTimes u₂ (omega arith) (λ i k h. omega arith) (λ i h. omega arith) c₃ assignmentFields (λ i. assignmentIn l (assignmentsFrom + i * 7)) (λ i. assignment-fields l (assignmentsFrom + i * 7) (w .fits));
+}
 
-  pub array-numbers : (g : A → ℕ) → ((i : ℕ) → i < r → getD x (b + i) 0 ≡ g (f (getD l (b + i) 0))) → take r (drop b x) ≡ map g (section f b r l)
-  unfolding section
-  array-numbers g e = ext-getD (g (f 0)) (take r (drop b x)) (map g (map f (take r (drop b l)))) sizes at
-    where
-      sizes : length (take r (drop b x)) ≡ length (map g (map f (take r (drop b l))))
-      sizes = array-size ∙ sym (length-map (map f (take r (drop b l))) g ∙ length-map (take r (drop b l)) f ∙ array-width)
-
-      at : (i : ℕ) → i < length (take r (drop b x)) → getD (take r (drop b x)) i (g (f 0)) ≡ getD (map g (map f (take r (drop b l)))) i (g (f 0))
-      at i k =
-          let c : i < r = omega (arith, array-size) in
-          getD-any (take r (drop b x)) i (g (f 0)) 0 k ∙ getD-take r (drop b x) i 0 c ∙ getD-drop b x i 0 ∙ e i c ∙
-          sym (List·getD-map g (map f (take r (drop b l))) i (f 0) ∙ ap g (List·getD-map f (take r (drop b l)) i 0 ∙ ap f (getD-take r (drop b l) i 0 c ∙ getD-drop b l i 0)))
-
-module _ (f : ℕ → ℕ) (b r : ℕ) (l x : List ℕ) (n : length x ≡ length l) (h : b + r ≤ length l) where
-  map-same : (m : List ℕ) → map (λ (k : ℕ). k) m ≡ m
-  map-same [] = refl
-  map-same (a ∷ m) = ap (λ (s : List ℕ). a ∷ s) (map-same m)
-
-  pub plain-numbers : ((i : ℕ) → i < r → getD x (b + i) 0 ≡ f (getD l (b + i) 0)) → take r (drop b x) ≡ section f b r l
-  plain-numbers e = array-numbers f b r l x n h (λ (k : ℕ). k) e ∙ map-same (section f b r l)
-
--- so many numbers from b on, and so many more
-pub and-more : (b n m : ℕ) (l : List ℕ) → take (n + m) (drop b l) ≡ take n (drop b l) ++ take m (drop (b + n) l)
-and-more b n m l = take-add n m (drop b l) ∙ ap (λ (r : List ℕ). take n (drop b l) ++ take m r) (drop-drop n b l)
+-- ---- all three
+pub model-settled : {l a b x : List ℕ} → length l ≡ modelWords → ((p : ℕ) → Fits w32 (getD l p 0)) → ThreadsCut l a → LinksCut a b → BehaviorCut b x → x ≡ wordsOfModel (modelIn l)
+unfolding wordsOfModel timingIn behaviorIn
+model-settled {l} n f t k h =
+    let w : Whole l = record { size = n; fits = f } in
+    let u = h .cut l _ w (k .cut l _ w (t .cut l [] w (from-start l))) in
+    let e : drop modelWords l ≡ [] = drop-of-length-le l (let q : length l ≤ modelWords = omega arith in q) in
+    u .split ∙ rw e (append-nil _)

@@ -1,9 +1,9 @@
 // The state that a model starts in, made in a lent list of numbers.
 
-use model_effects::set_active;
-use model_effects::set_live;
 use model_format::MAX_LOCALS;
 use model_format::MAX_THREADS;
+use model_modes::set_active;
+use model_modes::set_live;
 use model_semantics::NONE;
 use model_semantics::STEADY;
 use model_state::STATE_WORDS;

@@ -13,7 +13,7 @@ use numbers::value_of;
 use numbers::word_at;
 ghost use mathlib.Core.Path.{_≡_};
 ghost use Rattle.numbers.specs.Values.{duration};
-ghost use Rattle.model_semantics.specs.State as state;
+ghost use Rattle.model_semantics.specs.State as semantics;
 ghost use Rattle.model_state.specs.Words as words;
 
 // A byte, by the remainder.
@@ -24,15 +24,15 @@ fn byte_of(n: u32) -> u8
 }
 
 // ---- the clock
-pub fn clock_of(s: &[u32]) -> Clock
-    ensures { λ r. ⌜ r ≡ words.stateIn (now (s .entry)) .clock ⌝ }
+pub fn clock_of(state: &[u32]) -> Clock
+    ensures { λ r. ⌜ r ≡ words.stateIn (now (state .entry)) .clock ⌝ }
 {
-    let now = Duration(word_at(s, layout::NOW));
-    let entered = Duration(word_at(s, layout::ENTERED));
-    let mode = byte_of(word_at(s, layout::MODE));
-    let phase = byte_of(word_at(s, layout::PHASE));
-    let pending = byte_of(word_at(s, layout::PENDING));
-    let cpu = byte_of(word_at(s, layout::CPU));
+    let now = Duration(word_at(state, layout::NOW));
+    let entered = Duration(word_at(state, layout::ENTERED));
+    let mode = byte_of(word_at(state, layout::MODE));
+    let phase = byte_of(word_at(state, layout::PHASE));
+    let pending = byte_of(word_at(state, layout::PENDING));
+    let cpu = byte_of(word_at(state, layout::CPU));
     Clock {
         now: now,
         entered: entered,
@@ -43,119 +43,119 @@ pub fn clock_of(s: &[u32]) -> Clock
     }
 }
 
-pub fn now_of(s: &[u32]) -> Duration
-    ensures { λ r. ⌜ r ≡ words.stateIn (now (s .entry)) .clock .now ⌝ }
+pub fn now_of(state: &[u32]) -> Duration
+    ensures { λ r. ⌜ r ≡ words.stateIn (now (state .entry)) .clock .now ⌝ }
 {
-    Duration(word_at(s, layout::NOW))
+    Duration(word_at(state, layout::NOW))
 }
 
 // ---- by thread
-pub fn is_active(s: &[u32], t: usize) -> bool
-    ensures { λ r. ⌜ r ≡ state.isActive (words.stateIn (now (s .entry))) t ⌝ }
+pub fn is_active(state: &[u32], thread: usize) -> bool
+    ensures { λ r. ⌜ r ≡ semantics.isActive (words.stateIn (now (state .entry))) thread ⌝ }
 {
-    if MAX_THREADS <= t {
+    if MAX_THREADS <= thread {
         return false;
     }
-    word_at(s, layout::ACTIVE + t) != 0
+    word_at(state, layout::ACTIVE + thread) != 0
 }
 
-pub fn code_of(s: &[u32], t: usize) -> u8
-    ensures { λ r. ⌜ r ≡ state.codeOf (words.stateIn (now (s .entry))) t ⌝ }
+pub fn code_of(state: &[u32], thread: usize) -> u8
+    ensures { λ r. ⌜ r ≡ semantics.codeOf (words.stateIn (now (state .entry))) thread ⌝ }
 {
-    if MAX_THREADS <= t {
+    if MAX_THREADS <= thread {
         return 0;
     }
-    byte_of(word_at(s, layout::CODE + t))
+    byte_of(word_at(state, layout::CODE + thread))
 }
 
-pub fn dispatch_time(s: &[u32], t: usize) -> Duration
-    ensures { λ r. ⌜ r ≡ duration (state.dispatchTime (words.stateIn (now (s .entry))) t) ⌝ }
+pub fn dispatch_time(state: &[u32], thread: usize) -> Duration
+    ensures { λ r. ⌜ r ≡ duration (semantics.dispatchTime (words.stateIn (now (state .entry))) thread) ⌝ }
 {
-    if MAX_THREADS <= t {
+    if MAX_THREADS <= thread {
         return Duration(0);
     }
-    Duration(word_at(s, layout::DISPATCHED + t))
+    Duration(word_at(state, layout::DISPATCHED + thread))
 }
 
-pub fn length_of(s: &[u32], t: usize) -> Duration
-    ensures { λ r. ⌜ r ≡ duration (state.lengthOf (words.stateIn (now (s .entry))) t) ⌝ }
+pub fn length_of(state: &[u32], thread: usize) -> Duration
+    ensures { λ r. ⌜ r ≡ duration (semantics.lengthOf (words.stateIn (now (state .entry))) thread) ⌝ }
 {
-    if MAX_THREADS <= t {
+    if MAX_THREADS <= thread {
         return Duration(0);
     }
-    Duration(word_at(s, layout::LENGTH + t))
+    Duration(word_at(state, layout::LENGTH + thread))
 }
 
-pub fn spent_of(s: &[u32], t: usize) -> Duration
-    ensures { λ r. ⌜ r ≡ duration (state.spentOf (words.stateIn (now (s .entry))) t) ⌝ }
+pub fn spent_of(state: &[u32], thread: usize) -> Duration
+    ensures { λ r. ⌜ r ≡ duration (semantics.spentOf (words.stateIn (now (state .entry))) thread) ⌝ }
 {
-    if MAX_THREADS <= t {
+    if MAX_THREADS <= thread {
         return Duration(0);
     }
-    Duration(word_at(s, layout::SPENT + t))
+    Duration(word_at(state, layout::SPENT + thread))
 }
 
-pub fn behavior_of(s: &[u32], t: usize) -> u8
-    ensures { λ r. ⌜ r ≡ state.behaviorOf (words.stateIn (now (s .entry))) t ⌝ }
+pub fn behavior_of(state: &[u32], thread: usize) -> u8
+    ensures { λ r. ⌜ r ≡ semantics.behaviorOf (words.stateIn (now (state .entry))) thread ⌝ }
 {
-    if MAX_THREADS <= t {
+    if MAX_THREADS <= thread {
         return 0;
     }
-    byte_of(word_at(s, layout::BEHAVIOR + t))
+    byte_of(word_at(state, layout::BEHAVIOR + thread))
 }
 
-pub fn missed_of(s: &[u32], t: usize) -> u32
-    ensures { λ r. ⌜ r ≡ state.missedOf (words.stateIn (now (s .entry))) t ⌝ }
+pub fn missed_of(state: &[u32], thread: usize) -> u32
+    ensures { λ r. ⌜ r ≡ semantics.missedOf (words.stateIn (now (state .entry))) thread ⌝ }
 {
-    if MAX_THREADS <= t {
+    if MAX_THREADS <= thread {
         return 0;
     }
-    word_at(s, layout::MISSED + t)
+    word_at(state, layout::MISSED + thread)
 }
 
 // ---- by connection
-pub fn is_live(s: &[u32], c: usize) -> bool
-    ensures { λ r. ⌜ r ≡ state.isLive (words.stateIn (now (s .entry))) c ⌝ }
+pub fn is_live(state: &[u32], connection: usize) -> bool
+    ensures { λ r. ⌜ r ≡ semantics.isLive (words.stateIn (now (state .entry))) connection ⌝ }
 {
-    if MAX_CONNECTIONS <= c {
+    if MAX_CONNECTIONS <= connection {
         return false;
     }
-    word_at(s, layout::LIVE + c) != 0
+    word_at(state, layout::LIVE + connection) != 0
 }
 
 // ---- by port and local
-pub fn input_value(s: &[u32], i: usize) -> Value
-    ensures { λ r. ⌜ r ≡ state.inputValue (words.stateIn (now (s .entry)) .ports) i ⌝ }
+pub fn input_value(state: &[u32], port: usize) -> Value
+    ensures { λ r. ⌜ r ≡ semantics.inputValue (words.stateIn (now (state .entry)) .ports) port ⌝ }
 {
-    if MAX_INPUTS <= i {
+    if MAX_INPUTS <= port {
         return Value(0);
     }
-    value_of(word_at(s, layout::INPUT + i))
+    value_of(word_at(state, layout::INPUT + port))
 }
 
-pub fn buffer_value(s: &[u32], i: usize) -> Value
-    ensures { λ r. ⌜ r ≡ state.bufferValue (words.stateIn (now (s .entry)) .ports) i ⌝ }
+pub fn buffer_value(state: &[u32], port: usize) -> Value
+    ensures { λ r. ⌜ r ≡ semantics.bufferValue (words.stateIn (now (state .entry)) .ports) port ⌝ }
 {
-    if MAX_INPUTS <= i {
+    if MAX_INPUTS <= port {
         return Value(0);
     }
-    value_of(word_at(s, layout::BUFFER + i))
+    value_of(word_at(state, layout::BUFFER + port))
 }
 
-pub fn output_value(s: &[u32], o: usize) -> Value
-    ensures { λ r. ⌜ r ≡ state.outputValue (words.stateIn (now (s .entry)) .ports) o ⌝ }
+pub fn output_value(state: &[u32], port: usize) -> Value
+    ensures { λ r. ⌜ r ≡ semantics.outputValue (words.stateIn (now (state .entry)) .ports) port ⌝ }
 {
-    if MAX_OUTPUTS <= o {
+    if MAX_OUTPUTS <= port {
         return Value(0);
     }
-    value_of(word_at(s, layout::OUTPUT + o))
+    value_of(word_at(state, layout::OUTPUT + port))
 }
 
-pub fn local_value(s: &[u32], v: usize) -> Value
-    ensures { λ r. ⌜ r ≡ state.localValue (words.stateIn (now (s .entry)) .ports) v ⌝ }
+pub fn local_value(state: &[u32], local: usize) -> Value
+    ensures { λ r. ⌜ r ≡ semantics.localValue (words.stateIn (now (state .entry)) .ports) local ⌝ }
 {
-    if MAX_LOCALS <= v {
+    if MAX_LOCALS <= local {
         return Value(0);
     }
-    value_of(word_at(s, layout::LOCAL + v))
+    value_of(word_at(state, layout::LOCAL + local))
 }

@@ -15,32 +15,32 @@ ghost use Rattle.model_state.specs.Parts as parts;
 ghost use Rattle.model_state.specs.TimeLaws as laws;
 
 // Spent of every thread.
-pub fn spent_words(s: &[u32]) -> [u32; MAX_THREADS]
-    ensures { λ r. ⌜ parts.SpentWords (now (s .entry)) r ⌝ }
+pub fn spent_words(state: &[u32]) -> [u32; MAX_THREADS]
+    ensures { λ r. ⌜ parts.SpentWords (now (state .entry)) r ⌝ }
 {
     let mut kept: [u32; MAX_THREADS] = [0; MAX_THREADS];
-    let mut t: usize = 0;
-    while t < MAX_THREADS {
-        kept[t] = word_at(s, layout::SPENT + t);
-        t += 1;
+    let mut thread: usize = 0;
+    while thread < MAX_THREADS {
+        kept[thread] = word_at(state, layout::SPENT + thread);
+        thread += 1;
     }
     kept
 }
 
-fn put_spent_words(s: &mut [u32], kept: [u32; MAX_THREADS])
-    ensures { λ r. ⌜ laws.PutBack (now (s .entry)) (now (s .exit)) kept maxThreads ⌝ }
+fn put_spent_words(state: &mut [u32], kept: [u32; MAX_THREADS])
+    ensures { λ r. ⌜ laws.PutBack (now (state .entry)) (now (state .exit)) kept maxThreads ⌝ }
 {
-    let mut t: usize = 0;
-    while t < MAX_THREADS {
-        put_word(s, layout::SPENT + t, kept[t]);
-        t += 1;
+    let mut thread: usize = 0;
+    while thread < MAX_THREADS {
+        put_word(state, layout::SPENT + thread, kept[thread]);
+        thread += 1;
     }
 }
 
 // Now and Spent as they were in a list that differs from this one in nothing else.
-pub fn put_time_back(s: &mut [u32], clock: Duration, kept: [u32; MAX_THREADS])
-    ensures { λ r. ⌜ ((l : List ℕ) → parts.BesideTime l (now (s .entry)) → clock .0 ≡ getD l words.nowPlace 0 → parts.SpentWords l kept → now (s .exit) ≡ l) ⌝ }
+pub fn put_time_back(state: &mut [u32], clock: Duration, kept: [u32; MAX_THREADS])
+    ensures { λ r. ⌜ ((l : List ℕ) → parts.BesideTime l (now (state .entry)) → clock .0 ≡ getD l words.nowPlace 0 → parts.SpentWords l kept → now (state .exit) ≡ l) ⌝ }
 {
-    put_word(s, layout::NOW, clock.0);
-    put_spent_words(s, kept);
+    put_word(state, layout::NOW, clock.0);
+    put_spent_words(state, kept);
 }

@@ -83,9 +83,6 @@ abbrev pub besideComes : ThreadView → Job → Bool
 besideComes v j =
     eqb (j .dispatched .0) (v .clock .now .0) && (v .job .active && ((eqb (v .job .code) waitingMode || eqb (v .job .code) waitingDispatch) && periodicIn v))
 
-abbrev pub beside : ThreadView → Job → Bool
-beside v j = besideRuns v j || besideComes v j
-
 -- the view of the thread that the connection x comes from
 unfoldable pub sourceOf : Timing → State → Connection → ThreadView
 sourceOf m s x = threadViewOf m s (item maxOutputs (m .output) (x .source) 0)

@@ -1,6 +1,5 @@
 pub mod Answers
-pub mod Quiet
-pub mod QuietLaws
-pub mod TickLaws
+pub mod AnswerLaws
 pub mod Passing
+pub mod TickLaws
 pub mod TimeLaws

@@ -1,50 +1,31 @@
--- Laws of quiet ticks and of their passing on lists of numbers, in the forms in which the code has them.
+-- Laws of ticks that pass, on lists of numbers, in the forms in which the code has them.
 use mathlib.Core.Path.{_≡_, refl, sym, _∙_, ap}
 use mathlib.Core.Bool.{Bool, true, false, cond}
 use mathlib.Core.List.{List}
-use Prim.Native.Nat.{ℕ, zero, suc, _+_, _-_, _<_, _≤_, min}
+use Prim.Native.Nat.{ℕ, zero, suc, _+_, _-_, _≤_, min}
 use native.Mathlib.Omega.{arith}
-use native.Mathlib.Decide.{ℕ-discrete}
 use lib.Dec.{eqb}
 use lib.ListN.{getD}
 use borrow.Author.Tests.{le-ltb, ne-eqb}
 use Rattle.numbers.specs.declared.Duration.{Duration}
 use Rattle.numbers.specs.Lists.{item, store, foldBelow}
 use Rattle.numbers.specs.ListLaws.{fold-next, item-store-other}
-use Rattle.numbers.specs.Multiples.{isMultiple}
 use Rattle.numbers.specs.Values.{duration}
 use Rattle.records.specs.declared.Cause.{Cause}
 use Rattle.records.specs.declared.Cause.the-variants.{None}
-use Rattle.records.specs.Refusals.{numberOf, isNone}
-use Rattle.model_format.specs.declared.Thread.{Thread}
-use Rattle.model_format.specs.declared.ModeTransition.{ModeTransition}
 use Rattle.model_format.specs.declared.Timing.{Timing}
-use Rattle.model_format.specs.Model.{maxThreads, threadAt, switchAt}
-use Rattle.model_semantics.specs.declared.Clock.{Clock}
-use Rattle.model_semantics.specs.declared.Threads.{Threads}
+use Rattle.model_format.specs.Model.{maxThreads}
 use Rattle.model_semantics.specs.declared.State.{State}
 use Rattle.model_semantics.specs.declared.Stepped.{Stepped}
 use Rattle.model_semantics.specs.State.{codeOf, spentOf, withNow, withSpent}
 use Rattle.model_semantics.specs.Tests.{execution}
 use Rattle.model_semantics.specs.Machine.{refuse, accept}
-use Rattle.model_tests.specs.declared.Job.{Job}
-use Rattle.model_tests.specs.Parts.{jobOf}
-use Rattle.model_tests.specs.JobLaws.{false-true}
 use Rattle.model_tests.specs.Rooms.{fold-room}
-use Rattle.model_time.specs.Quiet.{moreBy, spending, spentBy, withSpents, later, Calm, CalmBelow, SwitchesCalm}
-use Rattle.model_time.specs.QuietLaws.{switches-none, switches-enter, switches-leave}
+use Rattle.model_quiet.specs.Quiet.{moreBy, spending, spentBy, withSpents, later}
 use Rattle.model_state.specs.Words.{nowPlace, clockIn, stateIn}
 use Rattle.model_time.specs.Answers.{Answers}
 use Rattle.model_time.specs.Passing.{spend, spentBelow}
-
--- ---- the threads: r is what t leaves of q ticks
-pub calm-more : (m : Timing) (k : Clock) (y : Threads) (t q r : ℕ) (x : Thread) (j : Job) → CalmBelow m k y t q → r ≤ q → x ≡ threadAt m t → j ≡ jobOf y t → Calm k x j r →
-    CalmBelow m k y (t + 1) r
-calm-more m k y t q r x j f l g h c u z = go (ℕ-discrete u t)
-  where
-    go : Dec (u ≡ t) → Calm k (threadAt m u) (jobOf y u) r
-    go (yes w) i a b d = rw (w, ← g, ← h) (c i a b d)
-    go (no w) i a b d = f u (omega arith) i a (omega arith) d
+use Rattle.model_time.specs.AnswerLaws.{accepted-keeps}
 
 -- ---- Spent
 module _ (s q : State) (t n : ℕ) where
@@ -115,31 +96,9 @@ pub pass-is : (m : Timing) (s x y : State) (q : ℕ) (old : Duration) → old �
 unfolding later spentBelow
 pass-is m s x y q old e f g = g ∙ rw (f, e)
 
--- ---- the laws of the switches and of the last thread, for the clock k that the code has read
-pub calm-as : (m : Timing) (k j : Clock) (y : Threads) (n q : ℕ) → k ≡ j → CalmBelow m k y n q → CalmBelow m j y n q
-calm-as m k j y n q e f = rw (← e) f
-
-module _ (m : Timing) (s : State) (n q : ℕ) (k : Clock) (e : k ≡ s .clock) (f : q ≡ k .pending) where
-  pending-is : q ≡ s .clock .pending
-  pending-is = f ∙ ap (λ (c : Clock). c .pending) e
-
-  pub switches-off : (count : ℕ) → count ≡ m .switches → count ≤ q → SwitchesCalm m s n
-  switches-off count g h = switches-none m s n q pending-is (rw g at h)
-
-  module _ (x : ModeTransition) (g : x ≡ switchAt m q) where
-    pub switches-in : k .phase ≡ 1 → ((i : ℕ) → i < n → isMultiple (k .now .0 + i) (x .h1 .0) ≡ false) → SwitchesCalm m s n
-    switches-in h c = switches-enter m s n q x pending-is g (rw e at h) (λ i l. rw (← e) (c i l))
-
-    pub switches-out : (k .phase ≡ 1 → ⊥) → ((i : ℕ) → i < n → isMultiple (k .now .0 + i) (x .h2 .0) ≡ false) → SwitchesCalm m s n
-    switches-out h c = switches-leave m s n q x pending-is g (λ z. h (ap (λ (d : Clock). d .phase) e ∙ z)) (λ i l. rw (← e) (c i l))
-
 -- ---- answers
-taken : {A : Type 0} → isNone None ≡ false → A
-unfolding numberOf
-taken e = false-true (sym e)
-
 pub all-passed : (l x : List ℕ) (o : Stepped) → accept (stateIn x) ≡ o → Answers None l x o
-all-passed l x o e = record { same = e; kept = taken }
+all-passed l x o e = record { same = e; kept = accepted-keeps }
 
 pub put-back : (r c : Cause) (l x : List ℕ) (o : Stepped) → r ≡ c → x ≡ l → refuse c (stateIn l) ≡ o → Answers r l x o
 put-back r c l x o h e f = record { same = rw (h, e) f; kept = λ z. e }

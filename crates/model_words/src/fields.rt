@@ -8,36 +8,36 @@ ghost use mathlib.Core.Path.{_≡_};
 ghost use Prim.Native.Nat.{_<_};
 ghost use Rattle.model_words.specs.Words as words;
 
-pub fn byte_in(m: &[u32], p: usize) -> u8
-    ensures { λ r. ⌜ r ≡ words.byteIn (now (m .entry)) p ⌝ }
+pub fn byte_in(model: &[u32], at: usize) -> u8
+    ensures { λ r. ⌜ r ≡ words.byteIn (now (model .entry)) at ⌝ }
 {
-    (word_at(m, p) % 256) as u8
+    (word_at(model, at) % 256) as u8
 }
 
-pub fn short_in(m: &[u32], p: usize) -> u16
-    ensures { λ r. ⌜ r ≡ words.shortIn (now (m .entry)) p ⌝ }
+pub fn short_in(model: &[u32], at: usize) -> u16
+    ensures { λ r. ⌜ r ≡ words.shortIn (now (model .entry)) at ⌝ }
 {
-    (word_at(m, p) % 65536) as u16
+    (word_at(model, at) % 65536) as u16
 }
 
-pub fn duration_in(m: &[u32], p: usize) -> Duration
-    ensures { λ r. ⌜ r ≡ words.durationIn (now (m .entry)) p ⌝ }
+pub fn duration_in(model: &[u32], at: usize) -> Duration
+    ensures { λ r. ⌜ r ≡ words.durationIn (now (model .entry)) at ⌝ }
 {
-    Duration(word_at(m, p))
+    Duration(word_at(model, at))
 }
 
-pub fn value_in(m: &[u32], p: usize) -> Value
-    ensures { λ r. ⌜ r ≡ words.valueIn (now (m .entry)) p ⌝ }
+pub fn value_in(model: &[u32], at: usize) -> Value
+    ensures { λ r. ⌜ r ≡ words.valueIn (now (model .entry)) at ⌝ }
 {
-    numbers::value_of(word_at(m, p))
+    numbers::value_of(word_at(model, at))
 }
 
-pub fn operand_in(m: &[u32], p: usize) -> Operand
-    requires { ⌜ p < words.modelWords ⌝ }
-    ensures { λ r. ⌜ r ≡ words.operandIn (now (m .entry)) p ⌝ }
+pub fn operand_in(model: &[u32], at: usize) -> Operand
+    requires { ⌜ at < words.modelWords ⌝ }
+    ensures { λ r. ⌜ r ≡ words.operandIn (now (model .entry)) at ⌝ }
 {
-    let tag = byte_in(m, p);
-    let value = value_in(m, p + 1);
+    let tag = byte_in(model, at);
+    let value = value_in(model, at + 1);
     Operand {
         tag: tag,
         value: value,

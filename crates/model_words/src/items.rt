@@ -58,77 +58,77 @@ use numbers::word_at;
 ghost use mathlib.Core.Path.{_≡_};
 ghost use Prim.Native.Nat.{_+_, _≤_};
 ghost use lib.ListN.{getD};
-ghost use Rattle.model_format.specs.Model as model;
+ghost use Rattle.model_format.specs.Model as items;
 ghost use Rattle.model_format.specs.Reading as reading;
 ghost use Rattle.model_words.specs.Words as words;
 
 // ---- the head, and how many items there are of each kind
-pub fn modes(m: &[u32]) -> u8
-    ensures { λ r. ⌜ r ≡ words.timingIn (now (m .entry)) .modes ⌝ }
+pub fn modes(model: &[u32]) -> u8
+    ensures { λ r. ⌜ r ≡ words.timingIn (now (model .entry)) .modes ⌝ }
 {
-    byte_in(m, MODES_PLACE)
+    byte_in(model, MODES_PLACE)
 }
 
-pub fn initial(m: &[u32]) -> u8
-    ensures { λ r. ⌜ r ≡ words.timingIn (now (m .entry)) .initial ⌝ }
+pub fn initial(model: &[u32]) -> u8
+    ensures { λ r. ⌜ r ≡ words.timingIn (now (model .entry)) .initial ⌝ }
 {
-    byte_in(m, INITIAL_PLACE)
+    byte_in(model, INITIAL_PLACE)
 }
 
-pub fn threads(m: &[u32]) -> usize
-    ensures { λ r. ⌜ r ≡ words.timingIn (now (m .entry)) .threads ⌝ }
+pub fn threads(model: &[u32]) -> usize
+    ensures { λ r. ⌜ r ≡ words.timingIn (now (model .entry)) .threads ⌝ }
 {
-    usize_of_u32(word_at(m, THREADS_PLACE))
+    usize_of_u32(word_at(model, THREADS_PLACE))
 }
 
-pub fn inputs(m: &[u32]) -> usize
-    ensures { λ r. ⌜ r ≡ words.timingIn (now (m .entry)) .inputs ⌝ }
+pub fn inputs(model: &[u32]) -> usize
+    ensures { λ r. ⌜ r ≡ words.timingIn (now (model .entry)) .inputs ⌝ }
 {
-    usize_of_u32(word_at(m, INPUTS_PLACE))
+    usize_of_u32(word_at(model, INPUTS_PLACE))
 }
 
-pub fn outputs(m: &[u32]) -> usize
-    ensures { λ r. ⌜ r ≡ words.timingIn (now (m .entry)) .outputs ⌝ }
+pub fn outputs(model: &[u32]) -> usize
+    ensures { λ r. ⌜ r ≡ words.timingIn (now (model .entry)) .outputs ⌝ }
 {
-    usize_of_u32(word_at(m, OUTPUTS_PLACE))
+    usize_of_u32(word_at(model, OUTPUTS_PLACE))
 }
 
-pub fn locals(m: &[u32]) -> usize
-    ensures { λ r. ⌜ r ≡ words.timingIn (now (m .entry)) .locals ⌝ }
+pub fn locals(model: &[u32]) -> usize
+    ensures { λ r. ⌜ r ≡ words.timingIn (now (model .entry)) .locals ⌝ }
 {
-    usize_of_u32(word_at(m, LOCALS_PLACE))
+    usize_of_u32(word_at(model, LOCALS_PLACE))
 }
 
-pub fn connections(m: &[u32]) -> usize
-    ensures { λ r. ⌜ r ≡ words.timingIn (now (m .entry)) .connections ⌝ }
+pub fn connections(model: &[u32]) -> usize
+    ensures { λ r. ⌜ r ≡ words.timingIn (now (model .entry)) .connections ⌝ }
 {
-    usize_of_u32(word_at(m, CONNECTIONS_PLACE))
+    usize_of_u32(word_at(model, CONNECTIONS_PLACE))
 }
 
-pub fn switches(m: &[u32]) -> usize
-    ensures { λ r. ⌜ r ≡ words.timingIn (now (m .entry)) .switches ⌝ }
+pub fn switches(model: &[u32]) -> usize
+    ensures { λ r. ⌜ r ≡ words.timingIn (now (model .entry)) .switches ⌝ }
 {
-    usize_of_u32(word_at(m, SWITCHES_PLACE))
+    usize_of_u32(word_at(model, SWITCHES_PLACE))
 }
 
-pub fn transitions(m: &[u32]) -> usize
-    ensures { λ r. ⌜ r ≡ words.behaviorIn (now (m .entry)) .transitions ⌝ }
+pub fn transitions(model: &[u32]) -> usize
+    ensures { λ r. ⌜ r ≡ words.behaviorIn (now (model .entry)) .transitions ⌝ }
 {
-    usize_of_u32(word_at(m, TRANSITIONS_PLACE))
+    usize_of_u32(word_at(model, TRANSITIONS_PLACE))
 }
 
-// ---- the item whose numbers begin at p
-fn thread_in(m: &[u32], p: usize) -> Thread
-    requires { ⌜ p + words.threadSize ≤ words.modelWords ⌝ }
-    ensures { λ r. ⌜ r ≡ words.threadIn (now (m .entry)) p ⌝ }
+// ---- the item whose numbers begin at at
+fn thread_in(model: &[u32], at: usize) -> Thread
+    requires { ⌜ at + words.threadSize ≤ words.modelWords ⌝ }
+    ensures { λ r. ⌜ r ≡ words.threadIn (now (model .entry)) at ⌝ }
 {
-    let period = duration_in(m, p);
-    let deadline = duration_in(m, p + 1);
-    let bcet = duration_in(m, p + 2);
-    let wcet = duration_in(m, p + 3);
-    let modes = byte_in(m, p + 4);
-    let critical = byte_in(m, p + 5);
-    let first = byte_in(m, p + 6);
+    let period = duration_in(model, at);
+    let deadline = duration_in(model, at + 1);
+    let bcet = duration_in(model, at + 2);
+    let wcet = duration_in(model, at + 3);
+    let modes = byte_in(model, at + 4);
+    let critical = byte_in(model, at + 5);
+    let first = byte_in(model, at + 6);
     Thread {
         period: period,
         deadline: deadline,
@@ -140,26 +140,26 @@ fn thread_in(m: &[u32], p: usize) -> Thread
     }
 }
 
-fn local_in(m: &[u32], p: usize) -> Local
-    requires { ⌜ p + words.localSize ≤ words.modelWords ⌝ }
-    ensures { λ r. ⌜ r ≡ words.localIn (now (m .entry)) p ⌝ }
+fn local_in(model: &[u32], at: usize) -> Local
+    requires { ⌜ at + words.localSize ≤ words.modelWords ⌝ }
+    ensures { λ r. ⌜ r ≡ words.localIn (now (model .entry)) at ⌝ }
 {
-    let owner = byte_in(m, p);
-    let start = value_in(m, p + 1);
+    let owner = byte_in(model, at);
+    let start = value_in(model, at + 1);
     Local {
         owner: owner,
         start: start,
     }
 }
 
-fn connection_in(m: &[u32], p: usize) -> Connection
-    requires { ⌜ p + words.connectionSize ≤ words.modelWords ⌝ }
-    ensures { λ r. ⌜ r ≡ words.connectionIn (now (m .entry)) p ⌝ }
+fn connection_in(model: &[u32], at: usize) -> Connection
+    requires { ⌜ at + words.connectionSize ≤ words.modelWords ⌝ }
+    ensures { λ r. ⌜ r ≡ words.connectionIn (now (model .entry)) at ⌝ }
 {
-    let kind = byte_in(m, p);
-    let source = short_in(m, p + 1);
-    let target = short_in(m, p + 2);
-    let modes = byte_in(m, p + 3);
+    let kind = byte_in(model, at);
+    let source = short_in(model, at + 1);
+    let target = short_in(model, at + 2);
+    let modes = byte_in(model, at + 3);
     Connection {
         kind: kind,
         source: source,
@@ -168,14 +168,14 @@ fn connection_in(m: &[u32], p: usize) -> Connection
     }
 }
 
-fn switch_in(m: &[u32], p: usize) -> ModeTransition
-    requires { ⌜ p + words.switchSize ≤ words.modelWords ⌝ }
-    ensures { λ r. ⌜ r ≡ words.switchIn (now (m .entry)) p ⌝ }
+fn switch_in(model: &[u32], at: usize) -> ModeTransition
+    requires { ⌜ at + words.switchSize ≤ words.modelWords ⌝ }
+    ensures { λ r. ⌜ r ≡ words.switchIn (now (model .entry)) at ⌝ }
 {
-    let from = byte_in(m, p);
-    let to = byte_in(m, p + 1);
-    let h1 = duration_in(m, p + 2);
-    let h2 = duration_in(m, p + 3);
+    let from = byte_in(model, at);
+    let to = byte_in(model, at + 1);
+    let h1 = duration_in(model, at + 2);
+    let h2 = duration_in(model, at + 3);
     ModeTransition {
         from: from,
         to: to,
@@ -184,15 +184,15 @@ fn switch_in(m: &[u32], p: usize) -> ModeTransition
     }
 }
 
-fn transition_in(m: &[u32], p: usize) -> Transition
-    requires { ⌜ p + words.transitionSize ≤ words.modelWords ⌝ }
-    ensures { λ r. ⌜ r ≡ words.transitionIn (now (m .entry)) p ⌝ }
+fn transition_in(model: &[u32], at: usize) -> Transition
+    requires { ⌜ at + words.transitionSize ≤ words.modelWords ⌝ }
+    ensures { λ r. ⌜ r ≡ words.transitionIn (now (model .entry)) at ⌝ }
 {
-    let thread = byte_in(m, p);
-    let from = byte_in(m, p + 1);
-    let to = byte_in(m, p + 2);
-    let atoms = byte_in(m, p + 3);
-    let assignments = byte_in(m, p + 4);
+    let thread = byte_in(model, at);
+    let from = byte_in(model, at + 1);
+    let to = byte_in(model, at + 2);
+    let atoms = byte_in(model, at + 3);
+    let assignments = byte_in(model, at + 4);
     Transition {
         thread: thread,
         from: from,
@@ -202,14 +202,14 @@ fn transition_in(m: &[u32], p: usize) -> Transition
     }
 }
 
-fn atom_in(m: &[u32], p: usize) -> Atom
-    requires { ⌜ p + words.atomSize ≤ words.modelWords ⌝ }
-    ensures { λ r. ⌜ r ≡ words.atomIn (now (m .entry)) p ⌝ }
+fn atom_in(model: &[u32], at: usize) -> Atom
+    requires { ⌜ at + words.atomSize ≤ words.modelWords ⌝ }
+    ensures { λ r. ⌜ r ≡ words.atomIn (now (model .entry)) at ⌝ }
 {
-    let op = byte_in(m, p);
-    let tag = byte_in(m, p + 1);
-    let number = short_in(m, p + 2);
-    let right = operand_in(m, p + 3);
+    let op = byte_in(model, at);
+    let tag = byte_in(model, at + 1);
+    let number = short_in(model, at + 2);
+    let right = operand_in(model, at + 3);
     Atom {
         op: op,
         tag: tag,
@@ -218,15 +218,15 @@ fn atom_in(m: &[u32], p: usize) -> Atom
     }
 }
 
-fn assignment_in(m: &[u32], p: usize) -> Assignment
-    requires { ⌜ p + words.assignmentSize ≤ words.modelWords ⌝ }
-    ensures { λ r. ⌜ r ≡ words.assignmentIn (now (m .entry)) p ⌝ }
+fn assignment_in(model: &[u32], at: usize) -> Assignment
+    requires { ⌜ at + words.assignmentSize ≤ words.modelWords ⌝ }
+    ensures { λ r. ⌜ r ≡ words.assignmentIn (now (model .entry)) at ⌝ }
 {
-    let tag = byte_in(m, p);
-    let number = short_in(m, p + 1);
-    let op = byte_in(m, p + 2);
-    let first = operand_in(m, p + 3);
-    let second = operand_in(m, p + 5);
+    let tag = byte_in(model, at);
+    let number = short_in(model, at + 1);
+    let op = byte_in(model, at + 2);
+    let first = operand_in(model, at + 3);
+    let second = operand_in(model, at + 5);
     Assignment {
         tag: tag,
         number: number,
@@ -237,95 +237,95 @@ fn assignment_in(m: &[u32], p: usize) -> Assignment
 }
 
 // ---- items by number
-pub fn thread_at(m: &[u32], t: usize) -> Thread
-    ensures { λ r. ⌜ r ≡ model.threadAt (words.timingIn (now (m .entry))) t ⌝ }
+pub fn thread_at(model: &[u32], thread: usize) -> Thread
+    ensures { λ r. ⌜ r ≡ items.threadAt (words.timingIn (now (model .entry))) thread ⌝ }
 {
-    if MAX_THREADS <= t {
+    if MAX_THREADS <= thread {
         return no_thread();
     }
-    thread_in(m, THREADS_FROM + t * THREAD_SIZE)
+    thread_in(model, THREADS_FROM + thread * THREAD_SIZE)
 }
 
-pub fn local_at(m: &[u32], v: usize) -> Local
-    ensures { λ r. ⌜ r ≡ model.localAt (words.timingIn (now (m .entry))) v ⌝ }
+pub fn local_at(model: &[u32], local: usize) -> Local
+    ensures { λ r. ⌜ r ≡ items.localAt (words.timingIn (now (model .entry))) local ⌝ }
 {
-    if MAX_LOCALS <= v {
+    if MAX_LOCALS <= local {
         return no_local();
     }
-    local_in(m, LOCALS_FROM + v * LOCAL_SIZE)
+    local_in(model, LOCALS_FROM + local * LOCAL_SIZE)
 }
 
-pub fn connection_at(m: &[u32], c: usize) -> Connection
-    ensures { λ r. ⌜ r ≡ model.connectionAt (words.timingIn (now (m .entry))) c ⌝ }
+pub fn connection_at(model: &[u32], connection: usize) -> Connection
+    ensures { λ r. ⌜ r ≡ items.connectionAt (words.timingIn (now (model .entry))) connection ⌝ }
 {
-    if MAX_CONNECTIONS <= c {
+    if MAX_CONNECTIONS <= connection {
         return no_connection();
     }
-    connection_in(m, CONNECTIONS_FROM + c * CONNECTION_SIZE)
+    connection_in(model, CONNECTIONS_FROM + connection * CONNECTION_SIZE)
 }
 
-pub fn switch_at(m: &[u32], q: usize) -> ModeTransition
-    ensures { λ r. ⌜ r ≡ model.switchAt (words.timingIn (now (m .entry))) q ⌝ }
+pub fn switch_at(model: &[u32], switch: usize) -> ModeTransition
+    ensures { λ r. ⌜ r ≡ items.switchAt (words.timingIn (now (model .entry))) switch ⌝ }
 {
-    if MAX_SWITCHES <= q {
+    if MAX_SWITCHES <= switch {
         return no_switch();
     }
-    switch_in(m, SWITCHES_FROM + q * SWITCH_SIZE)
+    switch_in(model, SWITCHES_FROM + switch * SWITCH_SIZE)
 }
 
-pub fn transition_at(m: &[u32], k: usize) -> Transition
-    ensures { λ r. ⌜ r ≡ model.transitionAt (words.behaviorIn (now (m .entry))) k ⌝ }
+pub fn transition_at(model: &[u32], transition: usize) -> Transition
+    ensures { λ r. ⌜ r ≡ items.transitionAt (words.behaviorIn (now (model .entry))) transition ⌝ }
 {
-    if MAX_TRANSITIONS <= k {
+    if MAX_TRANSITIONS <= transition {
         return no_transition();
     }
-    transition_in(m, TRANSITIONS_FROM + k * TRANSITION_SIZE)
+    transition_in(model, TRANSITIONS_FROM + transition * TRANSITION_SIZE)
 }
 
-pub fn input_owner(m: &[u32], i: usize) -> u8
-    ensures { λ r. ⌜ r ≡ model.inputOwner (words.timingIn (now (m .entry))) i ⌝ }
+pub fn input_owner(model: &[u32], port: usize) -> u8
+    ensures { λ r. ⌜ r ≡ items.inputOwner (words.timingIn (now (model .entry))) port ⌝ }
 {
-    if MAX_INPUTS <= i {
+    if MAX_INPUTS <= port {
         return 0;
     }
-    byte_in(m, INPUTS_FROM + i)
+    byte_in(model, INPUTS_FROM + port)
 }
 
-pub fn output_owner(m: &[u32], o: usize) -> u8
-    ensures { λ r. ⌜ r ≡ model.outputOwner (words.timingIn (now (m .entry))) o ⌝ }
+pub fn output_owner(model: &[u32], port: usize) -> u8
+    ensures { λ r. ⌜ r ≡ items.outputOwner (words.timingIn (now (model .entry))) port ⌝ }
 {
-    if MAX_OUTPUTS <= o {
+    if MAX_OUTPUTS <= port {
         return 0;
     }
-    byte_in(m, OUTPUTS_FROM + o)
+    byte_in(model, OUTPUTS_FROM + port)
 }
 
 // The place of the last transition, which atoms and assignments belong to; where there is none, the first.
-pub fn last_transition(m: &[u32]) -> usize
-    ensures { λ r. ⌜ r ≡ reading.lastTransition (words.behaviorIn (now (m .entry))) ⌝ }
+pub fn last_transition(model: &[u32]) -> usize
+    ensures { λ r. ⌜ r ≡ reading.lastTransition (words.behaviorIn (now (model .entry))) ⌝ }
 {
-    let n = transitions(m);
-    if 0 < n { n - 1 } else { 0 }
+    let count = transitions(model);
+    if 0 < count { count - 1 } else { 0 }
 }
 
-// Atom j of transition k.
-pub fn atom_at(m: &[u32], k: usize, j: usize) -> Atom
-    ensures { λ r. ⌜ r ≡ model.atomAt (words.behaviorIn (now (m .entry))) k j ⌝ }
+// An atom of a transition, by its number.
+pub fn atom_at(model: &[u32], transition: usize, number: usize) -> Atom
+    ensures { λ r. ⌜ r ≡ items.atomAt (words.behaviorIn (now (model .entry))) transition number ⌝ }
 {
-    let i = place(k, j);
-    if MAX_TIMES <= i {
+    let at = place(transition, number);
+    if MAX_TIMES <= at {
         return no_atom();
     }
-    atom_in(m, ATOMS_FROM + i * ATOM_SIZE)
+    atom_in(model, ATOMS_FROM + at * ATOM_SIZE)
 }
 
-// Assignment j of transition k.
-pub fn assignment_at(m: &[u32], k: usize, j: usize) -> Assignment
-    ensures { λ r. ⌜ r ≡ model.assignmentAt (words.behaviorIn (now (m .entry))) k j ⌝ }
+// Assignment number of transition transition.
+pub fn assignment_at(model: &[u32], transition: usize, number: usize) -> Assignment
+    ensures { λ r. ⌜ r ≡ items.assignmentAt (words.behaviorIn (now (model .entry))) transition number ⌝ }
 {
-    let i = place(k, j);
-    if MAX_TIMES <= i {
+    let at = place(transition, number);
+    if MAX_TIMES <= at {
         return no_assignment();
     }
-    assignment_in(m, ASSIGNMENTS_FROM + i * ASSIGNMENT_SIZE)
+    assignment_in(model, ASSIGNMENTS_FROM + at * ASSIGNMENT_SIZE)
 }

@@ -1,2 +1,3 @@
-pub mod Laws
-pub mod Adds
+pub mod Counts
+pub mod Added
+pub mod Cleared

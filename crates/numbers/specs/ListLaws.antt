@@ -21,9 +21,6 @@ module _ {ℓ} {A : Type ℓ} (room : ℕ) (l : List A) where
   pub item-past : (i : ℕ) (d : A) → room ≤ i → item room l i d ≡ d
   item-past i d h = rw (le-ltb i room h)
 
-  pub store-within : (i : ℕ) (a : A) → i < room → store room l i a ≡ set l i a
-  store-within i a h = rw (lt-ltb i room h)
-
   pub store-past : (i : ℕ) (a : A) → room ≤ i → store room l i a ≡ l
   store-past i a h = rw (le-ltb i room h)
 
@@ -67,10 +64,6 @@ join-next i f = rw (add-one i)
 pub any-suc : (n : ℕ) (p : ℕ → Bool) → anyBelow (suc n) p ≡ (anyBelow n p || p n)
 unfolding anyBelow
 any-suc n p = refl
-
-pub all-suc : (n : ℕ) (p : ℕ → Bool) → allBelow (suc n) p ≡ (allBelow n p && p n)
-unfolding allBelow
-all-suc n p = refl
 
 pub fold-suc {ℓ} : {A : Type ℓ} (n : ℕ) (f : ℕ → A → A) (a : A) → foldBelow (suc n) f a ≡ f n (foldBelow n f a)
 unfolding foldBelow
@@ -119,11 +112,6 @@ any-some (suc n) p k l e = go (λ b. any-some n p k b e) (decLt k n)
     go : (k < n → anyBelow n p ≡ true) → Dec (k < n) → (anyBelow n p || p n) ≡ true
     go ih (yes b) = rw (ih b)
     go ih (no b) = let q : k ≡ n = omega arith in rw (ap p (sym q) ∙ e, or-true (anyBelow n p))
-
-pub all-every : (n : ℕ) (p : ℕ → Bool) → ((k : ℕ) → k < n → p k ≡ true) → allBelow n p ≡ true
-unfolding allBelow
-all-every zero p h = refl
-all-every (suc n) p h = rw (all-every n p (λ k l. h k (omega arith)), h n (omega arith))
 
 pub all-not : (n : ℕ) (p : ℕ → Bool) (k : ℕ) → k < n → p k ≡ false → allBelow n p ≡ false
 unfolding allBelow and-false

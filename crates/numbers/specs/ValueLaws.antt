@@ -16,7 +16,7 @@ use mir.Syntax.{w32}
 use mir.Val.{SFits, Fits}
 use mir.ValLaws.{toZ-pos, toZ-ofZ}
 use Rattle.numbers.specs.declared.Value.{Value}
-use Rattle.numbers.specs.Values.{value, signed, bitsOf, plus, minus, u16At, u32At, u16To, u32To}
+use Rattle.numbers.specs.Values.{value, signed, bitsOf, plus, minus, u32At, u16To, u32To}
 
 -- -1 - k
 minus-pos : (k : ℕ) → negsuc 0 -ℤ pos k ≡ negsuc k
@@ -96,10 +96,7 @@ module _ (s : List ℕ) (p : ℕ) where
   pub after-cut : (k : ℕ) → p < length s → length s - p ≤ k → 0 ≡ getD s (p + k) 0
   after-cut k l h = sym (List·getD-eq-default s 0 (omega arith))
 
-  -- numbers that begin past the end
-  pub u16-past : length s ≤ p → u16At s p ≡ 0
-  u16-past h = rw (← byte-past h, ← after-past 1 h)
-
+  -- a number that begins past the end
   pub u32-past : length s ≤ p → u32At s p ≡ 0
   u32-past h = rw (← byte-past h, ← after-past 1 h, ← after-past 2 h, ← after-past 3 h)
 

@@ -56,8 +56,14 @@ unfoldable pub minus : Value → Value → Value
 minus a b = value (signed ((bitsOf (a .0) + (2 ^ 32 - bitsOf (b .0))) % 2 ^ 32))
 
 -- "op u8 (0 copy the first, 1 add, 2 subtract)", of model assignments and table updates
+abbrev pub copyOp : ℕ
+copyOp = 0
+
+abbrev pub sumOp : ℕ
+sumOp = 1
+
 unfoldable pub combine : ℕ → Value → Value → Value
-combine op a b = cond (eqb op 0) a (cond (eqb op 1) (plus a b) (minus a b))
+combine op a b = cond (eqb op copyOp) a (cond (eqb op sumOp) (plus a b) (minus a b))
 
 abbrev pub sameValue : Value → Value → Bool
 sameValue a b = eqb (bitsOf (a .0)) (bitsOf (b .0))
@@ -66,15 +72,36 @@ abbrev pub lessValue : Value → Value → Bool
 lessValue a b = ltZ (a .0) (b .0)
 
 -- "Guard ops: 0 =, 1 ≠, 2 <, 3 ≥, 4 >, 5 ≤"
+abbrev pub equalsOp : ℕ
+equalsOp = 0
+
+abbrev pub differsOp : ℕ
+differsOp = 1
+
+abbrev pub belowOp : ℕ
+belowOp = 2
+
+abbrev pub atLeastOp : ℕ
+atLeastOp = 3
+
+abbrev pub aboveOp : ℕ
+aboveOp = 4
+
+abbrev pub atMostOp : ℕ
+atMostOp = 5
+
 unfoldable pub compares : ℕ → Value → Value → Bool
 compares op a b =
-    cond (eqb op 0) (sameValue a b)
-    (cond (eqb op 1) (not (sameValue a b))
-    (cond (eqb op 2) (lessValue a b)
-    (cond (eqb op 3) (not (lessValue a b))
-    (cond (eqb op 4) (lessValue b a) (not (lessValue b a))))))
+    cond (eqb op equalsOp) (sameValue a b)
+    (cond (eqb op differsOp) (not (sameValue a b))
+    (cond (eqb op belowOp) (lessValue a b)
+    (cond (eqb op atLeastOp) (not (lessValue a b))
+    (cond (eqb op aboveOp) (lessValue b a) (not (lessValue b a))))))
 
 -- one more, for Spent and Missed of a model's thread: 32 bits hold each, so it stays at their last number, which no run from the start
 -- reaches
+abbrev pub lastU32 : ℕ
+lastU32 = 4294967295
+
 unfoldable pub oneMore : ℕ → ℕ
-oneMore n = cond (ltb n 4294967295) (n + 1) n
+oneMore n = cond (ltb n lastU32) (n + 1) n

@@ -1,5 +1,15 @@
 // Clock figures and port values, the two number types of the timing models.
 
+mod ops;
+
+pub use ops::COPY;
+pub use ops::DIFFERS;
+pub use ops::EQUALS;
+pub use ops::IS_ABOVE;
+pub use ops::IS_AT_LEAST;
+pub use ops::IS_AT_MOST;
+pub use ops::IS_BELOW;
+pub use ops::SUM;
 ghost use mathlib.Core.Path.{_≡_};
 ghost use mathlib.Core.List.{[]};
 ghost use Prim.Native.Nat.{_+_, _<_};
@@ -8,6 +18,9 @@ ghost use lib.Seq.{sets};
 ghost use lib.IntN.{natAbs};
 ghost use Rattle.numbers.specs.Values as values;
 ghost use Rattle.numbers.specs.Multiples as multiples;
+
+// The last number that 32 bits hold.
+pub const LAST_U32: u32 = 4294967295;
 
 // DURATION: a clock figure.
 pub struct Duration(pub u32);
@@ -22,7 +35,7 @@ fn of_bits(u: u32) -> i32
     if u < 2147483648 {
         u as i32
     } else {
-        -1 - ((4294967295 - u) as i32)
+        -1 - ((LAST_U32 - u) as i32)
     }
 }
 
@@ -33,7 +46,7 @@ fn to_bits(v: i32) -> u32
     if v >= 0 {
         v as u32
     } else {
-        4294967295 - ((-1 - v) as u32)
+        LAST_U32 - ((-1 - v) as u32)
     }
 }
 
@@ -57,11 +70,7 @@ pub fn magnitude(v: Value) -> u32
     ensures { λ r. ⌜ r ≡ natAbs (v .0) ⌝ }
 {
     let u = bits(v);
-    if u < 2147483648 {
-        u
-    } else {
-        4294967295 - u + 1
-    }
+    if u < 2147483648 { u } else { LAST_U32 - u + 1 }
 }
 
 // Sums and differences are those of the bits, which wrap.
@@ -86,8 +95,8 @@ pub fn combine(op: u8, a: Value, b: Value) -> Value
     ensures { λ r. ⌜ r ≡ values.combine op a b ⌝ }
 {
     match op {
-        0 => a,
-        1 => plus(a, b),
+        COPY => a,
+        SUM => plus(a, b),
         _ => minus(a, b),
     }
 }
@@ -113,11 +122,11 @@ pub fn compares(op: u8, a: Value, b: Value) -> bool
     ensures { λ r. ⌜ r ≡ values.compares op a b ⌝ }
 {
     match op {
-        0 => same(a, b),
-        1 => !same(a, b),
-        2 => less(a, b),
-        3 => !less(a, b),
-        4 => less(b, a),
+        EQUALS => same(a, b),
+        DIFFERS => !same(a, b),
+        IS_BELOW => less(a, b),
+        IS_AT_LEAST => !less(a, b),
+        IS_ABOVE => less(b, a),
         _ => !less(b, a),
     }
 }
@@ -259,7 +268,7 @@ pub fn put_word(l: &mut [u32], i: usize, n: u32)
 pub fn one_more(n: u32) -> u32
     ensures { λ r. ⌜ r ≡ values.oneMore n ⌝ }
 {
-    if n < 4294967295 { n + 1 } else { n }
+    if n < LAST_U32 { n + 1 } else { n }
 }
 
 pub fn is_multiple(n: u32, p: u32) -> bool

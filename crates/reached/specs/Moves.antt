@@ -14,7 +14,7 @@ use Rattle.model_semantics.specs.State.{nowOf, withCode}
 use Rattle.model_semantics.specs.Tests.{waitingMode, waitingDispatch, canActivate, canDeactivate, canDispatch, canStart, canComplete, canMeetDeadline, canMiss, canEnter, canLeave, isBusy}
 use Rattle.model_semantics.specs.Effects.{dispatch, start, complete, meetDeadline, miss, request, enter, leave, tick}
 use Rattle.model_semantics.specs.Machine.{startState, refuse, attempt, ticks, step}
-use Rattle.reached.specs.Kinds.{model-broken, model-activate, model-deactivate, model-dispatch, model-start, model-complete, model-deadline, model-miss, model-request, model-enter, model-leave, model-tick, OneOf, kind-1, kind-2, kind-3, kind-4, kind-5, kind-6, kind-7, kind-8, kind-9, kind-10, kind-11, one-of}
+use Rattle.reached.specs.Kinds.{model-broken, model-activate, model-deactivate, model-dispatch, model-start, model-complete, model-deadline, model-miss, model-request, model-enter, model-leave, model-tick, OneOf, is-activate, is-deactivate, is-dispatch, is-start, is-complete, is-deadline, is-miss, is-request, is-enter, is-leave, is-tick, one-of}
 use Rattle.reached.specs.Reachable.{Reachable, begin, next}
 
 -- from a state to the next: by an event whose test passes, or by one tick of a quiet state before the last clock
@@ -60,17 +60,17 @@ module _ (m : Model) (P : State → Type 0) (keeps : (s r : State) → P s → M
   broken-keeps s e b = rw (model-broken m s e b) (λ q. absurd (false≢true q))
 
   kind-keeps : (s : State) → P s → (e : Event) → isBroken e ≡ false → OneOf (e .kind) → isNone (step m s e .answer) ≡ true → P (step m s e .state)
-  kind-keeps s p e f (kind-1 k) = rw (model-activate m s e k) (λ q. by-test s _ _ (λ b. keeps s _ p (activates (e .id) (ltb-true (e .id) (m .timing .threads) (both (ltb (e .id) (m .timing .threads)) _ b .0)) (both (ltb (e .id) (m .timing .threads)) _ b .1))) q)
-  kind-keeps s p e f (kind-2 k) = rw (model-deactivate m s e k) (λ q. by-test s _ _ (λ b. keeps s _ p (deactivates (e .id) (ltb-true (e .id) (m .timing .threads) (both (ltb (e .id) (m .timing .threads)) _ b .0)) (both (ltb (e .id) (m .timing .threads)) _ b .1))) q)
-  kind-keeps s p e f (kind-3 k) = rw (model-dispatch m s e k) (λ q. by-test s _ _ (λ b. keeps s _ p (dispatches (e .id) (ltb-true (e .id) (m .timing .threads) (both (ltb (e .id) (m .timing .threads)) _ b .0)) (both (ltb (e .id) (m .timing .threads)) _ b .1))) q)
-  kind-keeps s p e f (kind-4 k) = rw (model-start m s e k) (λ q. by-test s _ _ (λ b. keeps s _ p (starts (e .id) (e .amount) b)) q)
-  kind-keeps s p e f (kind-5 k) = rw (model-complete m s e k) (λ q. by-test s _ _ (λ b. keeps s _ p (completes (e .id) (ltb-true (e .id) (m .timing .threads) (both (ltb (e .id) (m .timing .threads)) _ b .0)) (both (ltb (e .id) (m .timing .threads)) _ b .1))) q)
-  kind-keeps s p e f (kind-6 k) = rw (model-deadline m s e k) (λ q. by-test s _ _ (λ b. keeps s _ p (meets (e .id) (ltb-true (e .id) (m .timing .threads) (both (ltb (e .id) (m .timing .threads)) _ b .0)) (both (ltb (e .id) (m .timing .threads)) _ b .1))) q)
-  kind-keeps s p e f (kind-7 k) = rw (model-miss m s e k) (λ q. by-test s _ _ (λ b. keeps s _ p (misses (e .id) (ltb-true (e .id) (m .timing .threads) (both (ltb (e .id) (m .timing .threads)) _ b .0)) (both (ltb (e .id) (m .timing .threads)) _ b .1))) q)
-  kind-keeps s p e f (kind-8 k) = rw (model-request m s e k) (λ q. by-test s _ _ (λ b. keeps s _ p (requests (e .id) (ltb-true (e .id) (m .timing .switches) b))) q)
-  kind-keeps s p e f (kind-9 k) = rw (model-enter m s e k) (λ q. by-test s _ _ (λ b. keeps s _ p (enters (e .id) (ltb-true (e .id) (m .timing .switches) (both (ltb (e .id) (m .timing .switches)) _ b .0)) (both (ltb (e .id) (m .timing .switches)) _ b .1))) q)
-  kind-keeps s p e f (kind-10 k) = rw (model-leave m s e k) (λ q. by-test s _ _ (λ b. keeps s _ p (leaves (e .id) (ltb-true (e .id) (m .timing .switches) (both (ltb (e .id) (m .timing .switches)) _ b .0)) (both (ltb (e .id) (m .timing .switches)) _ b .1))) q)
-  kind-keeps s p e f (kind-11 k) = rw (model-tick m s e k f) (by-ticks s (e .amount) s p)
+  kind-keeps s p e f (is-activate k) = rw (model-activate m s e k) (λ q. by-test s _ _ (λ b. keeps s _ p (activates (e .id) (ltb-true (e .id) (m .timing .threads) (both (ltb (e .id) (m .timing .threads)) _ b .0)) (both (ltb (e .id) (m .timing .threads)) _ b .1))) q)
+  kind-keeps s p e f (is-deactivate k) = rw (model-deactivate m s e k) (λ q. by-test s _ _ (λ b. keeps s _ p (deactivates (e .id) (ltb-true (e .id) (m .timing .threads) (both (ltb (e .id) (m .timing .threads)) _ b .0)) (both (ltb (e .id) (m .timing .threads)) _ b .1))) q)
+  kind-keeps s p e f (is-dispatch k) = rw (model-dispatch m s e k) (λ q. by-test s _ _ (λ b. keeps s _ p (dispatches (e .id) (ltb-true (e .id) (m .timing .threads) (both (ltb (e .id) (m .timing .threads)) _ b .0)) (both (ltb (e .id) (m .timing .threads)) _ b .1))) q)
+  kind-keeps s p e f (is-start k) = rw (model-start m s e k) (λ q. by-test s _ _ (λ b. keeps s _ p (starts (e .id) (e .amount) b)) q)
+  kind-keeps s p e f (is-complete k) = rw (model-complete m s e k) (λ q. by-test s _ _ (λ b. keeps s _ p (completes (e .id) (ltb-true (e .id) (m .timing .threads) (both (ltb (e .id) (m .timing .threads)) _ b .0)) (both (ltb (e .id) (m .timing .threads)) _ b .1))) q)
+  kind-keeps s p e f (is-deadline k) = rw (model-deadline m s e k) (λ q. by-test s _ _ (λ b. keeps s _ p (meets (e .id) (ltb-true (e .id) (m .timing .threads) (both (ltb (e .id) (m .timing .threads)) _ b .0)) (both (ltb (e .id) (m .timing .threads)) _ b .1))) q)
+  kind-keeps s p e f (is-miss k) = rw (model-miss m s e k) (λ q. by-test s _ _ (λ b. keeps s _ p (misses (e .id) (ltb-true (e .id) (m .timing .threads) (both (ltb (e .id) (m .timing .threads)) _ b .0)) (both (ltb (e .id) (m .timing .threads)) _ b .1))) q)
+  kind-keeps s p e f (is-request k) = rw (model-request m s e k) (λ q. by-test s _ _ (λ b. keeps s _ p (requests (e .id) (ltb-true (e .id) (m .timing .switches) b))) q)
+  kind-keeps s p e f (is-enter k) = rw (model-enter m s e k) (λ q. by-test s _ _ (λ b. keeps s _ p (enters (e .id) (ltb-true (e .id) (m .timing .switches) (both (ltb (e .id) (m .timing .switches)) _ b .0)) (both (ltb (e .id) (m .timing .switches)) _ b .1))) q)
+  kind-keeps s p e f (is-leave k) = rw (model-leave m s e k) (λ q. by-test s _ _ (λ b. keeps s _ p (leaves (e .id) (ltb-true (e .id) (m .timing .switches) (both (ltb (e .id) (m .timing .switches)) _ b .0)) (both (ltb (e .id) (m .timing .switches)) _ b .1))) q)
+  kind-keeps s p e f (is-tick k) = rw (model-tick m s e k f) (by-ticks s (e .amount) s p)
 
   step-keeps : (s : State) → P s → (e : Event) → isNone (step m s e .answer) ≡ true → P (step m s e .state)
   step-keeps s p e = go (isBroken e) refl

@@ -9,19 +9,7 @@ use Rattle.records.specs.declared.Notation.the-variants.{Script}
 use Rattle.records.specs.declared.Event.{Event}
 use Rattle.records.specs.declared.Listed.{Listed}
 use Rattle.records.specs.Format.{recordSize, partLengthAt, isWhole}
-
--- The kinds. DISPATCH, START, REQUEST and TICK are asked for by name outside the match over kinds.
-abbrev pub dispatchKind : ℕ
-dispatchKind = 3
-
-abbrev pub startKind : ℕ
-startKind = 4
-
-abbrev pub requestKind : ℕ
-requestKind = 8
-
-abbrev pub tickKind : ℕ
-tickKind = 11
+pub use Rattle.records.specs.Kinds.{activateKind, deactivateKind, dispatchKind, startKind, completeKind, deadlineKind, missKind, requestKind, enterKind, leaveKind, tickKind}
 
 -- No event has kind 0: what stands for a cut or unknown record.
 abbrev pub noEvent : Event

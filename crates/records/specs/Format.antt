@@ -8,39 +8,53 @@ use Rattle.numbers.specs.Values.{valueAt}
 use Rattle.records.specs.declared.Notation.{Notation}
 use Rattle.records.specs.declared.Notation.the-variants.{Model, Table, Script}
 use Rattle.records.specs.declared.Operand.{Operand}
+use Rattle.records.specs.Kinds.{modelHead, modelThread, modelInput, modelOutput, modelLocal, modelConnection, modelSwitch, modelTransition, modelAtom, modelAssignment, tableStart, tableRule, tableClause, tableAtom, tableUpdate, activateKind, deactivateKind, dispatchKind, startKind, completeKind, deadlineKind, missKind, requestKind, enterKind, leaveKind, tickKind}
+
+-- with the kind byte: the records of a rule, which walks over a table cut out by themselves
+abbrev pub headSize : ℕ
+headSize = 11
+
+abbrev pub clauseSize : ℕ
+clauseSize = 1
+
+abbrev pub tableAtomSize : ℕ
+tableAtomSize = 9
+
+abbrev pub updateSize : ℕ
+updateSize = 17
 
 -- "A record is one byte of kind .. then a body whose length the kind fixes": the body's length and 1 for the kind byte; 0 for a kind
 -- that is unknown in this notation.
 unfoldable pub recordSize : Notation → ℕ → ℕ
 recordSize Model k =
-    cond (eqb k 1) 3
-    (cond (eqb k 2) 20
-    (cond (eqb k 3) 2
-    (cond (eqb k 4) 2
-    (cond (eqb k 5) 6
-    (cond (eqb k 6) 5
-    (cond (eqb k 7) 3
-    (cond (eqb k 8) 4
-    (cond (eqb k 9) 9
-    (cond (eqb k 10) 14 0)))))))))
+    cond (eqb k modelHead) 3
+    (cond (eqb k modelThread) 20
+    (cond (eqb k modelInput) 2
+    (cond (eqb k modelOutput) 2
+    (cond (eqb k modelLocal) 6
+    (cond (eqb k modelConnection) 5
+    (cond (eqb k modelSwitch) 3
+    (cond (eqb k modelTransition) 4
+    (cond (eqb k modelAtom) 9
+    (cond (eqb k modelAssignment) 14 0)))))))))
 recordSize Table k =
-    cond (eqb k 32) 7
-    (cond (eqb k 33) 11
-    (cond (eqb k 34) 1
-    (cond (eqb k 35) 9
-    (cond (eqb k 36) 17 0))))
+    cond (eqb k tableStart) 7
+    (cond (eqb k tableRule) headSize
+    (cond (eqb k tableClause) clauseSize
+    (cond (eqb k tableAtom) tableAtomSize
+    (cond (eqb k tableUpdate) updateSize 0))))
 recordSize Script k =
-    cond (eqb k 1) 2
-    (cond (eqb k 2) 2
-    (cond (eqb k 3) 2
-    (cond (eqb k 4) 6
-    (cond (eqb k 5) 2
-    (cond (eqb k 6) 2
-    (cond (eqb k 7) 2
-    (cond (eqb k 8) 2
-    (cond (eqb k 9) 2
-    (cond (eqb k 10) 2
-    (cond (eqb k 11) 3 0))))))))))
+    cond (eqb k activateKind) 2
+    (cond (eqb k deactivateKind) 2
+    (cond (eqb k dispatchKind) 2
+    (cond (eqb k startKind) 6
+    (cond (eqb k completeKind) 2
+    (cond (eqb k deadlineKind) 2
+    (cond (eqb k missKind) 2
+    (cond (eqb k requestKind) 2
+    (cond (eqb k enterKind) 2
+    (cond (eqb k leaveKind) 2
+    (cond (eqb k tickKind) 3 0))))))))))
 
 -- "kind byte to body end, or to the input's end if cut or unknown": how much of the rest of an input, n bytes, is the part of the
 -- record whose kind is k.
@@ -66,6 +80,9 @@ partsFrom w zero (k ∷ r) =
 abbrev pub parts : Notation → List ℕ → List (List ℕ)
 parts w s = partsFrom w 0 s
 
--- "An operand is a tag u8 .. and an i32"
+-- "An operand is a tag u8 (0 constant ..) and an i32"; what other tags name each language says
+abbrev pub constantTag : ℕ
+constantTag = 0
+
 unfoldable pub operandAt : List ℕ → ℕ → Operand
 operandAt s p = record { tag = getD s p 0; value = valueAt s (p + 1) }

@@ -1,5 +1,5 @@
 -- Laws of the definitions, one for each way in which the code returns.
-use mathlib.Core.Path.{_≡_, refl, sym, _∙_}
+use mathlib.Core.Path.{_≡_, sym, _∙_}
 use mathlib.Core.Bool.{Bool, true, false}
 use mathlib.Core.List.{List}
 use Prim.Native.Nat.{ℕ, _+_, _-_, _<_, _≤_, min}
@@ -15,11 +15,8 @@ use Rattle.numbers.specs.ValueLaws.{byte-past, u32-past}
 use Rattle.records.specs.declared.Notation.{Notation}
 use Rattle.records.specs.declared.Notation.the-variants.{Script}
 use Rattle.records.specs.declared.Event.{Event}
-use Rattle.records.specs.declared.Cause.{Cause}
-use Rattle.records.specs.declared.Cause.the-variants.{None, CutRecord, WrongKind, TooMany, WrongField, OtherThread, SetTwice, LongHyperperiod, ShortOutput, BrokenEvent, NotEnabled, LastClock, ConflictingRules, InconsistentUpdates}
 use Rattle.records.specs.Format.{recordSize, partLength, partLengthAt, isWhole, operandAt}
-use Rattle.records.specs.Refusals.{numberOf, isNone}
-use Rattle.records.specs.Events.{noEvent, eventOf, figureOf}
+use Rattle.records.specs.Events.{startKind, tickKind, noEvent, eventOf, figureOf}
 
 -- ---- the length of a part: m is the size of a record of kind k, n bytes are left
 module _ (w : Notation) (k n m : ℕ) (e : m ≡ recordSize w k) where
@@ -62,31 +59,6 @@ module _ (s : List ℕ) (p : ℕ) (v : Value) where
   unfolding operandAt
   operand-past h e = rw (e, ← byte-past s p h, u32-past s (p + 1) (omega arith))
 
--- ---- causes
-pub none-is-none : (c : Cause) → c ≡ None → isNone c ≡ true
-unfolding numberOf
-none-is-none c e = rw e
-
-no-way : {c : Cause} → false ≡ true → c ≡ None
-no-way e = let z : _≡_ {A = ℕ} 0 1 = cc in absurd (omega arith)
-
-pub is-none-none : (c : Cause) → isNone c ≡ true → c ≡ None
-unfolding numberOf
-is-none-none None e = refl
-is-none-none CutRecord e = no-way e
-is-none-none WrongKind e = no-way e
-is-none-none TooMany e = no-way e
-is-none-none WrongField e = no-way e
-is-none-none OtherThread e = no-way e
-is-none-none SetTwice e = no-way e
-is-none-none LongHyperperiod e = no-way e
-is-none-none ShortOutput e = no-way e
-is-none-none BrokenEvent e = no-way e
-is-none-none NotEnabled e = no-way e
-is-none-none LastClock e = no-way e
-is-none-none ConflictingRules e = no-way e
-is-none-none InconsistentUpdates e = no-way e
-
 -- ---- parts: places drawn in to the list's length
 pub drawn-in : (s : List ℕ) (a e p q : ℕ) → q ≡ min e (length s) → p ≡ min a q → take (q - p) (drop p s) ≡ take (e - a) (drop a s)
 drawn-in s a e p q f g = go (decLt q a) (decLt (length s) e)
@@ -116,23 +88,23 @@ module _ (x : List ℕ) (b : Bool) (w : b ≡ isWhole Script x) where
   event-none h = rw (← w, h)
 
   module _ (k n : ℕ) (h : b ≡ true) (f : k ≡ getD x 0 0) where
-    pub event-tick : k ≡ 11 → n ≡ u16At x 1 → record { kind = k; id = 0; amount = n } ≡ eventOf x
+    pub event-tick : k ≡ tickKind → n ≡ u16At x 1 → record { kind = k; id = 0; amount = n } ≡ eventOf x
     unfolding eventOf
     event-tick e g = rw (← w, h, ← f, e, g)
 
-    module _ (i : ℕ) (u : k ≡ 11 → ⊥) (g : i ≡ getD x 1 0) where
-      pub event-start : k ≡ 4 → n ≡ u32At x 2 → record { kind = k; id = i; amount = n } ≡ eventOf x
+    module _ (i : ℕ) (u : k ≡ tickKind → ⊥) (g : i ≡ getD x 1 0) where
+      pub event-start : k ≡ startKind → n ≡ u32At x 2 → record { kind = k; id = i; amount = n } ≡ eventOf x
       unfolding eventOf
       event-start e m = rw (← w, h, ← f, ← g, e, m)
 
-      pub event-other : (k ≡ 4 → ⊥) → record { kind = k; id = i; amount = 0 } ≡ eventOf x
+      pub event-other : (k ≡ startKind → ⊥) → record { kind = k; id = i; amount = 0 } ≡ eventOf x
       unfolding eventOf
-      event-other e = rw (← w, h, ← f, ← g, ne-eqb k 11 u, ne-eqb k 4 e)
+      event-other e = rw (← w, h, ← f, ← g, ne-eqb k tickKind u, ne-eqb k startKind e)
 
-pub figure-tick : (e : Event) → e .kind ≡ 11 → e .amount ≡ figureOf e
+pub figure-tick : (e : Event) → e .kind ≡ tickKind → e .amount ≡ figureOf e
 unfolding figureOf
 figure-tick e h = rw h
 
-pub figure-other : (e : Event) → (e .kind ≡ 11 → ⊥) → e .id ≡ figureOf e
+pub figure-other : (e : Event) → (e .kind ≡ tickKind → ⊥) → e .id ≡ figureOf e
 unfolding figureOf
-figure-other e h = rw (ne-eqb (e .kind) 11 h)
+figure-other e h = rw (ne-eqb (e .kind) tickKind h)

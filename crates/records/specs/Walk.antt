@@ -100,46 +100,19 @@ parts-split w s p x l e = go (decLt p (length s))
         let z : _≡_ {A = ℕ} 0 1 = cc in
         absurd (omega arith)
 
--- ---- a run over a script: state a before the part at p, answer c, state b after it
+-- ---- a run over a script that has come to its end, in state a
 module _ {S : Type 0} (mac : Machine S) (s : List ℕ) (p : ℕ) (a : S) where
   pub run-end : (k : ℕ) → length s ≤ p → record { taken = k; refusal = noRefusal; state = a } ≡ runFrom mac a k p (parts Script (drop p s))
   unfolding runFrom
   run-end k h = rw (parts-end Script s p h)
 
-  pub stages-end : length s ≤ p → [] ≡ stagesFrom mac a p (parts Script (drop p s))
+  stages-end : length s ≤ p → [] ≡ stagesFrom mac a p (parts Script (drop p s))
   unfolding stagesFrom
   stages-end h = rw (parts-end Script s p h)
 
   pub tally-end : (k r : ℕ) → length s ≤ p → record { taken = k; refused = r; state = a } ≡ tallyFrom a k r (stagesFrom mac a p (parts Script (drop p s)))
   unfolding tallyFrom
   tally-end k r h = rw (← stages-end h)
-
-  module _ (m : ℕ) (v : Event) (h : p < length s) (e : m ≡ partLengthAt Script s p) (f : v ≡ eventOf (take m (drop p s))) where
-    pub run-on : (k : ℕ) (c : Cause) (b : S) → c ≡ mac .answer a v → b ≡ mac .after a v → isNone c ≡ true →
-        runFrom mac b (k + 1) (p + m) (parts Script (drop (p + m) s)) ≡ runFrom mac a k p (parts Script (drop p s))
-    unfolding runFrom
-    run-on k c b g i n = rw (parts-at Script s p m h e, ← f, ← g, n, part-size Script s p m h e, i)
-
-    pub run-refused : (k : ℕ) (c : Cause) → c ≡ mac .answer a v → isNone c ≡ false →
-        record { taken = k; refusal = inScript c p (p + m); state = a } ≡ runFrom mac a k p (parts Script (drop p s))
-    unfolding runFrom
-    run-refused k c g n = rw (parts-at Script s p m h e, ← f, ← g, n, part-size Script s p m h e)
-
-    pub stages-on : (c : Cause) (b : S) → c ≡ mac .answer a v → b ≡ mac .after a v →
-        record { event = v; answer = c; start = p; end = p + m; state = b } ∷ stagesFrom mac b (p + m) (parts Script (drop (p + m) s))
-        ≡ stagesFrom mac a p (parts Script (drop p s))
-    unfolding stagesFrom
-    stages-on c b g n = rw (parts-at Script s p m h e, ← f, ← g, ← n, part-size Script s p m h e)
-
-    pub tally-taken : (k r : ℕ) (c : Cause) (b : S) → c ≡ mac .answer a v → b ≡ mac .after a v → isNone c ≡ true →
-        tallyFrom b (k + 1) r (stagesFrom mac b (p + m) (parts Script (drop (p + m) s))) ≡ tallyFrom a k r (stagesFrom mac a p (parts Script (drop p s)))
-    unfolding tallyFrom
-    tally-taken k r c b g w n = rw (← stages-on c b g w, n)
-
-    pub tally-refused : (k r : ℕ) (c : Cause) (b : S) → c ≡ mac .answer a v → b ≡ mac .after a v → isNone c ≡ false →
-        tallyFrom b k (r + 1) (stagesFrom mac b (p + m) (parts Script (drop (p + m) s))) ≡ tallyFrom a k r (stagesFrom mac a p (parts Script (drop p s)))
-    unfolding tallyFrom
-    tally-refused k r c b g w n = rw (← stages-on c b g w, n)
 
 -- ---- the event at a place: past the end there is none
 pub listed-past : (s : List ℕ) (p : ℕ) → length s ≤ p → record { event = noEvent; end = p } ≡ listedAt s p
@@ -172,17 +145,27 @@ module _ (s : List ℕ) (p : ℕ) {l : Listed} (i : l ≡ listedAt s p) where
   module _ {S : Type 0} (mac : Machine S) (a : S) (h : p < length s) where
     pub listed-on : (k : ℕ) (c : Cause) (b : S) → c ≡ mac .answer a (l .event) → b ≡ mac .after a (l .event) → isNone c ≡ true →
         runFrom mac b (k + 1) (l .end) (parts Script (drop (l .end) s)) ≡ runFrom mac a k p (parts Script (drop p s))
-    listed-on k c b g j n = rw end-at (run-on mac s p a (partLengthAt Script s p) (l .event) h refl event-at k c b g j n)
+    unfolding runFrom
+    listed-on k c b g j n = rw (end-at, parts-at Script s p _ h refl, ← event-at, ← g, n, part-size Script s p _ h refl, j)
 
     pub listed-refused : (k : ℕ) (c : Cause) → c ≡ mac .answer a (l .event) → isNone c ≡ false →
         record { taken = k; refusal = inScript c p (l .end); state = a } ≡ runFrom mac a k p (parts Script (drop p s))
-    listed-refused k c g n = rw end-at (run-refused mac s p a (partLengthAt Script s p) (l .event) h refl event-at k c g n)
+    unfolding runFrom
+    listed-refused k c g n = rw (end-at, parts-at Script s p _ h refl, ← event-at, ← g, n, part-size Script s p _ h refl)
 
     -- the loop that goes on after refusals
+    stage-at : (c : Cause) (b : S) → c ≡ mac .answer a (l .event) → b ≡ mac .after a (l .event) →
+        record { event = l .event; answer = c; start = p; end = l .end; state = b } ∷ stagesFrom mac b (l .end) (parts Script (drop (l .end) s))
+        ≡ stagesFrom mac a p (parts Script (drop p s))
+    unfolding stagesFrom
+    stage-at c b g j = rw (end-at, parts-at Script s p _ h refl, ← event-at, ← g, ← j, part-size Script s p _ h refl)
+
     pub listed-taken : (k r : ℕ) (c : Cause) (b : S) → c ≡ mac .answer a (l .event) → b ≡ mac .after a (l .event) → isNone c ≡ true →
         tallyFrom b (k + 1) r (stagesFrom mac b (l .end) (parts Script (drop (l .end) s))) ≡ tallyFrom a k r (stagesFrom mac a p (parts Script (drop p s)))
-    listed-taken k r c b g j n = rw end-at (tally-taken mac s p a (partLengthAt Script s p) (l .event) h refl event-at k r c b g j n)
+    unfolding tallyFrom
+    listed-taken k r c b g j n = rw (← stage-at c b g j, n)
 
     pub listed-passed : (k r : ℕ) (c : Cause) (b : S) → c ≡ mac .answer a (l .event) → b ≡ mac .after a (l .event) → isNone c ≡ false →
         tallyFrom b k (r + 1) (stagesFrom mac b (l .end) (parts Script (drop (l .end) s))) ≡ tallyFrom a k r (stagesFrom mac a p (parts Script (drop p s)))
-    listed-passed k r c b g j n = rw end-at (tally-refused mac s p a (partLengthAt Script s p) (l .event) h refl event-at k r c b g j n)
+    unfolding tallyFrom
+    listed-passed k r c b g j n = rw (← stage-at c b g j, n)

@@ -95,10 +95,10 @@ pub struct Event {
 }
 
 // Record sizes with the kind byte, 0 for an unknown kind.
-fn model_size(k: u8) -> usize
-    ensures { λ r. ⌜ r ≡ recordSize notations.Model k ⌝ }
+fn model_size(kind: u8) -> usize
+    ensures { λ r. ⌜ r ≡ recordSize notations.Model kind ⌝ }
 {
-    match k {
+    match kind {
         MODEL_HEAD => 3,
         MODEL_THREAD => 20,
         MODEL_INPUT => 2,
@@ -113,10 +113,10 @@ fn model_size(k: u8) -> usize
     }
 }
 
-fn table_size(k: u8) -> usize
-    ensures { λ r. ⌜ r ≡ recordSize notations.Table k ⌝ }
+fn table_size(kind: u8) -> usize
+    ensures { λ r. ⌜ r ≡ recordSize notations.Table kind ⌝ }
 {
-    match k {
+    match kind {
         TABLE_START => 7,
         TABLE_RULE => RULE_SIZE,
         TABLE_CLAUSE => CLAUSE_SIZE,
@@ -126,10 +126,10 @@ fn table_size(k: u8) -> usize
     }
 }
 
-fn script_size(k: u8) -> usize
-    ensures { λ r. ⌜ r ≡ recordSize notations.Script k ⌝ }
+fn script_size(kind: u8) -> usize
+    ensures { λ r. ⌜ r ≡ recordSize notations.Script kind ⌝ }
 {
-    match k {
+    match kind {
         ACTIVATE => 2,
         DEACTIVATE => 2,
         DISPATCH => 2,
@@ -145,62 +145,72 @@ fn script_size(k: u8) -> usize
     }
 }
 
-pub fn record_size(w: Notation, k: u8) -> usize
-    ensures { λ r. ⌜ r ≡ recordSize w k ⌝ }
+pub fn record_size(notation: Notation, kind: u8) -> usize
+    ensures { λ r. ⌜ r ≡ recordSize notation kind ⌝ }
 {
-    match w {
-        Notation::Model => model_size(k),
-        Notation::Table => table_size(k),
-        Notation::Script => script_size(k),
+    match notation {
+        Notation::Model => model_size(kind),
+        Notation::Table => table_size(kind),
+        Notation::Script => script_size(kind),
     }
 }
 
-// How many of the n bytes that are left belong to the record whose kind is k.
-fn part_length(w: Notation, k: u8, n: usize) -> usize
-    ensures { λ r. ⌜ r ≡ partLength w k n ⌝ }
+// How many of the bytes that are left belong to the record of a kind.
+fn part_length(notation: Notation, kind: u8, rest: usize) -> usize
+    ensures { λ r. ⌜ r ≡ partLength notation kind rest ⌝ }
 {
-    let m = record_size(w, k);
-    if m == 0 { n } else { if n < m { n } else { m } }
+    let size = record_size(notation, kind);
+    if size == 0 {
+        rest
+    } else {
+        if rest < size { rest } else { size }
+    }
 }
 
 // The length of the part that begins at a place; 0 past the end.
-pub fn part_length_at(w: Notation, s: &[u8], at: usize) -> usize
-    ensures { λ r. ⌜ r ≡ partLengthAt w (now (s .entry)) at ⌝ }
+pub fn part_length_at(notation: Notation, bytes: &[u8], at: usize) -> usize
+    ensures { λ r. ⌜ r ≡ partLengthAt notation (now (bytes .entry)) at ⌝ }
 {
-    if at < s.len() {
-        let k = s[at];
-        part_length(w, k, s.len() - at)
+    if at < bytes.len() {
+        let kind = bytes[at];
+        part_length(notation, kind, bytes.len() - at)
     } else {
         0
     }
 }
 
-fn is_whole(w: Notation, x: &[u8]) -> bool
-    ensures { λ r. ⌜ r ≡ isWhole w (now (x .entry)) ⌝ }
+fn is_whole(notation: Notation, part: &[u8]) -> bool
+    ensures { λ r. ⌜ r ≡ isWhole notation (now (part .entry)) ⌝ }
 {
-    let k = numbers::byte_at(x, 0);
-    let m = record_size(w, k);
-    if m == 0 { false } else { x.len() == m }
+    let kind = numbers::byte_at(part, 0);
+    let size = record_size(notation, kind);
+    if size == 0 { false } else { part.len() == size }
 }
 
-pub fn operand_at(s: &[u8], at: usize) -> Operand
-    ensures { λ r. ⌜ r ≡ operandAt (now (s .entry)) at ⌝ }
+pub fn operand_at(bytes: &[u8], at: usize) -> Operand
+    ensures { λ r. ⌜ r ≡ operandAt (now (bytes .entry)) at ⌝ }
 {
-    if at < s.len() {
-        let t = s[at];
-        let v = numbers::value_at(s, at + 1);
-        Operand { tag: t, value: v }
+    if at < bytes.len() {
+        let tag = bytes[at];
+        let value = numbers::value_at(bytes, at + 1);
+        Operand {
+            tag: tag,
+            value: value,
+        }
     } else {
-        let v = numbers::value_of(0);
-        Operand { tag: 0, value: v }
+        let value = numbers::value_of(0);
+        Operand {
+            tag: 0,
+            value: value,
+        }
     }
 }
 
 // The documents' number of a cause.
-pub fn number_of(c: Cause) -> u8
-    ensures { λ r. ⌜ r ≡ numberOf c ⌝ }
+pub fn number_of(cause: Cause) -> u8
+    ensures { λ r. ⌜ r ≡ numberOf cause ⌝ }
 {
-    match c {
+    match cause {
         Cause::None => 0,
         Cause::CutRecord => 1,
         Cause::WrongKind => 2,
@@ -218,10 +228,10 @@ pub fn number_of(c: Cause) -> u8
     }
 }
 
-pub fn is_none(c: Cause) -> bool
-    ensures { λ r. ⌜ r ≡ isNone c ⌝ }
+pub fn is_none(cause: Cause) -> bool
+    ensures { λ r. ⌜ r ≡ isNone cause ⌝ }
 {
-    number_of(c) == 0
+    number_of(cause) == 0
 }
 
 // ---- refusals
@@ -263,62 +273,62 @@ fn smaller(a: usize, b: usize) -> usize
     if a < b { a } else { b }
 }
 
-// Bytes a up to e, as far as the slice has them: both places are drawn in before the part is made.
-fn part_between(s: &[u8], a: usize, e: usize) -> &[u8]
-    ensures { λ p. ⌜ now p ≡ take (e - a) (drop a (now (s .entry))) ⌝ }
+// Bytes from start up to end, as far as the slice has them: both places are drawn in before the part is made.
+fn part_between(bytes: &[u8], start: usize, end: usize) -> &[u8]
+    ensures { λ p. ⌜ now p ≡ take (end - start) (drop start (now (bytes .entry))) ⌝ }
 {
-    let n = s.len();
-    let end = smaller(e, n);
-    let start = smaller(a, end);
-    &s[start..end]
+    let count = bytes.len();
+    let end = smaller(end, count);
+    let start = smaller(start, end);
+    &bytes[start..end]
 }
 
 // The part refused, from the slice that holds it.
-pub fn part_of<'a>(m: &'a [u8], s: &'a [u8], r: Refusal) -> &'a [u8]
-    ensures { λ p. ⌜ now p ≡ partOf r (now (m .entry)) (now (s .entry)) ⌝ }
+pub fn part_of<'a>(model: &'a [u8], script: &'a [u8], refusal: Refusal) -> &'a [u8]
+    ensures { λ p. ⌜ now p ≡ partOf refusal (now (model .entry)) (now (script .entry)) ⌝ }
 {
-    let a = r.start;
-    let e = r.end;
-    let h = r.holder;
-    match h {
-        Holder::Model => part_between(m, a, e),
-        Holder::Script => part_between(s, a, e),
+    let start = refusal.start;
+    let end = refusal.end;
+    let holder = refusal.holder;
+    match holder {
+        Holder::Model => part_between(model, start, end),
+        Holder::Script => part_between(script, start, end),
     }
 }
 
 // The event that a part holds; one of kind 0 where the part is no whole record.
-pub fn event_of(x: &[u8]) -> Event
-    ensures { λ r. ⌜ r ≡ eventOf (now (x .entry)) ⌝ }
+pub fn event_of(part: &[u8]) -> Event
+    ensures { λ r. ⌜ r ≡ eventOf (now (part .entry)) ⌝ }
 {
-    let w = Notation::Script;
-    if !is_whole(w, x) {
+    let notation = Notation::Script;
+    if !is_whole(notation, part) {
         return Event {
             kind: 0,
             id: 0,
             amount: 0,
         };
     }
-    let k = numbers::byte_at(x, 0);
-    if k == TICK {
-        let n = numbers::u32_of_u16(numbers::u16_at(x, 1));
+    let kind = numbers::byte_at(part, 0);
+    if kind == TICK {
+        let amount = numbers::u32_of_u16(numbers::u16_at(part, 1));
         return Event {
-            kind: k,
+            kind: kind,
             id: 0,
-            amount: n,
+            amount: amount,
         };
     }
-    let i = numbers::byte_at(x, 1);
-    if k == START {
-        let n = numbers::u32_at(x, 2);
+    let id = numbers::byte_at(part, 1);
+    if kind == START {
+        let amount = numbers::u32_at(part, 2);
         return Event {
-            kind: k,
-            id: i,
-            amount: n,
+            kind: kind,
+            id: id,
+            amount: amount,
         };
     }
     Event {
-        kind: k,
-        id: i,
+        kind: kind,
+        id: id,
         amount: 0,
     }
 }
@@ -343,32 +353,35 @@ pub fn event_at(script: &[u8], at: usize) -> Listed
             end: at,
         };
     }
-    let w = Notation::Script;
-    let end = at + part_length_at(w, script, at);
-    let e = event_of(&script[at..end]);
-    Listed { event: e, end: end }
+    let notation = Notation::Script;
+    let end = at + part_length_at(notation, script, at);
+    let event = event_of(&script[at..end]);
+    Listed {
+        event: event,
+        end: end,
+    }
 }
 
 // The last figure of an event's line: the id, or TICK's n.
-pub fn figure_of(e: Event) -> u32
-    ensures { λ r. ⌜ r ≡ figureOf e ⌝ }
+pub fn figure_of(event: Event) -> u32
+    ensures { λ r. ⌜ r ≡ figureOf event ⌝ }
 {
-    let k = e.kind;
-    if k == TICK {
-        e.amount
+    let kind = event.kind;
+    if kind == TICK {
+        event.amount
     } else {
-        let i = e.id;
-        i as u32
+        let id = event.id;
+        id as u32
     }
 }
 
 // Cut, of an unknown kind, or a TICK of none.
-pub fn is_broken(e: Event) -> bool
-    ensures { λ r. ⌜ r ≡ isBroken e ⌝ }
+pub fn is_broken(event: Event) -> bool
+    ensures { λ r. ⌜ r ≡ isBroken event ⌝ }
 {
-    let k = e.kind;
-    let n = e.amount;
-    let w = Notation::Script;
-    let m = record_size(w, k);
-    (m == 0) | ((k == TICK) & (n == 0))
+    let kind = event.kind;
+    let amount = event.amount;
+    let notation = Notation::Script;
+    let size = record_size(notation, kind);
+    (size == 0) | ((kind == TICK) & (amount == 0))
 }

@@ -8,7 +8,7 @@ use borrow.Author.Tests.{ltb-true}
 use Rattle.records.specs.declared.Event.{Event}
 use Rattle.records.specs.declared.Cause.the-variants.{None, BrokenEvent}
 use Rattle.records.specs.Refusals.{numberOf}
-use Rattle.records.specs.Events.{isBroken}
+use Rattle.records.specs.Events.{activateKind, deactivateKind, dispatchKind, startKind, completeKind, deadlineKind, missKind, requestKind, enterKind, leaveKind, isBroken}
 use Rattle.model_format.specs.declared.Model.{Model}
 use Rattle.model_format.specs.Model.{threadAt}
 use Rattle.model_format.specs.WellFormed.{WellFormed}
@@ -57,54 +57,54 @@ module _ (m : Model) (w : WellFormed m) (d : Dispatched) (s : State) (v : Variab
   broken-after b = rw (model-broken m s e b, table-broken (rulesOf m) v e b) (record { answer = refl; states = refused-states e BrokenEvent refl h })
 
   module _ (b : isBroken e ≡ false) where
-    pub activate-after : e .kind ≡ 1 → Agreed
+    pub activate-after : e .kind ≡ activateKind → Agreed
     unfolding activateRules firstUpdates
     activate-after k =
-        rw (model-activate m s e k, table-fires (rulesOf m) v e 1 k b refl, activate-rules m d s (v .value) w h (e .id))
-        (by-rule (m .timing) d s _ v e h (ltb (e .id) (m .timing .threads) && canActivate s (e .id)) _ 1 (rw k) (λ c. other-does e None (λ z. omega arith) (activate-does (m .timing) (w .timing) d s (v .value) h (e .amount) (e .id) (within (e .id) (m .timing .threads) _ c))))
+        rw (model-activate m s e k, table-fires (rulesOf m) v e activateKind k b refl, activate-rules m d s (v .value) w h (e .id))
+        (by-rule (m .timing) d s _ v e h (ltb (e .id) (m .timing .threads) && canActivate s (e .id)) _ activateKind (rw k) (λ c. other-does e None (λ z. omega arith) (activate-does (m .timing) (w .timing) d s (v .value) h (e .amount) (e .id) (within (e .id) (m .timing .threads) _ c))))
 
-    pub deactivate-after : e .kind ≡ 2 → Agreed
+    pub deactivate-after : e .kind ≡ deactivateKind → Agreed
     unfolding deactivateRules firstUpdates
     deactivate-after k =
-        rw (model-deactivate m s e k, table-fires (rulesOf m) v e 2 k b refl, deactivate-rules m d s (v .value) w h (e .id))
-        (by-rule (m .timing) d s _ v e h (ltb (e .id) (m .timing .threads) && canDeactivate s (e .id)) _ 2 (rw k) (λ c. other-does e None (λ z. omega arith) (deactivate-does (m .timing) (w .timing) d s (v .value) h (e .amount) (e .id) (within (e .id) (m .timing .threads) _ c))))
+        rw (model-deactivate m s e k, table-fires (rulesOf m) v e deactivateKind k b refl, deactivate-rules m d s (v .value) w h (e .id))
+        (by-rule (m .timing) d s _ v e h (ltb (e .id) (m .timing .threads) && canDeactivate s (e .id)) _ deactivateKind (rw k) (λ c. other-does e None (λ z. omega arith) (deactivate-does (m .timing) (w .timing) d s (v .value) h (e .amount) (e .id) (within (e .id) (m .timing .threads) _ c))))
 
-    pub deadline-after : e .kind ≡ 6 → Agreed
+    pub deadline-after : e .kind ≡ deadlineKind → Agreed
     deadline-after k =
-        rw (model-deadline m s e k, table-fires (rulesOf m) v e 6 k b refl, deadline-rules m d s (v .value) w h (e .id))
-        (by-rule (m .timing) d s _ v e h (ltb (e .id) (m .timing .threads) && canMeetDeadline (m .timing) s (e .id)) _ 6 (rw k) (λ c. other-does e None (λ z. omega arith) (deadline-does (m .timing) (w .timing) d s (v .value) h (e .amount) (e .id) (within (e .id) (m .timing .threads) _ c) (bit (isActive s (e .id))))))
+        rw (model-deadline m s e k, table-fires (rulesOf m) v e deadlineKind k b refl, deadline-rules m d s (v .value) w h (e .id))
+        (by-rule (m .timing) d s _ v e h (ltb (e .id) (m .timing .threads) && canMeetDeadline (m .timing) s (e .id)) _ deadlineKind (rw k) (λ c. other-does e None (λ z. omega arith) (deadline-does (m .timing) (w .timing) d s (v .value) h (e .amount) (e .id) (within (e .id) (m .timing .threads) _ c) (bit (isActive s (e .id))))))
 
-    pub enter-after : e .kind ≡ 9 → Agreed
+    pub enter-after : e .kind ≡ enterKind → Agreed
     unfolding enterRules firstUpdates
     enter-after k =
-        rw (model-enter m s e k, table-fires (rulesOf m) v e 9 k b refl, enter-rules m d s (v .value) w h (e .id))
-        (by-rule (m .timing) d s _ v e h (ltb (e .id) (m .timing .switches) && canEnter (m .timing) s (e .id)) _ 9 (rw k) (λ c. other-does e None (λ z. omega arith) (enter-does (m .timing) (w .timing) d s (v .value) h (e .amount) (e .id))))
+        rw (model-enter m s e k, table-fires (rulesOf m) v e enterKind k b refl, enter-rules m d s (v .value) w h (e .id))
+        (by-rule (m .timing) d s _ v e h (ltb (e .id) (m .timing .switches) && canEnter (m .timing) s (e .id)) _ enterKind (rw k) (λ c. other-does e None (λ z. omega arith) (enter-does (m .timing) (w .timing) d s (v .value) h (e .amount) (e .id))))
 
-    pub leave-after : e .kind ≡ 10 → Agreed
+    pub leave-after : e .kind ≡ leaveKind → Agreed
     unfolding leaveRules firstUpdates
     leave-after k =
-        rw (model-leave m s e k, table-fires (rulesOf m) v e 10 k b refl, leave-rules m d s (v .value) w h (e .id))
-        (by-rule (m .timing) d s _ v e h (ltb (e .id) (m .timing .switches) && canLeave (m .timing) s (e .id)) _ 10 (rw k) (λ c. other-does e None (λ z. omega arith) (leave-does (m .timing) (w .timing) d s (v .value) h (e .amount) (e .id))))
+        rw (model-leave m s e k, table-fires (rulesOf m) v e leaveKind k b refl, leave-rules m d s (v .value) w h (e .id))
+        (by-rule (m .timing) d s _ v e h (ltb (e .id) (m .timing .switches) && canLeave (m .timing) s (e .id)) _ leaveKind (rw k) (λ c. other-does e None (λ z. omega arith) (leave-does (m .timing) (w .timing) d s (v .value) h (e .amount) (e .id))))
 
-    pub miss-after : e .kind ≡ 7 → Agreed
+    pub miss-after : e .kind ≡ missKind → Agreed
     miss-after k =
-        rw (model-miss m s e k, table-fires (rulesOf m) v e 7 k b refl, miss-rules m d s (v .value) w h (e .id))
-        (by-rule (m .timing) d s _ v e h (ltb (e .id) (m .timing .threads) && canMiss (m .timing) s (e .id)) _ 7 (rw k)
+        rw (model-miss m s e k, table-fires (rulesOf m) v e missKind k b refl, miss-rules m d s (v .value) w h (e .id))
+        (by-rule (m .timing) d s _ v e h (ltb (e .id) (m .timing .threads) && canMiss (m .timing) s (e .id)) _ missKind (rw k)
         (λ c. other-does e None (λ z. omega arith) (miss-does (m .timing) (w .timing) d s (v .value) h (e .amount) (e .id) (within (e .id) (m .timing .threads) _ c) (both (ltb (e .id) (m .timing .threads)) (canMiss (m .timing) s (e .id)) c .1))))
 
-    pub request-after : e .kind ≡ 8 → Agreed
+    pub request-after : e .kind ≡ requestKind → Agreed
     request-after k =
-        rw (model-request m s e k, table-fires (rulesOf m) v e 8 k b refl, request-rules m d s (v .value) w h (e .id))
-        (by-rule (m .timing) d s _ v e h (ltb (e .id) (m .timing .switches)) _ 8 (rw k) (λ c. other-does e None (λ z. omega arith) (request-does (m .timing) (w .timing) d s (v .value) h (e .amount) (e .id))))
+        rw (model-request m s e k, table-fires (rulesOf m) v e requestKind k b refl, request-rules m d s (v .value) w h (e .id))
+        (by-rule (m .timing) d s _ v e h (ltb (e .id) (m .timing .switches)) _ requestKind (rw k) (λ c. other-does e None (λ z. omega arith) (request-does (m .timing) (w .timing) d s (v .value) h (e .amount) (e .id))))
 
-    pub dispatch-after : e .kind ≡ 3 → Agreed
+    pub dispatch-after : e .kind ≡ dispatchKind → Agreed
     unfolding dispatchRules firstUpdates
     dispatch-after k =
-        rw (model-dispatch m s e k, table-fires (rulesOf m) v e 3 k b refl, dispatch-rules m d s (v .value) w h (e .id))
-        (by-rule (m .timing) d s _ v e h (ltb (e .id) (m .timing .threads) && canDispatch (m .timing) s (e .id)) _ 3 (rw k)
+        rw (model-dispatch m s e k, table-fires (rulesOf m) v e dispatchKind k b refl, dispatch-rules m d s (v .value) w h (e .id))
+        (by-rule (m .timing) d s _ v e h (ltb (e .id) (m .timing .threads) && canDispatch (m .timing) s (e .id)) _ dispatchKind (rw k)
         (λ c. rw (fun-ext (after-dispatch d e k)) (dispatch-does (m .timing) (w .timing) d s (v .value) h (e .amount) (e .id) (within (e .id) (m .timing .threads) _ c))))
 
-    pub start-after : e .kind ≡ 4 → Agreed
+    pub start-after : e .kind ≡ startKind → Agreed
     unfolding startRules firstUpdates
     start-after k =
         let x = m .timing in
@@ -112,12 +112,12 @@ module _ (m : Model) (w : WellFormed m) (d : Dispatched) (s : State) (v : Variab
         let n = e .amount in
         let c = ltb t (x .threads) && mayStart x s t in
         let test : canStart x s t n ≡ (c && (leb (threadAt x t .bcet .0) n && leb n (threadAt x t .wcet .0))) = start-test x s t n ∙ sym (and-assoc (ltb t (x .threads)) (mayStart x s t) _) in
-        rw (model-start m s e k, table-fires (rulesOf m) v e 4 k b refl, start-rules m d s (v .value) w h t, test)
-        (by-start x d s _ v e h c _ 4 k
+        rw (model-start m s e k, table-fires (rulesOf m) v e startKind k b refl, start-rules m d s (v .value) w h t, test)
+        (by-start x d s _ v e h c _ startKind k
         (λ y z. other-does e None (λ z. omega arith) (start-does x (w .timing) d s (v .value) h n t (within t (x .threads) _ y) (test ∙ rw (y, z)))))
 
-    pub complete-after : e .kind ≡ 5 → Agreed
+    pub complete-after : e .kind ≡ completeKind → Agreed
     complete-after k =
-        rw (model-complete m s e k, table-fires (rulesOf m) v e 5 k b refl, complete-rules m d s (v .value) w h (e .id))
-        (by-rule (m .timing) d s _ v e h (ltb (e .id) (m .timing .threads) && canComplete s (e .id)) (completeRule m s (e .id)) 5 (rw k)
+        rw (model-complete m s e k, table-fires (rulesOf m) v e completeKind k b refl, complete-rules m d s (v .value) w h (e .id))
+        (by-rule (m .timing) d s _ v e h (ltb (e .id) (m .timing .threads) && canComplete s (e .id)) (completeRule m s (e .id)) completeKind (rw k)
         (λ c. other-does e None (λ z. omega arith) (complete-does m w d s (v .value) h (e .amount) (e .id) (within (e .id) (m .timing .threads) _ c) (both (ltb (e .id) (m .timing .threads)) (canComplete s (e .id)) c .1))))

@@ -15,7 +15,7 @@ use Rattle.numbers.specs.Values.{natural, combine}
 use Rattle.model_format.specs.declared.Assignment.{Assignment}
 use Rattle.model_format.specs.declared.Timing.{Timing}
 use Rattle.model_format.specs.declared.Behavior.{Behavior}
-use Rattle.model_format.specs.Model.{maxOutputs, assignmentAt, maxLocals}
+use Rattle.model_format.specs.Model.{maxOutputs, assignmentAt, maxLocals, localTag, outputTag}
 use Rattle.model_format.specs.Reading.{namesItem}
 use Rattle.model_format.specs.WellFormed.{GoodTiming, GoodAssignment}
 use Rattle.model_semantics.specs.declared.State.{State}
@@ -35,63 +35,63 @@ use Rattle.simulation.specs.Effects.{ValuesShown}
 
 -- ---- a target is a local or an output port
 pub record Target (m : Timing) (tag number : ℕ) : Type 0 where
-  pub else : (tag ≡ 3 → ⊥) → tag ≡ 2
-  pub local : tag ≡ 2 → number < m .locals
-  pub output : tag ≡ 3 → number < m .outputs
+  pub else : (tag ≡ outputTag → ⊥) → tag ≡ localTag
+  pub local : tag ≡ localTag → number < m .locals
+  pub output : tag ≡ outputTag → number < m .outputs
 
 good-target : (m : Timing) (a : Assignment) → GoodAssignment m a → Target m (a .tag) (a .number)
 unfolding namesItem
 good-target m a g = record {
-  else = λ n. go (ℕ-discrete (a .tag) 2) n;
+  else = λ n. go (ℕ-discrete (a .tag) localTag) n;
   local = λ e. ltb-true (a .number) (m .locals) (rw e at (g .names));
   output = λ e. ltb-true (a .number) (m .outputs) (rw e at (g .names));
 }
   where
-    go : Dec (a .tag ≡ 2) → (a .tag ≡ 3 → ⊥) → a .tag ≡ 2
+    go : Dec (a .tag ≡ localTag) → (a .tag ≡ outputTag → ⊥) → a .tag ≡ localTag
     go (yes e) n = e
     go (no k) n =
-        let z : false ≡ true = rw (ne-eqb (a .tag) 2 k, ne-eqb (a .tag) 3 n) at (g .tag) in
+        let z : false ≡ true = rw (ne-eqb (a .tag) localTag k, ne-eqb (a .tag) outputTag n) at (g .tag) in
         absurd (mathlib.Core.Bool.false≢true z)
 
 module _ (m : Timing) (g : GoodTiming m) (tag number : ℕ) (t : Target m tag number) where
   target-range : (outputVar 0 ≤ variableOf tag number) × (variableOf tag number < localVar localRoom)
   unfolding variableOf
-  target-range = go (ℕ-discrete tag 3)
+  target-range = go (ℕ-discrete tag outputTag)
     where
-      go : Dec (tag ≡ 3) → (outputVar 0 ≤ variableOf tag number) × (variableOf tag number < localVar localRoom)
+      go : Dec (tag ≡ outputTag) → (outputVar 0 ≤ variableOf tag number) × (variableOf tag number < localVar localRoom)
       go (yes e) = let a : number < m .outputs = t .output e in let b : m .outputs ≤ maxOutputs = g .outputs in rw e (omega arith, omega arith)
       go (no n) =
-          let e : tag ≡ 2 = t .else n in
+          let e : tag ≡ localTag = t .else n in
           let a : number < m .locals = t .local e in
           let b : m .locals ≤ maxLocals = g .locals in
           rw e (omega arith, omega arith)
 
   -- the target among the outputs, and among the locals
-  pub output-target : (i : ℕ) → i < maxOutputs → eqb (outputVar i) (variableOf tag number) ≡ (eqb tag 3 && eqb i number)
+  pub output-target : (i : ℕ) → i < maxOutputs → eqb (outputVar i) (variableOf tag number) ≡ (eqb tag outputTag && eqb i number)
   unfolding variableOf
-  output-target i l = go (ℕ-discrete tag 3)
+  output-target i l = go (ℕ-discrete tag outputTag)
     where
-      go : Dec (tag ≡ 3) → eqb (outputVar i) (variableOf tag number) ≡ (eqb tag 3 && eqb i number)
+      go : Dec (tag ≡ outputTag) → eqb (outputVar i) (variableOf tag number) ≡ (eqb tag outputTag && eqb i number)
       go (yes e) = rw e (shifted (outputVar 0) i number)
-      go (no n) = let e : tag ≡ 2 = t .else n in rw e (ne-eqb (outputVar i) (localVar number) (λ q. omega arith))
+      go (no n) = let e : tag ≡ localTag = t .else n in rw e (ne-eqb (outputVar i) (localVar number) (λ q. omega arith))
 
-  pub local-target : (i : ℕ) → i < maxLocals → eqb (localVar i) (variableOf tag number) ≡ (not (eqb tag 3) && eqb i number)
+  pub local-target : (i : ℕ) → i < maxLocals → eqb (localVar i) (variableOf tag number) ≡ (not (eqb tag outputTag) && eqb i number)
   unfolding variableOf
-  local-target i l = go (ℕ-discrete tag 3)
+  local-target i l = go (ℕ-discrete tag outputTag)
     where
-      go : Dec (tag ≡ 3) → eqb (localVar i) (variableOf tag number) ≡ (not (eqb tag 3) && eqb i number)
+      go : Dec (tag ≡ outputTag) → eqb (localVar i) (variableOf tag number) ≡ (not (eqb tag outputTag) && eqb i number)
       go (yes e) = let a : number < m .outputs = t .output e in let b : m .outputs ≤ maxOutputs = g .outputs in rw e (ne-eqb (localVar i) (outputVar number) (λ q. omega arith))
-      go (no n) = let e : tag ≡ 2 = t .else n in rw e (shifted (localVar 0) i number)
+      go (no n) = let e : tag ≡ localTag = t .else n in rw e (shifted (localVar 0) i number)
 
 -- equal variables, equal tags and numbers
 same-target : (m : Timing) → GoodTiming m → (a x c z : ℕ) → Target m a x → Target m c z → variableOf a x ≡ variableOf c z → (a ≡ c) × (x ≡ z)
 unfolding variableOf
-same-target m g a x c z p q e = go (ℕ-discrete a 3) (ℕ-discrete c 3)
+same-target m g a x c z p q e = go (ℕ-discrete a outputTag) (ℕ-discrete c outputTag)
   where
     few : m .outputs ≤ maxOutputs
     few = g .outputs
 
-    go : Dec (a ≡ 3) → Dec (c ≡ 3) → (a ≡ c) × (x ≡ z)
+    go : Dec (a ≡ outputTag) → Dec (c ≡ outputTag) → (a ≡ c) × (x ≡ z)
     go (yes i) (yes j) = let r : outputVar x ≡ outputVar z = rw (i, j) at e in (omega arith, omega arith)
     go (yes i) (no j) =
         let o : x < m .outputs = p .output i in
@@ -102,8 +102,8 @@ same-target m g a x c z p q e = go (ℕ-discrete a 3) (ℕ-discrete c 3)
         let r : localVar x ≡ outputVar z = rw (p .else i, j) at e in
         absurd (omega arith)
     go (no i) (no j) =
-        let u : a ≡ 2 = p .else i in
-        let w : c ≡ 2 = q .else j in
+        let u : a ≡ localTag = p .else i in
+        let w : c ≡ localTag = q .else j in
         let r : localVar x ≡ localVar z = rw (u, w) at e in
         (omega arith, omega arith)
 
@@ -152,8 +152,8 @@ module _ (m : Timing) (g : GoodTiming m) (b : Behavior) (k count : ℕ)
         ValuesShown (outputVar 0) maxOutputs (m .outputs) (assign b (s .ports) k count .output) w
     unfolding assign assignmentUpdates
     outputs-shown w c e =
-        column-filled n v w count assignOne _ (λ j. eqb (assignmentAt b k j .tag) 3) (λ j. assignmentAt b k j .number) (λ j. assignedValue (s .ports) (assignmentAt b k j))
-        (λ j l x. refl) (λ j l q. target-at j l .output (eqb-true (assignmentAt b k j .tag) 3 q))
+        column-filled n v w count assignOne _ (λ j. eqb (assignmentAt b k j .tag) outputTag) (λ j. assignmentAt b k j .number) (λ j. assignedValue (s .ports) (assignmentAt b k j))
+        (λ j l x. refl) (λ j l q. target-at j l .output (eqb-true (assignmentAt b k j .tag) outputTag q))
         (λ j l i p x. one-assigned j l (outputVar i) x _ (output-target m g (assignmentAt b k j .tag) (assignmentAt b k j .number) (target-at j l) i p)) c e
 
     pub locals-shown : (w : List Value) → ValuesShown (localVar 0) maxLocals (m .locals) (s .ports .local) v →
@@ -161,9 +161,9 @@ module _ (m : Timing) (g : GoodTiming m) (b : Behavior) (k count : ℕ)
         ValuesShown (localVar 0) maxLocals (m .locals) (assign b (s .ports) k count .local) w
     unfolding assign assignmentUpdates
     locals-shown w c e =
-        column-filled n v w count assignOne _ (λ j. not (eqb (assignmentAt b k j .tag) 3)) (λ j. assignmentAt b k j .number) (λ j. assignedValue (s .ports) (assignmentAt b k j))
-        (λ j l x. turned (eqb (assignmentAt b k j .tag) 3) x _)
-        (λ j l q. target-at j l .local (target-at j l .else (eqb-false (assignmentAt b k j .tag) 3 (not-true _ q))))
+        column-filled n v w count assignOne _ (λ j. not (eqb (assignmentAt b k j .tag) outputTag)) (λ j. assignmentAt b k j .number) (λ j. assignedValue (s .ports) (assignmentAt b k j))
+        (λ j l x. turned (eqb (assignmentAt b k j .tag) outputTag) x _)
+        (λ j l q. target-at j l .local (target-at j l .else (eqb-false (assignmentAt b k j .tag) outputTag (not-true _ q))))
         (λ j l i p x. one-assigned j l (localVar i) x _ (local-target m g (assignmentAt b k j .tag) (assignmentAt b k j .number) (target-at j l) i p)) c e
       where
         turned : (z : Bool) (x y : List Value) → cond z x y ≡ cond (not z) y x
@@ -173,10 +173,10 @@ module _ (m : Timing) (g : GoodTiming m) (b : Behavior) (k count : ℕ)
     -- ---- "from the assigned expression or the old port": what is sent is the new output
     module _ (o : ℕ) (few : o < maxOutputs) where
       abbrev sendNext : ℕ → Expression → Expression
-      sendNext j x = cond (eqb (assignmentAt b k j .tag) 3 && eqb (assignmentAt b k j .number) o) (assignedExpression (assignmentAt b k j)) x
+      sendNext j x = cond (eqb (assignmentAt b k j .tag) outputTag && eqb (assignmentAt b k j .number) o) (assignedExpression (assignmentAt b k j)) x
 
       abbrev storeNext : ℕ → List Value → List Value
-      storeNext j l = cond (eqb (assignmentAt b k j .tag) 3) (store maxOutputs l (assignmentAt b k j .number) (assignedValue (s .ports) (assignmentAt b k j))) l
+      storeNext j l = cond (eqb (assignmentAt b k j .tag) outputTag) (store maxOutputs l (assignmentAt b k j .number) (assignedValue (s .ports) (assignmentAt b k j))) l
 
       abbrev Sent : Expression → List Value → Type 0
       Sent x l = (length l ≡ maxOutputs) × (worth n v x ≡ item maxOutputs l o (natural 0))
@@ -191,7 +191,7 @@ module _ (m : Timing) (g : GoodTiming m) (b : Behavior) (k count : ℕ)
           go false = r .1
 
       sent-next : (j : ℕ) → j < count → (x : Expression) (l : List Value) → Sent x l → Sent (sendNext j x) (storeNext j l)
-      sent-next j p x l r = rw (eqb-swap (assignmentAt b k j .number) o) (go (eqb (assignmentAt b k j .tag) 3))
+      sent-next j p x l r = rw (eqb-swap (assignmentAt b k j .number) o) (go (eqb (assignmentAt b k j .tag) outputTag))
         where
           go : (z : Bool) → Sent (cond (z && eqb o (assignmentAt b k j .number)) (assignedExpression (assignmentAt b k j)) x)
               (cond z (store maxOutputs l (assignmentAt b k j .number) (assignedValue (s .ports) (assignmentAt b k j))) l)

@@ -9,7 +9,7 @@ use lib.Dec.{eqb, ltb}
 use borrow.Author.Tests.{eq-eqb, ne-eqb, lt-ltb, le-ltb}
 use Rattle.numbers.specs.declared.Value.{Value}
 use Rattle.numbers.specs.Lists.{anyBelow, joinBelow}
-use Rattle.records.specs.Events.{requestKind}
+use Rattle.records.specs.Events.{activateKind, deactivateKind, dispatchKind, startKind, completeKind, deadlineKind, missKind, requestKind, enterKind, leaveKind}
 use Rattle.table_format.specs.RuleKinds.{isOneOf}
 use Rattle.table_format.specs.Table.{Rule}
 use Rattle.table_format.specs.All.{All}
@@ -125,43 +125,43 @@ enabled-rules v k i (g ∷ gs) =
 
 -- ---- a model's groups: at each kind the one group
 module _ (m : Model) (i : ℕ) where
-  pub bodies-activate : bodiesFor 1 i (groupsOf m) ≡ cond (ltb i (m .timing .threads)) (activateRules (m .timing) i) []
+  pub bodies-activate : bodiesFor activateKind i (groupsOf m) ≡ cond (ltb i (m .timing .threads)) (activateRules (m .timing) i) []
   unfolding bodiesFor groupsFor itemsOf timingRules rulesFor isOneOf
   bodies-activate = append-nil _
 
-  pub bodies-deactivate : bodiesFor 2 i (groupsOf m) ≡ cond (ltb i (m .timing .threads)) (deactivateRules (m .timing) i) []
+  pub bodies-deactivate : bodiesFor deactivateKind i (groupsOf m) ≡ cond (ltb i (m .timing .threads)) (deactivateRules (m .timing) i) []
   unfolding bodiesFor groupsFor itemsOf timingRules rulesFor isOneOf
   bodies-deactivate = append-nil _
 
-  pub bodies-dispatch : bodiesFor 3 i (groupsOf m) ≡ cond (ltb i (m .timing .threads)) (dispatchRules (m .timing) i) []
+  pub bodies-dispatch : bodiesFor dispatchKind i (groupsOf m) ≡ cond (ltb i (m .timing .threads)) (dispatchRules (m .timing) i) []
   unfolding bodiesFor groupsFor itemsOf timingRules rulesFor isOneOf
   bodies-dispatch = append-nil _
 
-  pub bodies-start : bodiesFor 4 i (groupsOf m) ≡ cond (ltb i (m .timing .threads)) (startRules (m .timing) i) []
+  pub bodies-start : bodiesFor startKind i (groupsOf m) ≡ cond (ltb i (m .timing .threads)) (startRules (m .timing) i) []
   unfolding bodiesFor groupsFor itemsOf timingRules rulesFor isOneOf
   bodies-start = append-nil _
 
-  pub bodies-complete : bodiesFor 5 i (groupsOf m) ≡ cond (ltb i (m .timing .threads)) (completeRules m i) []
+  pub bodies-complete : bodiesFor completeKind i (groupsOf m) ≡ cond (ltb i (m .timing .threads)) (completeRules m i) []
   unfolding bodiesFor groupsFor itemsOf timingRules rulesFor isOneOf
   bodies-complete = append-nil _
 
-  pub bodies-deadline : bodiesFor 6 i (groupsOf m) ≡ cond (ltb i (m .timing .threads)) (deadlineRules (m .timing) i) []
+  pub bodies-deadline : bodiesFor deadlineKind i (groupsOf m) ≡ cond (ltb i (m .timing .threads)) (deadlineRules (m .timing) i) []
   unfolding bodiesFor groupsFor itemsOf timingRules rulesFor isOneOf
   bodies-deadline = append-nil _
 
-  pub bodies-miss : bodiesFor 7 i (groupsOf m) ≡ cond (ltb i (m .timing .threads)) (missRules (m .timing) i) []
+  pub bodies-miss : bodiesFor missKind i (groupsOf m) ≡ cond (ltb i (m .timing .threads)) (missRules (m .timing) i) []
   unfolding bodiesFor groupsFor itemsOf timingRules rulesFor isOneOf
   bodies-miss = append-nil _
 
-  pub bodies-request : bodiesFor 8 i (groupsOf m) ≡ cond (ltb i (m .timing .switches)) (requestRules (m .timing) i) []
+  pub bodies-request : bodiesFor requestKind i (groupsOf m) ≡ cond (ltb i (m .timing .switches)) (requestRules (m .timing) i) []
   unfolding bodiesFor groupsFor itemsOf timingRules rulesFor isOneOf
   bodies-request = append-nil _
 
-  pub bodies-enter : bodiesFor 9 i (groupsOf m) ≡ cond (ltb i (m .timing .switches)) (enterRules (m .timing) i) []
+  pub bodies-enter : bodiesFor enterKind i (groupsOf m) ≡ cond (ltb i (m .timing .switches)) (enterRules (m .timing) i) []
   unfolding bodiesFor groupsFor itemsOf timingRules rulesFor isOneOf
   bodies-enter = append-nil _
 
-  pub bodies-leave : bodiesFor 10 i (groupsOf m) ≡ cond (ltb i (m .timing .switches)) (leaveRules (m .timing) i) []
+  pub bodies-leave : bodiesFor leaveKind i (groupsOf m) ≡ cond (ltb i (m .timing .switches)) (leaveRules (m .timing) i) []
   unfolding bodiesFor groupsFor itemsOf timingRules rulesFor isOneOf
   bodies-leave = append-nil _
 

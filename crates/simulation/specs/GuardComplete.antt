@@ -15,7 +15,7 @@ use Rattle.model_format.specs.declared.Atom.{Atom}
 use Rattle.model_format.specs.declared.Timing.{Timing}
 use Rattle.model_format.specs.declared.Behavior.{Behavior}
 use Rattle.model_format.specs.declared.Model.{Model}
-use Rattle.model_format.specs.Model.{maxThreads, maxInputs, maxLocals, transitionAt, atomAt}
+use Rattle.model_format.specs.Model.{maxThreads, maxInputs, maxLocals, transitionAt, atomAt, inputTag, localTag}
 use Rattle.model_format.specs.Reading.{namesItem}
 use Rattle.model_format.specs.WellFormed.{GoodTiming, GoodOperand, GoodAtom, WellFormed}
 use Rattle.model_semantics.specs.declared.State.{State}
@@ -46,18 +46,18 @@ negated-op (suc (suc (suc (suc (suc (suc op)))))) x y b = absurd (omega arith)
 -- ---- values of ports and locals
 module _ (m : Timing) (d : Dispatched) (s : State) (v : List Value) (g : GoodTiming m) (h : Match m d s v) where
   -- an input port or a local
-  pub place-same : (tag n : ℕ) → ((tag ≡ 1 → ⊥) → tag ≡ 2) → namesItem m tag n ≡ true →
-      valueOf v (variableOf tag n) ≡ cond (eqb tag 1) (inputValue (s .ports) n) (localValue (s .ports) n)
+  pub place-same : (tag n : ℕ) → ((tag ≡ inputTag → ⊥) → tag ≡ localTag) → namesItem m tag n ≡ true →
+      valueOf v (variableOf tag n) ≡ cond (eqb tag inputTag) (inputValue (s .ports) n) (localValue (s .ports) n)
   unfolding variableOf namesItem
-  place-same tag n q e = go (ℕ-discrete tag 1)
+  place-same tag n q e = go (ℕ-discrete tag inputTag)
     where
-      go : Dec (tag ≡ 1) → valueOf v (variableOf tag n) ≡ cond (eqb tag 1) (inputValue (s .ports) n) (localValue (s .ports) n)
+      go : Dec (tag ≡ inputTag) → valueOf v (variableOf tag n) ≡ cond (eqb tag inputTag) (inputValue (s .ports) n) (localValue (s .ports) n)
       go (yes a) =
           let l : n < m .inputs = ltb-true n (m .inputs) (rw a at e) in
           let k : m .inputs ≤ maxInputs = g .inputs in
           rw a (h .input n (omega arith))
       go (no a) =
-          let b : tag ≡ 2 = q a in
+          let b : tag ≡ localTag = q a in
           let l : n < m .locals = ltb-true n (m .locals) (rw b at e) in
           let k : m .locals ≤ maxLocals = g .locals in
           rw b (h .local n (omega arith))
@@ -75,11 +75,11 @@ module _ (m : Timing) (d : Dispatched) (s : State) (v : List Value) (g : GoodTim
 
   left-same : (a : Atom) → GoodAtom m a → valueOf v (variableOf (a .tag) (a .number)) ≡ leftValue (s .ports) a
   unfolding leftValue
-  left-same a w = place-same (a .tag) (a .number) (λ b. second (eqb (a .tag) 1) (eqb (a .tag) 2) refl refl (w .tag) b) (w .names)
+  left-same a w = place-same (a .tag) (a .number) (λ b. second (eqb (a .tag) inputTag) (eqb (a .tag) localTag) refl refl (w .tag) b) (w .names)
     where
-      second : (x y : Bool) → eqb (a .tag) 1 ≡ x → eqb (a .tag) 2 ≡ y → (x || y) ≡ true → (a .tag ≡ 1 → ⊥) → a .tag ≡ 2
-      second true y p q e n = absurd (n (eqb-true (a .tag) 1 p))
-      second false true p q e n = eqb-true (a .tag) 2 q
+      second : (x y : Bool) → eqb (a .tag) inputTag ≡ x → eqb (a .tag) localTag ≡ y → (x || y) ≡ true → (a .tag ≡ inputTag → ⊥) → a .tag ≡ localTag
+      second true y p q e n = absurd (n (eqb-true (a .tag) inputTag p))
+      second false true p q e n = eqb-true (a .tag) localTag q
       second false false p q e n = let z : _≡_ {A = ℕ} 0 1 = cc in absurd (omega arith)
 
   atom-same : (a : Atom) → GoodAtom m a → holds v (atomWith (λ op. op) a) ≡ atomHolds (s .ports) a

@@ -6,6 +6,7 @@ use Prim.Native.Nat.{ℕ, _<_}
 use lib.Dec.{ltb}
 use borrow.Author.Tests.{ltb-true}
 use Rattle.numbers.specs.declared.Value.{Value}
+use Rattle.records.specs.Events.{activateKind, deactivateKind, dispatchKind, startKind, completeKind, deadlineKind, missKind, requestKind, enterKind, leaveKind}
 use Rattle.model_format.specs.declared.Model.{Model}
 use Rattle.model_format.specs.WellFormed.{WellFormed}
 use Rattle.model_semantics.specs.declared.State.{State}
@@ -36,32 +37,32 @@ of-item m v k i n c l r e h = enabled-rules v k i (groupsOf m) ∙ rw e (go (ltb
     go false e = refl
 
 module _ (m : Model) (d : Dispatched) (s : State) (v : List Value) (w : WellFormed m) (h : Match (m .timing) d s v) (i : ℕ) where
-  pub activate-rules : enabledRules v 1 i (rulesOf m) ≡ stamped 1 i (cond (ltb i (m .timing .threads) && canActivate s i) (activateRules (m .timing) i) [])
-  activate-rules = of-item m v 1 i _ _ _ _ (bodies-activate m i) (activate-enabled (m .timing) d s v (w .timing) h i)
+  pub activate-rules : enabledRules v activateKind i (rulesOf m) ≡ stamped activateKind i (cond (ltb i (m .timing .threads) && canActivate s i) (activateRules (m .timing) i) [])
+  activate-rules = of-item m v activateKind i _ _ _ _ (bodies-activate m i) (activate-enabled (m .timing) d s v (w .timing) h i)
 
-  pub deactivate-rules : enabledRules v 2 i (rulesOf m) ≡ stamped 2 i (cond (ltb i (m .timing .threads) && canDeactivate s i) (deactivateRules (m .timing) i) [])
-  deactivate-rules = of-item m v 2 i _ _ _ _ (bodies-deactivate m i) (deactivate-enabled (m .timing) d s v (w .timing) h i)
+  pub deactivate-rules : enabledRules v deactivateKind i (rulesOf m) ≡ stamped deactivateKind i (cond (ltb i (m .timing .threads) && canDeactivate s i) (deactivateRules (m .timing) i) [])
+  deactivate-rules = of-item m v deactivateKind i _ _ _ _ (bodies-deactivate m i) (deactivate-enabled (m .timing) d s v (w .timing) h i)
 
-  pub dispatch-rules : enabledRules v 3 i (rulesOf m) ≡ stamped 3 i (cond (ltb i (m .timing .threads) && canDispatch (m .timing) s i) (dispatchRules (m .timing) i) [])
-  dispatch-rules = of-item m v 3 i _ _ _ _ (bodies-dispatch m i) (dispatch-enabled (m .timing) d s v (w .timing) h i)
+  pub dispatch-rules : enabledRules v dispatchKind i (rulesOf m) ≡ stamped dispatchKind i (cond (ltb i (m .timing .threads) && canDispatch (m .timing) s i) (dispatchRules (m .timing) i) [])
+  dispatch-rules = of-item m v dispatchKind i _ _ _ _ (bodies-dispatch m i) (dispatch-enabled (m .timing) d s v (w .timing) h i)
 
-  pub start-rules : enabledRules v 4 i (rulesOf m) ≡ stamped 4 i (cond (ltb i (m .timing .threads) && mayStart (m .timing) s i) (startRules (m .timing) i) [])
-  start-rules = of-item m v 4 i _ _ _ _ (bodies-start m i) (start-enabled (m .timing) d s v (w .timing) h i)
+  pub start-rules : enabledRules v startKind i (rulesOf m) ≡ stamped startKind i (cond (ltb i (m .timing .threads) && mayStart (m .timing) s i) (startRules (m .timing) i) [])
+  start-rules = of-item m v startKind i _ _ _ _ (bodies-start m i) (start-enabled (m .timing) d s v (w .timing) h i)
 
-  pub complete-rules : enabledRules v 5 i (rulesOf m) ≡ stamped 5 i (cond (ltb i (m .timing .threads) && canComplete s i) (completeRule m s i ∷ []) [])
-  complete-rules = of-item m v 5 i _ _ _ _ (bodies-complete m i) (complete-enabled m d s v w h i)
+  pub complete-rules : enabledRules v completeKind i (rulesOf m) ≡ stamped completeKind i (cond (ltb i (m .timing .threads) && canComplete s i) (completeRule m s i ∷ []) [])
+  complete-rules = of-item m v completeKind i _ _ _ _ (bodies-complete m i) (complete-enabled m d s v w h i)
 
-  pub deadline-rules : enabledRules v 6 i (rulesOf m) ≡ stamped 6 i (cond (ltb i (m .timing .threads) && canMeetDeadline (m .timing) s i) (deadlineRule (m .timing) i (bit (isActive s i)) (restCode s i) ∷ []) [])
-  deadline-rules = of-item m v 6 i _ _ _ _ (bodies-deadline m i) (deadline-enabled (m .timing) d s v (w .timing) h i)
+  pub deadline-rules : enabledRules v deadlineKind i (rulesOf m) ≡ stamped deadlineKind i (cond (ltb i (m .timing .threads) && canMeetDeadline (m .timing) s i) (deadlineRule (m .timing) i (bit (isActive s i)) (restCode s i) ∷ []) [])
+  deadline-rules = of-item m v deadlineKind i _ _ _ _ (bodies-deadline m i) (deadline-enabled (m .timing) d s v (w .timing) h i)
 
-  pub miss-rules : enabledRules v 7 i (rulesOf m) ≡ stamped 7 i (cond (ltb i (m .timing .threads) && canMiss (m .timing) s i) (missRule (m .timing) s i ∷ []) [])
-  miss-rules = of-item m v 7 i _ _ _ _ (bodies-miss m i) (miss-enabled (m .timing) d s v (w .timing) h i)
+  pub miss-rules : enabledRules v missKind i (rulesOf m) ≡ stamped missKind i (cond (ltb i (m .timing .threads) && canMiss (m .timing) s i) (missRule (m .timing) s i ∷ []) [])
+  miss-rules = of-item m v missKind i _ _ _ _ (bodies-miss m i) (miss-enabled (m .timing) d s v (w .timing) h i)
 
-  pub request-rules : enabledRules v 8 i (rulesOf m) ≡ stamped 8 i (cond (ltb i (m .timing .switches)) (requestRule (m .timing) s i ∷ []) [])
-  request-rules = of-item m v 8 i _ true _ _ (bodies-request m i) (λ l. request-enabled (m .timing) d s v (w .timing) h i) ∙ rw and-true
+  pub request-rules : enabledRules v requestKind i (rulesOf m) ≡ stamped requestKind i (cond (ltb i (m .timing .switches)) (requestRule (m .timing) s i ∷ []) [])
+  request-rules = of-item m v requestKind i _ true _ _ (bodies-request m i) (λ l. request-enabled (m .timing) d s v (w .timing) h i) ∙ rw and-true
 
-  pub enter-rules : enabledRules v 9 i (rulesOf m) ≡ stamped 9 i (cond (ltb i (m .timing .switches) && canEnter (m .timing) s i) (enterRules (m .timing) i) [])
-  enter-rules = of-item m v 9 i _ _ _ _ (bodies-enter m i) (λ l. enter-enabled (m .timing) d s v (w .timing) h i)
+  pub enter-rules : enabledRules v enterKind i (rulesOf m) ≡ stamped enterKind i (cond (ltb i (m .timing .switches) && canEnter (m .timing) s i) (enterRules (m .timing) i) [])
+  enter-rules = of-item m v enterKind i _ _ _ _ (bodies-enter m i) (λ l. enter-enabled (m .timing) d s v (w .timing) h i)
 
-  pub leave-rules : enabledRules v 10 i (rulesOf m) ≡ stamped 10 i (cond (ltb i (m .timing .switches) && canLeave (m .timing) s i) (leaveRules (m .timing) i) [])
-  leave-rules = of-item m v 10 i _ _ _ _ (bodies-leave m i) (λ l. leave-enabled (m .timing) d s v (w .timing) h i)
+  pub leave-rules : enabledRules v leaveKind i (rulesOf m) ≡ stamped leaveKind i (cond (ltb i (m .timing .switches) && canLeave (m .timing) s i) (leaveRules (m .timing) i) [])
+  leave-rules = of-item m v leaveKind i _ _ _ _ (bodies-leave m i) (λ l. leave-enabled (m .timing) d s v (w .timing) h i)

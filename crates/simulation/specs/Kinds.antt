@@ -6,7 +6,7 @@ use Prim.Native.Nat.{ℕ}
 use lib.Dec.{eqb}
 use Rattle.records.specs.declared.Event.{Event}
 use Rattle.records.specs.declared.Cause.the-variants.{BrokenEvent}
-use Rattle.records.specs.Events.{isBroken}
+use Rattle.records.specs.Events.{tickKind, isBroken}
 use Rattle.table_format.specs.Table.{Rule}
 use Rattle.table_semantics.specs.declared.Variables.{Variables}
 use Rattle.table_semantics.specs.Rules.{enabledRules}
@@ -17,10 +17,10 @@ module _ (rules : List Rule) (v : Variables) (e : Event) where
   unfolding table-machine.step
   table-broken b = rw b
 
-  pub table-fires : (k : ℕ) → e .kind ≡ k → isBroken e ≡ false → eqb k 11 ≡ false → table-machine.step rules v e ≡ table-machine.fire v e (enabledRules (v .value) k (e .id) rules)
+  pub table-fires : (k : ℕ) → e .kind ≡ k → isBroken e ≡ false → eqb k tickKind ≡ false → table-machine.step rules v e ≡ table-machine.fire v e (enabledRules (v .value) k (e .id) rules)
   unfolding table-machine.step
   table-fires k f b n = rw (b, f, n)
 
-  pub table-ticks : e .kind ≡ 11 → isBroken e ≡ false → table-machine.step rules v e ≡ table-machine.ticks rules v (e .amount) (v .value)
+  pub table-ticks : e .kind ≡ tickKind → isBroken e ≡ false → table-machine.step rules v e ≡ table-machine.ticks rules v (e .amount) (v .value)
   unfolding table-machine.step
   table-ticks k b = rw (b, k)

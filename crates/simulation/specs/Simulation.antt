@@ -11,7 +11,7 @@ use Rattle.records.specs.declared.Event.{Event}
 use Rattle.records.specs.declared.Notation.the-variants.{Script}
 use Rattle.records.specs.Format.{parts}
 use Rattle.records.specs.Refusals.{isNone, numberOf}
-use Rattle.records.specs.Events.{isBroken}
+use Rattle.records.specs.Events.{tickKind, isBroken}
 use Rattle.model_format.specs.declared.Model.{Model}
 use Rattle.model_format.specs.Reading.{readModel}
 use Rattle.model_format.specs.WellFormed.{Bytes, WellFormed}
@@ -36,13 +36,13 @@ use Rattle.simulation.specs.Quiet.{busy-same}
 use Rattle.simulation.specs.EffectTick.{tick-match}
 use Rattle.simulation.specs.StartState.{start-match}
 use Rattle.simulation.specs.Stands.{match-alike}
-use Rattle.reached.specs.Kinds.{OneOf, kind-1, kind-2, kind-3, kind-4, kind-5, kind-6, kind-7, kind-8, kind-9, kind-10, kind-11, one-of, model-tick}
+use Rattle.reached.specs.Kinds.{OneOf, is-activate, is-deactivate, is-dispatch, is-start, is-complete, is-deadline, is-miss, is-request, is-enter, is-leave, is-tick, one-of, model-tick}
 use Rattle.simulation.specs.Kinds.{table-ticks}
 use Rattle.simulation.specs.Step.{After, other-states}
 use Rattle.simulation.specs.Agree.{broken-after, activate-after, deactivate-after, dispatch-after, start-after, complete-after, deadline-after, miss-after, request-after, enter-after, leave-after}
 
 module _ (m : Model) (w : WellFormed m) where
-  tick-after : (d : Dispatched) (s : State) (v : Variables) (h : Match (m .timing) d s (v .value)) (e : Event) → isBroken e ≡ false → e .kind ≡ 11 →
+  tick-after : (d : Dispatched) (s : State) (v : Variables) (h : Match (m .timing) d s (v .value)) (e : Event) → isBroken e ≡ false → e .kind ≡ tickKind →
       After (m .timing) d e (model-machine.step m s e) (table-machine.step (rulesOf m) v e)
   tick-after d s v h e b k =
       let x = ticks-agree (m .timing) (rulesOf m) d (λ r u. busy-same m d r u w) (tick-match (m .timing) (w .timing) d) s v h (e .amount) s (v .value) h in
@@ -52,17 +52,17 @@ module _ (m : Model) (w : WellFormed m) where
   step-after d s v h e = go (isBroken e) refl
     where
       by-kind : isBroken e ≡ false → OneOf (e .kind) → After (m .timing) d e (model-machine.step m s e) (table-machine.step (rulesOf m) v e)
-      by-kind b (kind-1 k) = activate-after m w d s v h e b k
-      by-kind b (kind-2 k) = deactivate-after m w d s v h e b k
-      by-kind b (kind-3 k) = dispatch-after m w d s v h e b k
-      by-kind b (kind-4 k) = start-after m w d s v h e b k
-      by-kind b (kind-5 k) = complete-after m w d s v h e b k
-      by-kind b (kind-6 k) = deadline-after m w d s v h e b k
-      by-kind b (kind-7 k) = miss-after m w d s v h e b k
-      by-kind b (kind-8 k) = request-after m w d s v h e b k
-      by-kind b (kind-9 k) = enter-after m w d s v h e b k
-      by-kind b (kind-10 k) = leave-after m w d s v h e b k
-      by-kind b (kind-11 k) = tick-after d s v h e b k
+      by-kind b (is-activate k) = activate-after m w d s v h e b k
+      by-kind b (is-deactivate k) = deactivate-after m w d s v h e b k
+      by-kind b (is-dispatch k) = dispatch-after m w d s v h e b k
+      by-kind b (is-start k) = start-after m w d s v h e b k
+      by-kind b (is-complete k) = complete-after m w d s v h e b k
+      by-kind b (is-deadline k) = deadline-after m w d s v h e b k
+      by-kind b (is-miss k) = miss-after m w d s v h e b k
+      by-kind b (is-request k) = request-after m w d s v h e b k
+      by-kind b (is-enter k) = enter-after m w d s v h e b k
+      by-kind b (is-leave k) = leave-after m w d s v h e b k
+      by-kind b (is-tick k) = tick-after d s v h e b k
 
       go : (b : Bool) → isBroken e ≡ b → After (m .timing) d e (model-machine.step m s e) (table-machine.step (rulesOf m) v e)
       go true b = broken-after m w d s v h e b

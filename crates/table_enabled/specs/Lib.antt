@@ -1,6 +1,5 @@
 pub mod EnabledBy
-pub mod Order
-pub mod Inserted
 pub mod Walk
 pub mod Telling
-pub mod Laws
+pub mod ByIndex
+pub mod Taken

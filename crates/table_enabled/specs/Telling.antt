@@ -19,9 +19,9 @@ use Rattle.enabled.specs.declared.Enabled.{Enabled}
 use Rattle.enabled.specs.Enabled.{numbersOf, tableMayTick}
 use Rattle.enabled.specs.Told.{offerSize, nothingTold}
 use Rattle.enabled.specs.ToldLaws.{length-numbers, Tells, told-short, told-fits, from-short, from-all}
-use Rattle.table_enabled.specs.declared.Seen.{Seen}
+use Rattle.table_offers.specs.declared.Seen.{Seen}
+use Rattle.table_offers.specs.Adds.{Told}
 use Rattle.table_enabled.specs.EnabledBy.{offersIn, mayTickIn, enabledBy, listBy}
-use Rattle.table_enabled.specs.Walk.{Told}
 
 -- ---- the loop that copies the first n numbers of a list: i of them are copied
 abbrev pub copiedFrom : List ℕ → ℕ → List ℕ → ℕ → List ℕ

@@ -34,21 +34,12 @@ module _ {ℓ} {A : Type ℓ} (P : A → Type 0) where
   all-append [] r h k = k
   all-append (x ∷ l) r h k = (h .0, all-append l r (h .1) k)
 
-  -- and back
-  pub all-left : (l r : List A) → All P (l ++ r) → All P l
-  all-left [] r h = tt
-  all-left (x ∷ l) r h = (h .0, all-left l r (h .1))
-
-  pub all-right : (l r : List A) → All P (l ++ r) → All P r
-  all-right [] r h = h
-  all-right (x ∷ l) r h = all-right l r (h .1)
-
   pub all-join : (n : ℕ) (f : ℕ → List A) → ((i : ℕ) → i < n → All P (f i)) → All P (joinBelow n f)
   unfolding joinBelow
   all-join zero f h = tt
   all-join (suc n) f h = all-append (joinBelow n f) (f n) (all-join n f (λ i l. h i (omega arith))) (h n (omega arith))
 
-  pub all-cond : (b : Bool) (l r : List A) → (b ≡ true → All P l) → (b ≡ false → All P r) → All P (cond b l r)
+  all-cond : (b : Bool) (l r : List A) → (b ≡ true → All P l) → (b ≡ false → All P r) → All P (cond b l r)
   all-cond b l r h k = one-cond (All P) b l r h k
 
   -- the list, where the test passes
@@ -58,7 +49,7 @@ module _ {ℓ} {A : Type ℓ} (P : A → Type 0) where
   pub all-only : (b : Bool) (a : A) → (b ≡ true → P a) → All P (only b a)
   all-only b a h = all-when b (a ∷ []) (λ e. (h e, tt))
 
-  pub all-at : (l : List A) (i : ℕ) (d : A) → All P l → P d → P (getD l i d)
+  all-at : (l : List A) (i : ℕ) (d : A) → All P l → P d → P (getD l i d)
   all-at [] i d h k = k
   all-at (x ∷ l) zero d h k = h .0
   all-at (x ∷ l) (suc i) d h k = all-at l i d (h .1) k
@@ -68,7 +59,7 @@ module _ {ℓ} {A : Type ℓ} (P : A → Type 0) where
   all-replicate zero a h = tt
   all-replicate (suc n) a h = (h, all-replicate n a h)
 
-  pub all-set : (l : List A) (i : ℕ) (a : A) → All P l → P a → All P (set l i a)
+  all-set : (l : List A) (i : ℕ) (a : A) → All P l → P a → All P (set l i a)
   all-set [] i a h k = tt
   all-set (x ∷ l) zero a h k = (k, h .1)
   all-set (x ∷ l) (suc i) a h k = (h .0, all-set l i a (h .1) k)

@@ -3,8 +3,7 @@ use mathlib.Core.Path.{_≡_, refl, _∙_, ap}
 use mathlib.Core.List.{List, [], _∷_, _++_}
 use Prim.Native.Nat.{ℕ, _+_, _*_}
 use native.Mathlib.Omega.{arith}
-use lib.ListN.{length, length-append}
-use Rattle.numbers.specs.Lists.{joinBelow}
+use lib.ListN.{length}
 use Rattle.records.specs.declared.Notation.the-variants as notations
 use Rattle.records.specs.Format.{recordSize}
 use Rattle.table_format.specs.declared.InitialValue.{InitialValue}
@@ -12,12 +11,11 @@ use Rattle.table_format.specs.declared.Atom.{Atom}
 use Rattle.table_format.specs.declared.Update.{Update}
 use Rattle.table_format.specs.declared.Record.{Record}
 use Rattle.table_format.specs.declared.Record.the-variants.{Initial, Head, Clause, Atomic, Change, Cut, Unknown}
-use Rattle.table_format.specs.Format.{recordTo, bytesOf}
-use Rattle.table_format.specs.Sums.{sumBelow, size-join}
+use Rattle.table_format.specs.Format.{recordTo, bytesOf, kindOf}
 use Rattle.table_format.specs.Table.{Rule, Table, atomsTo, clausesTo, updatesTo, rulesTo, initialTo, encode}
 
 -- ---- one after the other
-pub record-append : (x : Record) (r s : List ℕ) → recordTo x (r ++ s) ≡ recordTo x r ++ s
+record-append : (x : Record) (r s : List ℕ) → recordTo x (r ++ s) ≡ recordTo x r ++ s
 unfolding recordTo
 record-append (Initial x) r s = refl
 record-append (Head x) r s = refl
@@ -42,7 +40,7 @@ unfolding clausesTo
 clauses-append [] r s = refl
 clauses-append (c ∷ l) r s = rw (clauses-append l r s, atoms-append c (clausesTo l r) s)
 
-pub updates-append : (l : List Update) (r s : List Record) → updatesTo l (r ++ s) ≡ updatesTo l r ++ s
+updates-append : (l : List Update) (r s : List Record) → updatesTo l (r ++ s) ≡ updatesTo l r ++ s
 unfolding updatesTo
 updates-append [] r s = refl
 updates-append (u ∷ l) r s = rw (updates-append l r s)
@@ -60,20 +58,10 @@ rules-append (x ∷ l) k =
     rw (rules-append l k, updates-append (x .updates) (rulesTo l) (rulesTo k), clauses-append (x .clauses) (updatesTo (x .updates) (rulesTo l)) (rulesTo k))
 
 -- ---- how many
--- the kind byte of a record; 0 for one that has none of its own
-unfoldable pub kindOf : Record → ℕ
-kindOf (Initial x) = 32
-kindOf (Head x) = 33
-kindOf Clause = 34
-kindOf (Atomic x) = 35
-kindOf (Change x) = 36
-kindOf Cut = 0
-kindOf Unknown = 0
-
-abbrev pub sizeOf : Record → ℕ
+abbrev sizeOf : Record → ℕ
 sizeOf x = recordSize notations.Table (kindOf x)
 
-pub length-record : (x : Record) (r : List ℕ) → length (recordTo x r) ≡ sizeOf x + length r
+length-record : (x : Record) (r : List ℕ) → length (recordTo x r) ≡ sizeOf x + length r
 unfolding recordTo recordSize kindOf
 length-record (Initial x) r = omega arith
 length-record (Head x) r = omega arith
@@ -83,11 +71,11 @@ length-record (Change x) r = omega arith
 length-record Cut r = omega arith
 length-record Unknown r = omega arith
 
-unfoldable pub sizeOfAll : List Record → ℕ
+unfoldable sizeOfAll : List Record → ℕ
 sizeOfAll [] = 0
 sizeOfAll (x ∷ l) = sizeOf x + sizeOfAll l
 
-pub length-bytes : (l : List Record) → length (bytesOf l) ≡ sizeOfAll l
+length-bytes : (l : List Record) → length (bytesOf l) ≡ sizeOfAll l
 unfolding bytesOf sizeOfAll
 length-bytes [] = refl
 length-bytes (x ∷ l) = length-record x (bytesOf l) ∙ ap (λ (n : ℕ). sizeOf x + n) (length-bytes l)
@@ -144,24 +132,13 @@ length-table t =
     let c = size-rules (t .rules) in
     omega arith
 
--- ---- sizes of lists that are made of lists
-pub length-join {ℓ} : {A : Type ℓ} (n : ℕ) (f : ℕ → List A) → length (joinBelow n f) ≡ sumBelow n (λ i. length (f i))
-length-join n f = size-join length refl length-append n f
-
+-- ---- sizes of two lists
 pub clauses-size-append : (l r : List (List Atom)) → clausesSize (l ++ r) ≡ clausesSize l + clausesSize r
 unfolding clausesSize
 clauses-size-append [] r = omega arith
 clauses-size-append (c ∷ l) r = let e = clauses-size-append l r in omega arith
 
-pub clauses-size-join : (n : ℕ) (f : ℕ → List (List Atom)) → clausesSize (joinBelow n f) ≡ sumBelow n (λ i. clausesSize (f i))
-unfolding clausesSize
-clauses-size-join n f = size-join clausesSize refl clauses-size-append n f
-
 pub rules-size-append : (l r : List Rule) → rulesSize (l ++ r) ≡ rulesSize l + rulesSize r
 unfolding rulesSize
 rules-size-append [] r = omega arith
 rules-size-append (x ∷ l) r = let e = rules-size-append l r in omega arith
-
-pub rules-size-join : (n : ℕ) (f : ℕ → List Rule) → rulesSize (joinBelow n f) ≡ sumBelow n (λ i. rulesSize (f i))
-unfolding rulesSize
-rules-size-join n f = size-join rulesSize refl rules-size-append n f

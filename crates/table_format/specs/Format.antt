@@ -7,6 +7,7 @@ use lib.Dec.{eqb, ltb}
 use Rattle.numbers.specs.Values.{u16At, u32At, u16To, u32To, bitsOf, valueAt}
 use Rattle.records.specs.declared.Notation.the-variants as notations
 use Rattle.records.specs.declared.Operand.{Operand}
+use Rattle.records.specs.Kinds.{tableStart, tableRule, tableClause, tableAtom, tableUpdate}
 use Rattle.records.specs.Format.{recordSize, parts, operandAt}
 use Rattle.table_format.specs.declared.InitialValue.{InitialValue}
 use Rattle.table_format.specs.declared.RuleHead.{RuleHead}
@@ -14,6 +15,20 @@ use Rattle.table_format.specs.declared.Atom.{Atom}
 use Rattle.table_format.specs.declared.Update.{Update}
 use Rattle.table_format.specs.declared.Record.{Record}
 use Rattle.table_format.specs.declared.Record.the-variants.{Initial, Head, Clause, Atomic, Change, Cut, Unknown}
+
+-- "Operands .. have tag 0 constant, 1 variable, 2 chosen length"
+abbrev pub variableTag : ℕ
+variableTag = 1
+
+abbrev pub lengthTag : ℕ
+lengthTag = 2
+
+-- "Ops 6 and 7: (not) a multiple of a constant above 0."
+abbrev pub multipleOp : ℕ
+multipleOp = 6
+
+abbrev pub noMultipleOp : ℕ
+noMultipleOp = 7
 
 -- "20 start: variable u16, i32"
 unfoldable pub initialOf : List ℕ → InitialValue
@@ -33,10 +48,10 @@ updateOf x = record { condition = u16At x 1; wanted = getD x 3 0; target = u16At
 
 abbrev pub recordOfWhole : ℕ → List ℕ → Record
 recordOfWhole k x =
-    cond (eqb k 32) (Initial (initialOf x))
-    (cond (eqb k 33) (Head (headOf x))
-    (cond (eqb k 34) Clause
-    (cond (eqb k 35) (Atomic (atomOf x)) (Change (updateOf x)))))
+    cond (eqb k tableStart) (Initial (initialOf x))
+    (cond (eqb k tableRule) (Head (headOf x))
+    (cond (eqb k tableClause) Clause
+    (cond (eqb k tableAtom) (Atomic (atomOf x)) (Change (updateOf x)))))
 
 -- the record that a part holds
 unfoldable pub recordOf : List ℕ → Record
@@ -57,11 +72,11 @@ abbrev pub operandTo : Operand → List ℕ → List ℕ
 operandTo o r = o .tag ∷ u32To (bitsOf (o .value .0)) r
 
 unfoldable pub recordTo : Record → List ℕ → List ℕ
-recordTo (Initial x) r = 32 ∷ u16To (x .variable) (u32To (bitsOf (x .value .0)) r)
-recordTo (Head x) r = 33 ∷ x .kind ∷ x .id ∷ u32To (x .low) (u32To (x .high) r)
-recordTo Clause r = 34 ∷ r
-recordTo (Atomic x) r = 35 ∷ x .op ∷ u16To (x .variable) (operandTo (x .right) r)
-recordTo (Change x) r = 36 ∷ u16To (x .condition) (x .wanted ∷ u16To (x .target) (x .op ∷ operandTo (x .first) (operandTo (x .second) r)))
+recordTo (Initial x) r = tableStart ∷ u16To (x .variable) (u32To (bitsOf (x .value .0)) r)
+recordTo (Head x) r = tableRule ∷ x .kind ∷ x .id ∷ u32To (x .low) (u32To (x .high) r)
+recordTo Clause r = tableClause ∷ r
+recordTo (Atomic x) r = tableAtom ∷ x .op ∷ u16To (x .variable) (operandTo (x .right) r)
+recordTo (Change x) r = tableUpdate ∷ u16To (x .condition) (x .wanted ∷ u16To (x .target) (x .op ∷ operandTo (x .first) (operandTo (x .second) r)))
 recordTo Cut r = r
 recordTo Unknown r = r
 
@@ -71,10 +86,10 @@ bytesOf (x ∷ l) = recordTo x (bytesOf l)
 
 -- ---- the kind of a record: walks that look for one kind decode no other
 unfoldable pub kindOf : Record → ℕ
-kindOf (Initial x) = 32
-kindOf (Head h) = 33
-kindOf Clause = 34
-kindOf (Atomic a) = 35
-kindOf (Change u) = 36
+kindOf (Initial x) = tableStart
+kindOf (Head h) = tableRule
+kindOf Clause = tableClause
+kindOf (Atomic a) = tableAtom
+kindOf (Change u) = tableUpdate
 kindOf Cut = 0
 kindOf Unknown = 0

@@ -9,5 +9,6 @@ pub mod VariableLaws
 pub mod WellFormed
 pub mod RoundTrip
 pub mod BytesLaws
-pub mod Laws
+pub mod Decoded
+pub mod RecordsAt
 pub mod Sums

@@ -12,7 +12,7 @@ use Rattle.records.specs.declared.Operand.{Operand}
 use Rattle.records.specs.declared.Cause.{Cause}
 use Rattle.records.specs.declared.Cause.the-variants.{None, CutRecord, WrongKind, TooMany, WrongField}
 use Rattle.records.specs.declared.Refusal.{Refusal}
-use Rattle.records.specs.Format.{parts}
+use Rattle.records.specs.Format.{constantTag, parts}
 use Rattle.records.specs.Refusals.{isNone, inModel, noRefusal}
 use Rattle.records.specs.Events.{startKind}
 use Rattle.table_format.specs.declared.InitialValue.{InitialValue}
@@ -24,7 +24,7 @@ use Rattle.table_format.specs.declared.Record.{Record}
 use Rattle.table_format.specs.declared.Record.the-variants.{Initial, Head, Clause, Atomic, Change, Cut, Unknown}
 use Rattle.table_format.specs.Variables.{isVariable, noVariable}
 use Rattle.table_format.specs.RuleKinds.{hasRules}
-use Rattle.table_format.specs.Format.{recordOf}
+use Rattle.table_format.specs.Format.{variableTag, lengthTag, multipleOp, recordOf}
 
 -- ---- fields
 -- the number of a variable that is there
@@ -34,21 +34,25 @@ namesVariable z = leZ (pos 0) z && isVariable (bitsOf z)
 -- "Operands, checked likewise, have tag 0 constant, 1 variable, 2 chosen length (only in updates of START rules)"; the number behind
 -- the chosen length is free.
 unfoldable pub operandFits : Bool → Operand → Bool
-operandFits mayChoose o = cond (eqb (o .tag) 0) true (cond (eqb (o .tag) 1) (namesVariable (o .value .0)) (mayChoose && eqb (o .tag) 2))
+operandFits mayChoose o = cond (eqb (o .tag) constantTag) true (cond (eqb (o .tag) variableTag) (namesVariable (o .value .0)) (mayChoose && eqb (o .tag) lengthTag))
 
 -- "variables rising (else 4)", "Variable 0 is neither started nor updated."
 unfoldable pub initialFits : ℕ → InitialValue → Bool
 initialFits least x = leb least (x .variable) && isVariable (x .variable)
 
+-- the longest length that a START may choose
+abbrev pub longestLength : ℕ
+longestLength = 1000000
+
 -- "event kind (01 to 0A)", "low, high u32 (0 but for START; low ≤ high ≤ 1,000,000)"
 unfoldable pub headFits : RuleHead → Bool
-headFits h = hasRules (h .kind) && (leb (h .low) (h .high) && leb (h .high) (cond (eqb (h .kind) startKind) 1000000 0))
+headFits h = hasRules (h .kind) && (leb (h .low) (h .high) && leb (h .high) (cond (eqb (h .kind) startKind) longestLength 0))
 
 -- "Ops 6 and 7: (not) a multiple of a constant above 0."
 unfoldable pub atomFits : Atom → Bool
 atomFits a =
     ltb (a .op) 8 && (isVariable (a .variable) &&
-    cond (ltb (a .op) 6) (operandFits false (a .right)) (eqb (a .right .tag) 0 && ltZ (pos 0) (a .right .value .0)))
+    cond (ltb (a .op) multipleOp) (operandFits false (a .right)) (eqb (a .right .tag) constantTag && ltZ (pos 0) (a .right .value .0)))
 
 -- "condition variable u16 (65,535 none)", "op u8 as in 0A"; kind is the event kind of the rule.
 unfoldable pub updateFits : ℕ → Update → Bool

@@ -41,7 +41,7 @@ value-back : (z : ℤ) → SFits w32 z →
 value-back z f = ap signed (u32-back (bitsOf z) (ofZ-fits w32 z f .fits)) ∙ toZ-ofZ w32 z f
 
 -- the bytes of a record are one part, and the rest is cut as it was
-pub part-back : (x : Record) (r : List ℕ) → Fits x → partsFrom notations.Table 0 (recordTo x r) ≡ recordTo x [] ∷ partsFrom notations.Table 0 r
+part-back : (x : Record) (r : List ℕ) → Fits x → partsFrom notations.Table 0 (recordTo x r) ≡ recordTo x [] ∷ partsFrom notations.Table 0 r
 unfolding partsFrom partLength recordSize recordTo
 part-back (Initial x) r f = rw (le-ltb (length (recordTo (Initial x) r)) 7 (omega arith))
 part-back (Head x) r f = rw (le-ltb (length (recordTo (Head x) r)) 11 (omega arith))
@@ -52,7 +52,7 @@ part-back Cut r f = absurd f
 part-back Unknown r f = absurd f
 
 -- and hold the record
-pub record-back : (x : Record) → Fits x → recordOf (recordTo x []) ≡ x
+record-back : (x : Record) → Fits x → recordOf (recordTo x []) ≡ x
 unfolding recordOf recordSize recordTo initialOf headOf atomOf updateOf operandAt
 record-back (Initial x) f = rw (u16-back (x .variable) (f .0), value-back (x .value .0) (f .1))
 record-back (Head x) f = rw (u32-back (x .low) (f .2), u32-back (x .high) (f .3))
@@ -79,7 +79,7 @@ unfolding Passes
 passes-fit [] c h = tt
 passes-fit (x ∷ l) c h = (h .1, passes-fit l (nextContext c x) (h .2))
 
-pub read-passes : (l : List Record) (c : Context) (p : ℕ) → Passes c l → readFrom c p (parts notations.Table (bytesOf l)) ≡ noRefusal
+read-passes : (l : List Record) (c : Context) (p : ℕ) → Passes c l → readFrom c p (parts notations.Table (bytesOf l)) ≡ noRefusal
 unfolding Passes bytesOf partsFrom readFrom numberOf
 read-passes [] c p h = refl
 read-passes (x ∷ l) c p h =
@@ -166,14 +166,14 @@ rules-made (x ∷ l) =
 
 -- ---- the round trip
 -- the bytes of a well-formed table stand for it
-pub table-back : (t : Table) → WellFormedTable t → tableOf (encode t) ≡ t
+table-back : (t : Table) → WellFormedTable t → tableOf (encode t) ≡ t
 unfolding tableOf
 table-back t w =
     let l = initialTo (t .initial) (rulesTo (t .rules)) in
     rw (records-back l (passes-fit l begin (table-passes t w)), initial-made (t .rules) (t .initial) (rulesTo (t .rules)) (rules-made (t .rules)))
 
 -- and are accepted
-pub table-accepted : (t : Table) → WellFormedTable t → readTable (encode t) ≡ noRefusal
+table-accepted : (t : Table) → WellFormedTable t → readTable (encode t) ≡ noRefusal
 unfolding readTable
 table-accepted t w =
     rw (le-ltb longestTable (length (encode t)) (w .short)) (read-passes (initialTo (t .initial) (rulesTo (t .rules))) begin 0 (table-passes t w))

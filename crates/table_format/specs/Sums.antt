@@ -5,6 +5,7 @@ use mathlib.Core.List.{List, [], _++_}
 use Prim.Native.Nat.{ℕ, zero, suc, _+_, _*_, _<_, _≤_}
 use native.Mathlib.Nat.{suc-mul, mul-zero, mul-le-mul}
 use native.Mathlib.Omega.{arith}
+use lib.ListN.{length, length-append}
 use lib.Dec.{eqb}
 use borrow.Author.Tests.{eqb-true, ne-eqb}
 use Rattle.numbers.specs.Lists.{foldBelow, joinBelow}
@@ -35,7 +36,7 @@ sum-within n top c f l h =
     omega (arith, sum-most n c f h, mul-le-mul l k)
 
 -- only one number counts
-pub sum-once : (n x c : ℕ) (f : ℕ → ℕ) → ((i : ℕ) → i < n → f i ≤ c) → sumBelow n (λ i. cond (eqb x i) (f i) 0) ≤ c
+sum-once : (n x c : ℕ) (f : ℕ → ℕ) → ((i : ℕ) → i < n → f i ≤ c) → sumBelow n (λ i. cond (eqb x i) (f i) 0) ≤ c
 unfolding foldBelow
 sum-once zero x c f h = omega arith
 sum-once (suc n) x c f h = go (eqb x n) refl (sum-once n x c f (λ i l. h i (omega arith)))
@@ -86,3 +87,6 @@ module _ {ℓ} {A : Type ℓ} (size : List A → ℕ) (none : size [] ≡ 0) (bo
 
   pub join-when : (n top c : ℕ) (b : ℕ → Bool) (f : ℕ → List A) → n ≤ top → ((i : ℕ) → i < n → size (f i) ≤ c) → size (joinBelow n (λ i. cond (b i) (f i) [])) ≤ top * c
   join-when n top c b f l h = join-within n top c (λ i. cond (b i) (f i) []) l (λ i k. rw (size-when (b i) (f i)) (cond-most (b i) (size (f i)) c (h i k)))
+
+pub length-join {ℓ} : {A : Type ℓ} (n : ℕ) (f : ℕ → List A) → length (joinBelow n f) ≡ sumBelow n (λ i. length (f i))
+length-join n f = size-join length refl length-append n f

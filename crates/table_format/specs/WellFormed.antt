@@ -27,7 +27,7 @@ use Rattle.table_format.specs.RuleKinds.{hasRules}
 use Rattle.table_format.specs.KindLaws.{kind-small}
 use Rattle.table_format.specs.VariableLaws.{variable-there, variable-small}
 use Rattle.table_format.specs.Table.{Rule, Table, encode}
-use Rattle.table_format.specs.Reading.{namesVariable, operandFits, initialFits, headFits, atomFits, updateFits, longestTable}
+use Rattle.table_format.specs.Reading.{namesVariable, operandFits, initialFits, longestLength, headFits, atomFits, updateFits, longestTable}
 
 -- ---- a record's numbers go into their bytes
 abbrev pub FitsOperand : Operand → Type 0
@@ -71,7 +71,7 @@ pub record WellFormedTable (t : Table) : Type 0 where
   pub short : length (encode t) ≤ longestTable
 
 -- ---- what passes the tests goes into its bytes
-pub and-split : (a b : Bool) → (a && b) ≡ true → (a ≡ true) × (b ≡ true)
+and-split : (a b : Bool) → (a && b) ≡ true → (a ≡ true) × (b ≡ true)
 and-split true b h = (refl, h)
 and-split false b h = absurd (false≢true h)
 
@@ -110,7 +110,7 @@ head-fits x h i =
     let n = most (eqb (x .kind) startKind) in
     (omega arith, i, omega arith, omega arith)
   where
-    most : (b : Bool) → cond b 1000000 0 ≤ 1000000
+    most : (b : Bool) → cond b longestLength 0 ≤ longestLength
     most true = omega arith
     most false = omega arith
 

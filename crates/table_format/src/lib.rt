@@ -1,4 +1,4 @@
-// A table of rules as bytes: its records, and reading it.
+// A table of rules as bytes: its variables, its records, and what a record holds.
 
 mod ops;
 mod variables;
@@ -17,12 +17,12 @@ pub use ops::MULTIPLE_OF;
 pub use ops::NO_MULTIPLE_OF;
 pub use ops::SUM;
 pub use ops::VARIABLE_TAG;
-use records::ACTIVATE;
-use records::Cause;
-use records::LEAVE;
 use records::Notation;
 use records::Operand;
-use records::Refusal;
+use records::TABLE_ATOM;
+use records::TABLE_CLAUSE;
+use records::TABLE_RULE;
+use records::TABLE_START;
 pub use variables::ACTIVE;
 pub use variables::BEHAVIOR;
 pub use variables::BUFFER;
@@ -57,16 +57,7 @@ pub use variables::missed_var;
 pub use variables::output_var;
 pub use variables::state_var;
 ghost use mathlib.Core.Path.{_≡_};
-ghost use mathlib.Core.Bool.{cond};
-ghost use lib.Dec.{eqb};
-ghost use lib.IntN.{pos};
-ghost use lib.Signed.{leZ, ltZ};
-ghost use Rattle.records.specs.Events.{startKind};
-ghost use Rattle.table_format.specs.Variables.{isVariable};
-ghost use Rattle.table_format.specs.RuleKinds.{hasRules};
-ghost use Rattle.table_format.specs.Format.{initialOf, headOf, atomOf, updateOf, recordOf};
-ghost use Rattle.table_format.specs.Format.{kindOf};
-ghost use Rattle.table_format.specs.Reading.{namesVariable, operandFits, initialFits, headFits, atomFits, updateFits, judged, causeOf, nextContext, readTable};
+ghost use Rattle.table_format.specs.Format.{initialOf, headOf, atomOf, updateOf, recordOf, kindOf};
 
 // In bytes.
 pub const LONGEST_TABLE: usize = 1000000;
@@ -122,314 +113,110 @@ pub struct Context {
 }
 
 // The body of a start record, from a part that begins at its kind byte. A byte past the part's end reads 0, here and below.
-pub fn initial_of(x: &[u8]) -> InitialValue
-    ensures { λ r. ⌜ r ≡ initialOf (now (x .entry)) ⌝ }
+pub fn initial_of(part: &[u8]) -> InitialValue
+    ensures { λ r. ⌜ r ≡ initialOf (now (part .entry)) ⌝ }
 {
-    let n = numbers::u16_at(x, 1);
-    let v = numbers::value_at(x, 3);
+    let variable = numbers::u16_at(part, 1);
+    let value = numbers::value_at(part, 3);
     InitialValue {
-        variable: n,
-        value: v,
+        variable: variable,
+        value: value,
     }
 }
 
-pub fn head_of(x: &[u8]) -> RuleHead
-    ensures { λ r. ⌜ r ≡ headOf (now (x .entry)) ⌝ }
+pub fn head_of(part: &[u8]) -> RuleHead
+    ensures { λ r. ⌜ r ≡ headOf (now (part .entry)) ⌝ }
 {
-    let k = numbers::byte_at(x, 1);
-    let i = numbers::byte_at(x, 2);
-    let l = numbers::u32_at(x, 3);
-    let h = numbers::u32_at(x, 7);
+    let kind = numbers::byte_at(part, 1);
+    let id = numbers::byte_at(part, 2);
+    let low = numbers::u32_at(part, 3);
+    let high = numbers::u32_at(part, 7);
     RuleHead {
-        kind: k,
-        id: i,
-        low: l,
-        high: h,
+        kind: kind,
+        id: id,
+        low: low,
+        high: high,
     }
 }
 
-fn atom_of(x: &[u8]) -> Atom
-    ensures { λ r. ⌜ r ≡ atomOf (now (x .entry)) ⌝ }
+fn atom_of(part: &[u8]) -> Atom
+    ensures { λ r. ⌜ r ≡ atomOf (now (part .entry)) ⌝ }
 {
-    let o = numbers::byte_at(x, 1);
-    let n = numbers::u16_at(x, 2);
-    let r = records::operand_at(x, 4);
+    let op = numbers::byte_at(part, 1);
+    let variable = numbers::u16_at(part, 2);
+    let right = records::operand_at(part, 4);
     Atom {
-        op: o,
-        variable: n,
-        right: r,
+        op: op,
+        variable: variable,
+        right: right,
     }
 }
 
-fn update_of(x: &[u8]) -> Update
-    ensures { λ r. ⌜ r ≡ updateOf (now (x .entry)) ⌝ }
+fn update_of(part: &[u8]) -> Update
+    ensures { λ r. ⌜ r ≡ updateOf (now (part .entry)) ⌝ }
 {
-    let c = numbers::u16_at(x, 1);
-    let w = numbers::byte_at(x, 3);
-    let t = numbers::u16_at(x, 4);
-    let o = numbers::byte_at(x, 6);
-    let a = records::operand_at(x, 7);
-    let b = records::operand_at(x, 12);
+    let condition = numbers::u16_at(part, 1);
+    let wanted = numbers::byte_at(part, 3);
+    let target = numbers::u16_at(part, 4);
+    let op = numbers::byte_at(part, 6);
+    let first = records::operand_at(part, 7);
+    let second = records::operand_at(part, 12);
     Update {
-        condition: c,
-        wanted: w,
-        target: t,
-        op: o,
-        first: a,
-        second: b,
+        condition: condition,
+        wanted: wanted,
+        target: target,
+        op: op,
+        first: first,
+        second: second,
     }
 }
 
 // The kind of the record that a part holds; 0 where it is cut or unknown. A walk that looks for one kind need decode no other.
-pub fn kind_of(x: &[u8]) -> u8
-    ensures { λ r. ⌜ r ≡ kindOf (recordOf (now (x .entry))) ⌝ }
+pub fn kind_of(part: &[u8]) -> u8
+    ensures { λ r. ⌜ r ≡ kindOf (recordOf (now (part .entry))) ⌝ }
 {
-    let k = numbers::byte_at(x, 0);
-    let w = Notation::Table;
-    let m = records::record_size(w, k);
-    if m == 0 {
+    let kind = numbers::byte_at(part, 0);
+    let notation = Notation::Table;
+    let size = records::record_size(notation, kind);
+    if size == 0 {
         return 0;
     }
-    if x.len() < m {
+    if part.len() < size {
         return 0;
     }
-    k
+    kind
 }
 
 // The record that a part holds, whatever its bytes.
-pub fn record_of(x: &[u8]) -> Record
-    ensures { λ r. ⌜ r ≡ recordOf (now (x .entry)) ⌝ }
+pub fn record_of(part: &[u8]) -> Record
+    ensures { λ r. ⌜ r ≡ recordOf (now (part .entry)) ⌝ }
 {
-    let k = numbers::byte_at(x, 0);
-    let w = Notation::Table;
-    let m = records::record_size(w, k);
-    if m == 0 {
+    let kind = numbers::byte_at(part, 0);
+    let notation = Notation::Table;
+    let size = records::record_size(notation, kind);
+    if size == 0 {
         return Record::Unknown;
     }
-    if x.len() < m {
+    if part.len() < size {
         return Record::Cut;
     }
-    match k {
-        32 => {
-            let y = initial_of(x);
-            Record::Initial(y)
+    match kind {
+        TABLE_START => {
+            let initial = initial_of(part);
+            Record::Initial(initial)
         }
-        33 => {
-            let y = head_of(x);
-            Record::Head(y)
+        TABLE_RULE => {
+            let head = head_of(part);
+            Record::Head(head)
         }
-        34 => Record::Clause,
-        35 => {
-            let y = atom_of(x);
-            Record::Atomic(y)
+        TABLE_CLAUSE => Record::Clause,
+        TABLE_ATOM => {
+            let atom = atom_of(part);
+            Record::Atomic(atom)
         }
         _ => {
-            let y = update_of(x);
-            Record::Change(y)
+            let update = update_of(part);
+            Record::Change(update)
         }
     }
-}
-
-// ---- fields
-fn is_variable(n: u32) -> bool
-    ensures { λ r. ⌜ r ≡ isVariable n ⌝ }
-{
-    n < 288
-}
-
-fn is_natural(v: Value) -> bool
-    ensures { λ r. ⌜ r ≡ leZ (pos 0) (v .0) ⌝ }
-{
-    let z = v.0;
-    0 <= z
-}
-
-// The number of a variable that is there.
-fn names_variable(v: Value) -> bool
-    ensures { λ r. ⌜ r ≡ namesVariable (v .0) ⌝ }
-{
-    let n = numbers::bits(v);
-    let there = is_variable(n);
-    is_natural(v) & there
-}
-
-// `may_choose`: the operand may be the chosen length.
-fn operand_fits(may_choose: bool, o: Operand) -> bool
-    ensures { λ r. ⌜ r ≡ operandFits «may_choose» o ⌝ }
-{
-    let t = o.tag;
-    if t == 0 {
-        return true;
-    }
-    if t == 1 {
-        let v = o.value;
-        return names_variable(v);
-    }
-    may_choose & (t == 2)
-}
-
-fn initial_fits(least: u32, x: InitialValue) -> bool
-    ensures { λ r. ⌜ r ≡ initialFits least x ⌝ }
-{
-    let n = x.variable as u32;
-    let b = is_variable(n);
-    (least <= n) & b
-}
-
-// The greatest length that a rule of a kind may allow.
-fn longest(kind: u8) -> u32
-    ensures { λ r. ⌜ r ≡ cond (eqb kind startKind) 1000000 0 ⌝ }
-{
-    if kind == 4 { 1000000 } else { 0 }
-}
-
-fn has_rules(kind: u8) -> bool
-    ensures { λ r. ⌜ r ≡ hasRules kind ⌝ }
-{
-    (ACTIVATE <= kind) & (kind <= LEAVE)
-}
-
-fn head_fits(h: RuleHead) -> bool
-    ensures { λ r. ⌜ r ≡ headFits h ⌝ }
-{
-    let k = h.kind;
-    let l = h.low;
-    let m = h.high;
-    let n = longest(k);
-    let known = has_rules(k);
-    known & ((l <= m) & (m <= n))
-}
-
-fn above_zero(v: Value) -> bool
-    ensures { λ r. ⌜ r ≡ ltZ (pos 0) (v .0) ⌝ }
-{
-    let z = v.0;
-    0 < z
-}
-
-fn atom_fits(a: Atom) -> bool
-    ensures { λ r. ⌜ r ≡ atomFits a ⌝ }
-{
-    let o = a.op;
-    let n = a.variable;
-    let y = a.right;
-    let b = is_variable(n as u32);
-    if o < 6 {
-        let r = operand_fits(false, y);
-        return (o < 8) & (b & r);
-    }
-    let t = y.tag;
-    let v = y.value;
-    let r = above_zero(v);
-    (o < 8) & (b & ((t == 0) & r))
-}
-
-fn update_fits(kind: u8, u: Update) -> bool
-    ensures { λ r. ⌜ r ≡ updateFits kind u ⌝ }
-{
-    let c = u.condition;
-    let t = u.target;
-    let o = u.op;
-    let x = u.first;
-    let y = u.second;
-    let b = is_variable(c as u32);
-    let d = is_variable(t as u32);
-    let f = operand_fits(kind == 4, x);
-    let g = operand_fits(kind == 4, y);
-    ((c == 65535) | b) & ((0 < t) & (d & ((o < 3) & (f & g))))
-}
-
-// ---- order
-fn judged(in_order: bool, fits: bool) -> Cause
-    ensures { λ r. ⌜ r ≡ judged «in_order» fits ⌝ }
-{
-    if in_order {
-        if fits {
-            return Cause::None;
-        }
-        return Cause::WrongField;
-    }
-    Cause::WrongKind
-}
-
-fn cause_of(c: Context, x: Record) -> Cause
-    ensures { λ r. ⌜ r ≡ causeOf c x ⌝ }
-{
-    let p = c.place;
-    match x {
-        Record::Initial(y) => {
-            let fits = initial_fits(c.least, y);
-            judged(p == 0, fits)
-        }
-        Record::Head(h) => {
-            let fits = head_fits(h);
-            judged(true, fits)
-        }
-        Record::Clause => judged((p == 1) | (p == 2), true),
-        Record::Atomic(a) => {
-            let fits = atom_fits(a);
-            judged(p == 2, fits)
-        }
-        Record::Change(u) => {
-            let fits = update_fits(c.kind, u);
-            judged(0 < p, fits)
-        }
-        Record::Cut => Cause::CutRecord,
-        Record::Unknown => Cause::WrongKind,
-    }
-}
-
-fn placed(place: u8, least: u32, kind: u8) -> Context
-    ensures { λ r. ⌜ r ≡ record { place = place; least = least; kind = kind } ⌝ }
-{
-    Context {
-        place: place,
-        least: least,
-        kind: kind,
-    }
-}
-
-// Where the reader stands after a record.
-fn next_context(c: Context, x: Record) -> Context
-    ensures { λ r. ⌜ r ≡ nextContext c x ⌝ }
-{
-    match x {
-        Record::Initial(y) => {
-            let n = y.variable;
-            placed(0, (n as u32) + 1, c.kind)
-        }
-        Record::Head(h) => {
-            let k = h.kind;
-            placed(1, c.least, k)
-        }
-        Record::Clause => placed(2, c.least, c.kind),
-        Record::Atomic(_) => placed(2, c.least, c.kind),
-        Record::Change(_) => placed(3, c.least, c.kind),
-        Record::Cut => c,
-        Record::Unknown => c,
-    }
-}
-
-// The first refused record of a table, and its part; a table that is too long is refused as a whole, before any record is read.
-pub fn read_table(s: &[u8]) -> Refusal
-    ensures { λ r. ⌜ r ≡ readTable (now (s .entry)) ⌝ }
-{
-    if LONGEST_TABLE < s.len() {
-        return records::in_model(Cause::TooMany, 0, s.len());
-    }
-    let mut c = placed(0, 1, 0);
-    let mut at: usize = 0;
-    while at < s.len() {
-        let w = Notation::Table;
-        let n = records::part_length_at(w, s, at);
-        let next = at + n;
-        let x = record_of(&s[at..next]);
-        let k = cause_of(c, x);
-        if !records::is_none(k) {
-            return records::in_model(k, at, next);
-        }
-        c = next_context(c, x);
-        at = next;
-    }
-    records::no_refusal()
 }

@@ -49,82 +49,82 @@ pub const OUTPUT: u16 = 224;
 
 pub const LOCAL: u16 = 256;
 
-// Of thread t.
-pub fn active_var(t: u8) -> u16
-    ensures { λ r. ⌜ r ≡ variables.activeVar t ⌝ }
+// Of a thread.
+pub fn active_var(thread: u8) -> u16
+    ensures { λ r. ⌜ r ≡ variables.activeVar thread ⌝ }
 {
-    ACTIVE + (t as u16)
+    ACTIVE + (thread as u16)
 }
 
-pub fn state_var(t: u8) -> u16
-    ensures { λ r. ⌜ r ≡ variables.stateVar t ⌝ }
+pub fn state_var(thread: u8) -> u16
+    ensures { λ r. ⌜ r ≡ variables.stateVar thread ⌝ }
 {
-    STATE + (t as u16)
+    STATE + (thread as u16)
 }
 
-pub fn dispatch_var(t: u8) -> u16
-    ensures { λ r. ⌜ r ≡ variables.dispatchVar t ⌝ }
+pub fn dispatch_var(thread: u8) -> u16
+    ensures { λ r. ⌜ r ≡ variables.dispatchVar thread ⌝ }
 {
-    DISPATCH_TIME + (t as u16)
+    DISPATCH_TIME + (thread as u16)
 }
 
-pub fn due_var(t: u8) -> u16
-    ensures { λ r. ⌜ r ≡ variables.dueVar t ⌝ }
+pub fn due_var(thread: u8) -> u16
+    ensures { λ r. ⌜ r ≡ variables.dueVar thread ⌝ }
 {
-    DUE + (t as u16)
+    DUE + (thread as u16)
 }
 
-pub fn end_var(t: u8) -> u16
-    ensures { λ r. ⌜ r ≡ variables.endVar t ⌝ }
+pub fn end_var(thread: u8) -> u16
+    ensures { λ r. ⌜ r ≡ variables.endVar thread ⌝ }
 {
-    END + (t as u16)
+    END + (thread as u16)
 }
 
-pub fn behavior_var(t: u8) -> u16
-    ensures { λ r. ⌜ r ≡ variables.behaviorVar t ⌝ }
+pub fn behavior_var(thread: u8) -> u16
+    ensures { λ r. ⌜ r ≡ variables.behaviorVar thread ⌝ }
 {
-    BEHAVIOR + (t as u16)
+    BEHAVIOR + (thread as u16)
 }
 
-pub fn missed_var(t: u8) -> u16
-    ensures { λ r. ⌜ r ≡ variables.missedVar t ⌝ }
+pub fn missed_var(thread: u8) -> u16
+    ensures { λ r. ⌜ r ≡ variables.missedVar thread ⌝ }
 {
-    MISSED + (t as u16)
+    MISSED + (thread as u16)
 }
 
-// Of connection c.
-pub fn flag_var(c: u16) -> u16
-    requires { ⌜ c < variables.connectionRoom ⌝ }
-    ensures { λ r. ⌜ r ≡ variables.flagVar c ⌝ }
+// Of a connection.
+pub fn flag_var(connection: u16) -> u16
+    requires { ⌜ connection < variables.connectionRoom ⌝ }
+    ensures { λ r. ⌜ r ≡ variables.flagVar connection ⌝ }
 {
-    FLAG + c
+    FLAG + connection
 }
 
-// Of input port i, its buffer, output port o, local v.
-pub fn input_var(i: u16) -> u16
-    requires { ⌜ i < variables.inputRoom ⌝ }
-    ensures { λ r. ⌜ r ≡ variables.inputVar i ⌝ }
+// Of an input port, its buffer, an output port, a local.
+pub fn input_var(port: u16) -> u16
+    requires { ⌜ port < variables.inputRoom ⌝ }
+    ensures { λ r. ⌜ r ≡ variables.inputVar port ⌝ }
 {
-    INPUT + i
+    INPUT + port
 }
 
-pub fn buffer_var(i: u16) -> u16
-    requires { ⌜ i < variables.inputRoom ⌝ }
-    ensures { λ r. ⌜ r ≡ variables.bufferVar i ⌝ }
+pub fn buffer_var(port: u16) -> u16
+    requires { ⌜ port < variables.inputRoom ⌝ }
+    ensures { λ r. ⌜ r ≡ variables.bufferVar port ⌝ }
 {
-    BUFFER + i
+    BUFFER + port
 }
 
-pub fn output_var(o: u16) -> u16
-    requires { ⌜ o < variables.outputRoom ⌝ }
-    ensures { λ r. ⌜ r ≡ variables.outputVar o ⌝ }
+pub fn output_var(port: u16) -> u16
+    requires { ⌜ port < variables.outputRoom ⌝ }
+    ensures { λ r. ⌜ r ≡ variables.outputVar port ⌝ }
 {
-    OUTPUT + o
+    OUTPUT + port
 }
 
-pub fn local_var(v: u16) -> u16
-    requires { ⌜ v < variables.localRoom ⌝ }
-    ensures { λ r. ⌜ r ≡ variables.localVar v ⌝ }
+pub fn local_var(local: u16) -> u16
+    requires { ⌜ local < variables.localRoom ⌝ }
+    ensures { λ r. ⌜ r ≡ variables.localVar local ⌝ }
 {
-    LOCAL + v
+    LOCAL + local
 }

@@ -1,5 +1,5 @@
 -- The guard of a rule: what its first clause asks one variable for. A rule whose guard fails need not be looked at.
-use mathlib.Core.Path.{_≡_, refl, _∙_, ap}
+use mathlib.Core.Path.{_≡_, refl, sym, _∙_, ap}
 use mathlib.Core.Bool.{Bool, true, false, cond, _&&_}
 use mathlib.Core.List.{List, _∷_}
 use Prim.Native.Nat.{ℕ, suc, _+_, _-_, _*_, _/_, _%_, _<_, _≤_}
@@ -36,7 +36,27 @@ Asks x g = (v : List Value) → mayHold v g ≡ false → holds v (atomOf x) ≡
 abbrev pub Guards : List ℕ → ℕ → ℕ → Type 0
 Guards s p g = (v : List Value) → mayHold v g ≡ false → allHold v (clausesAt s p) ≡ false
 
+-- where what the guard of two words has not told of their rule begins: behind the first clause, where the guard asks a variable for a value
+unfoldable pub untold : ℕ → ℕ → ℕ
+untold w g =
+    let j = g / 4294967296 in
+    let p = w / 65536 + 11 in
+    cond (eqb j 0) p (cond (ltb j variables) (p + 10) p)
+
 -- ---- the code's answer, by its ways to return
+module _ (w g j : ℕ) (e : j ≡ g / 4294967296) where
+  pub untold-clock : j ≡ 0 → w / 65536 + 11 ≡ untold w g
+  unfolding untold
+  untold-clock h = rw (← e, h)
+
+  pub untold-none : (j ≡ 0 → ⊥) → variables ≤ j → w / 65536 + 11 ≡ untold w g
+  unfolding untold
+  untold-none h k = rw (← e, ne-eqb j 0 h, le-ltb j variables k)
+
+  pub untold-by : (j ≡ 0 → ⊥) → j < variables → w / 65536 + 11 + 10 ≡ untold w g
+  unfolding untold
+  untold-by h k = rw (← e, ne-eqb j 0 h, lt-ltb j variables k)
+
 module _ (v : List Value) (g j : ℕ) (e : j ≡ g / 4294967296) where
   pub may-clock : j ≡ 0 → true ≡ mayHold v g
   unfolding mayHold
@@ -121,6 +141,61 @@ guard-fails s p = go (leb (p + 11) (length s)) (eqb (getD s p 0) 34) (eqb (getD 
     go true true false d x y z w = guards-none s p
     go true false c d x y z w = guards-none s p
     go false b c d x y z w = guards-none s p
+
+-- ---- a guard that asks a variable for a value and holds is the first clause, and that holds
+last-true : (a b c : Bool) → a ≡ false → b ≡ true → cond a true (cond b c true) ≡ true → c ≡ true
+last-true true b c x y h = never x
+last-true false true c x y h = h
+last-true false false c x y h = never (sym y)
+
+module _ (v : List Value) (g : ℕ) (m : mayHold v g ≡ true) (z : g / 4294967296 ≡ 0 → ⊥) (l : g / 4294967296 < variables) where
+  holds-atom : (x : List ℕ) → getD x 1 0 ≡ 0 → getD x 4 0 ≡ 0 → 4294967296 * u16At x 2 + bitsOf (valueAt x 5 .0) ≡ g → holds v (atomOf x) ≡ true
+  unfolding mayHold holds holdsOp compares operandValue atomOf operandAt
+  holds-atom x eo et eg =
+      let n = bitsOf (valueAt x 5 .0) in
+      let b : n < 4294967296 = bits-below (u32At x 5) in
+      let d : g / 4294967296 ≡ u16At x 2 = omega arith in
+      let r : g % 4294967296 ≡ n = omega arith in
+      let y : sameValue (valueOf v (u16At x 2)) (value (signed n)) ≡ true =
+      last-true (eqb (u16At x 2) 0) (ltb (u16At x 2) variables) (sameValue (valueOf v (u16At x 2)) (value (signed n)))
+      (ne-eqb (u16At x 2) 0 (rw d at z)) (lt-ltb (u16At x 2) variables (rw d at l)) (rw (d, r) at m) in
+      rw (eo, et) (rw (ofZ-toZ w32 n (record { fits = b })) at y)
+
+  holds-asked : (x : List ℕ) → askedIn x ≡ g → holds v (atomOf x) ≡ true
+  unfolding askedIn
+  holds-asked x = go (eqb (getD x 1 0) 0) (eqb (getD x 4 0) 0) refl refl
+    where
+      go : (a b : Bool) → eqb (getD x 1 0) 0 ≡ a → eqb (getD x 4 0) 0 ≡ b →
+          cond (a && b) (4294967296 * u16At x 2 + bitsOf (valueAt x 5 .0)) 0 ≡ g → holds v (atomOf x) ≡ true
+      go true true e f h = holds-atom x (eqb-true (getD x 1 0) 0 e) (eqb-true (getD x 4 0) 0 f) h
+      go true false e f h = absurd (z (omega arith))
+      go false b e f h = absurd (z (omega arith))
+
+  holds-first : (s : List ℕ) (p : ℕ) → p + 11 ≤ length s → getD s p 0 ≡ 34 → getD s (p + 1) 0 ≡ 35 → getD s (p + 10) 0 ≡ 34 →
+      askedIn (bytesAt s (p + 1) 9) ≡ g → allHold v (clausesAt s (p + 10)) ≡ allHold v (clausesAt s p)
+  unfolding gather allHold clauseHolds
+  holds-first s p n a b c k =
+      let q : p + 1 + 9 ≡ p + 10 = omega arith in
+      let x = atomOf (bytesAt s (p + 1) 9) in
+      let third = clause-records s (p + 10) c (omega arith) in
+      let second = atom-records s (p + 1) b (omega arith) ∙ ap (λ (r : List Record). Atomic x ∷ r) (ap (λ (n : ℕ). records (drop n s)) q ∙ third) in
+      let first = clause-records s p a (omega arith) ∙ ap (λ (r : List Record). Clause ∷ r) second in
+      ap (λ (r : List Record). allHold v (gather r .clauses)) third ∙
+      sym (ap (λ (r : List Record). allHold v (gather r .clauses)) first ∙ rw (holds-asked (bytesAt s (p + 1) 9) k))
+
+  pub guard-told : (s : List ℕ) (p : ℕ) → guardAt s p ≡ g → allHold v (clausesAt s (p + 10)) ≡ allHold v (clausesAt s p)
+  unfolding guardAt
+  guard-told s p = go (leb (p + 11) (length s)) (eqb (getD s p 0) 34) (eqb (getD s (p + 1) 0) 35) (eqb (getD s (p + 10) 0) 34) refl refl refl refl
+    where
+      go : (a b c d : Bool) → leb (p + 11) (length s) ≡ a → eqb (getD s p 0) 34 ≡ b → eqb (getD s (p + 1) 0) 35 ≡ c → eqb (getD s (p + 10) 0) 34 ≡ d →
+          cond (a && (b && (c && d))) (askedIn (bytesAt s (p + 1) 9)) 0 ≡ g → allHold v (clausesAt s (p + 10)) ≡ allHold v (clausesAt s p)
+      go true true true true x y k w h =
+          holds-first s p (leb-true (p + 11) (length s) x) (eqb-true (getD s p 0) 34 y) (eqb-true (getD s (p + 1) 0) 35 k)
+          (eqb-true (getD s (p + 10) 0) 34 w) h
+      go true true true false x y k w h = absurd (z (omega arith))
+      go true true false d x y k w h = absurd (z (omega arith))
+      go true false c d x y k w h = absurd (z (omega arith))
+      go false b c d x y k w h = absurd (z (omega arith))
 
 -- ---- the code's guards, by its ways to return
 module _ (x : List ℕ) (o : ℕ) (eo : o ≡ getD x 1 0) where

@@ -9,7 +9,8 @@ use lib.Dec.{eqb, ltb, leb}
 use Rattle.numbers.specs.Values.{u16At, valueAt, bitsOf}
 use Rattle.records.specs.declared.Notation.the-variants as notations
 use Rattle.records.specs.declared.Event.{Event}
-use Rattle.records.specs.Format.{parts}
+use Rattle.records.specs.Kinds.{tableRule, tableClause, tableAtom}
+use Rattle.records.specs.Format.{headSize, tableAtomSize, parts}
 use Rattle.table_format.specs.Table.{Rule}
 use Rattle.table_format.specs.Reading.{longestTable}
 use Rattle.table_semantics.specs.declared.Variables.{Variables}
@@ -20,7 +21,7 @@ use Rattle.table_rules.specs.At.{bytesAt, headIn, ruleAt, rulesFrom}
 -- ---- the heads of a table
 -- a head, of "21 rule", stands whole at p
 unfoldable pub isHead : List ℕ → ℕ → Bool
-isHead s p = leb (p + 11) (length s) && eqb (getD s p 0) 33
+isHead s p = leb (p + headSize) (length s) && eqb (getD s p 0) tableRule
 
 -- the places of the heads among parts, the first of which begins at p
 unfoldable pub headsFrom : ℕ → List (List ℕ) → List ℕ
@@ -31,7 +32,10 @@ unfoldable pub headPlaces : List ℕ → List ℕ
 headPlaces s = headsFrom 0 (parts notations.Table s)
 
 -- ---- what an index has for a head: two words
--- the event kind and the id of a rule as one number
+-- the event kind and the id of a rule as one number, of as many as two bytes have
+abbrev pub keys : ℕ
+keys = 65536
+
 abbrev pub keyOf : ℕ → ℕ → ℕ
 keyOf k i = 256 * (k % 256) + i % 256
 
@@ -40,7 +44,7 @@ keyAt s p = keyOf (getD s (p + 1) 0) (getD s (p + 2) 0)
 
 -- the first word: the head's place and its key
 abbrev pub entryAt : List ℕ → ℕ → ℕ
-entryAt s p = 65536 * p + keyAt s p
+entryAt s p = keys * p + keyAt s p
 
 -- what the atom that a part holds asks its variable for, where it is variable = constant: the variable's number times 2^32, and the
 -- constant's bits. Else 0
@@ -50,8 +54,8 @@ askedIn x = cond (eqb (getD x 1 0) 0 && eqb (getD x 4 0) 0) (4294967296 * u16At 
 -- the second word, the guard: the same of the first clause of a rule whose records after its head begin at p, where that is one atom
 unfoldable pub guardAt : List ℕ → ℕ → ℕ
 guardAt s p =
-    cond (leb (p + 11) (length s) && (eqb (getD s p 0) 34 && (eqb (getD s (p + 1) 0) 35 && eqb (getD s (p + 10) 0) 34)))
-    (askedIn (bytesAt s (p + 1) 9)) 0
+    cond (leb (p + 11) (length s) && (eqb (getD s p 0) tableClause && (eqb (getD s (p + 1) 0) tableAtom && eqb (getD s (p + 10) 0) tableClause)))
+    (askedIn (bytesAt s (p + 1) tableAtomSize)) 0
 
 -- ---- the index that is made of a table
 -- how many rules an index of n numbers has room for; "A table is at most 1,000,000 bytes", of a longer one none is listed
@@ -68,7 +72,7 @@ restOf s n = getD (headPlaces s) (roomFor s n) (length s)
 
 unfoldable pub entriesOf : List ℕ → List ℕ → List ℕ
 entriesOf s [] = []
-entriesOf s (p ∷ l) = entryAt s p ∷ guardAt s (p + 11) ∷ entriesOf s l
+entriesOf s (p ∷ l) = entryAt s p ∷ guardAt s (p + headSize) ∷ entriesOf s l
 
 unfoldable pub indexOf : List ℕ → ℕ → List ℕ
 indexOf s n = length (placesListed s n) ∷ restOf s n ∷ entriesOf s (placesListed s n)
@@ -80,12 +84,12 @@ indexSize s = 2 + 2 * length (headPlaces s)
 -- ---- what any index stands for
 -- two words list a rule where its head stands at the place and both are those of that head; words of any other content list none
 unfoldable pub isListed : List ℕ → ℕ → ℕ → Bool
-isListed s w g = isHead s (w / 65536) && (eqb (keyAt s (w / 65536)) (w % 65536) && eqb (guardAt s (w / 65536 + 11)) g)
+isListed s w g = isHead s (w / keys) && (eqb (keyAt s (w / keys)) (w % keys) && eqb (guardAt s (w / keys + headSize)) g)
 
 unfoldable pub listed : List ℕ → List ℕ → List Rule
 listed s [] = []
 listed s (w ∷ []) = []
-listed s (w ∷ g ∷ l) = let r = listed s l in cond (isListed s w g) (ruleAt s (w / 65536 + 11) (headIn s (w / 65536)) ∷ r) r
+listed s (w ∷ g ∷ l) = let r = listed s l in cond (isListed s w g) (ruleAt s (w / keys + headSize) (headIn s (w / keys)) ∷ r) r
 
 -- the rules listed, then those of the records from `rest` on
 abbrev pub rulesIn : List ℕ → List ℕ → ℕ → List Rule

@@ -19,7 +19,8 @@ use Rattle.table_format.specs.declared.Record.{Record}
 use Rattle.table_format.specs.Format.{recordOf, records, kindOf}
 use Rattle.table_format.specs.Table.{Rule, gather, tableOf}
 use Rattle.table_format.specs.Reading.{longestTable}
-use Rattle.table_format.specs.Laws.{kind-cut, records-end}
+use Rattle.table_format.specs.Decoded.{kind-cut}
+use Rattle.table_format.specs.RecordsAt.{records-end}
 use Rattle.table_semantics.specs.declared.Variables.{Variables}
 use Rattle.table_semantics.specs.Machine.{step}
 use Rattle.table_rules.specs.At.{bytesAt, headIn, ruleAt, rulesFrom}
@@ -250,10 +251,6 @@ step-by-index s d r v e = ap (λ (l : List Rule). step l v e) r
 pub rules-by-none : (s : List ℕ) → rulesBy s [] ≡ tableOf s .rules
 unfolding rulesBy listed tableOf
 rules-by-none s = refl
-
-pub rules-by-zero : (s : List ℕ) → rulesBy s (0 ∷ []) ≡ tableOf s .rules
-unfolding rulesBy listed tableOf
-rules-by-zero s = refl
 
 -- ---- the loop that makes it: n heads are passed, p is the place that is reached, r the first head that there was no room for
 pub record Listing (s d₀ : List ℕ) (room : ℕ) (d : List ℕ) (n p r : ℕ) : Type 0 where

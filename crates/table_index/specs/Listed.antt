@@ -5,16 +5,18 @@ use mathlib.Core.List.{List, [], _∷_}
 use Prim.Native.Nat.{ℕ, suc, _+_, _-_, _/_, _%_, _<_, _≤_}
 use native.Mathlib.Omega.{arith}
 use native.Mathlib.Numerals.{add-one}
+use native.Mathlib.Decide.{ℕ-discrete, decLt}
 use lib.ListN.{getD, length, drop, length-drop}
 use lib.Seq.{drop-cons}
 use lib.Dec.{eqb}
-use borrow.Author.Tests.{eq-eqb, ne-eqb, eqb-true}
+use borrow.Author.Tests.{eq-eqb, ne-eqb, eqb-true, lt-ltb, le-ltb}
 use Rattle.numbers.specs.declared.Value.{Value}
+use Rattle.table_format.specs.Variables.{variables}
 use Rattle.table_semantics.specs.Rules.{allHold}
 use Rattle.table_rules.specs.At.{clausesAt}
 use Rattle.table_index.specs.Index.{isHead, keyAt, guardAt, isListed, listed}
 use Rattle.table_rules.specs.Places.{HeadAt}
-use Rattle.table_index.specs.Guards.{mayHold, guard-fails, never}
+use Rattle.table_index.specs.Guards.{mayHold, untold, guard-fails, guard-told, never}
 use Rattle.table_index.specs.IndexLaws.{head-at}
 
 module _ (s : List ℕ) (w g : ℕ) where
@@ -50,6 +52,40 @@ module _ (s : List ℕ) (w g : ℕ) where
   -- a guard that fails: the rule is not enabled
   pub guard-disables : isListed s w g ≡ true → (v : List Value) → mayHold v g ≡ false → allHold v (clausesAt s (w / 65536 + 11)) ≡ false
   guard-disables h v f = guard-fails s (w / 65536 + 11) v (rw (parts-of h .2) f)
+
+  -- one that holds: what it has told of the rule need not be read
+  guard-tells : isListed s w g ≡ true → (v : List Value) → mayHold v g ≡ true → allHold v (clausesAt s (untold w g)) ≡ allHold v (clausesAt s (w / 65536 + 11))
+  unfolding untold
+  guard-tells h v m = go (ℕ-discrete (g / 4294967296) 0) (decLt (g / 4294967296) variables)
+    where
+      go : Dec (g / 4294967296 ≡ 0) → Dec (g / 4294967296 < variables) → allHold v (clausesAt s (untold w g)) ≡ allHold v (clausesAt s (w / 65536 + 11))
+      go (yes z) l = rw z
+      go (no z) (no l) = rw (ne-eqb (g / 4294967296) 0 z, le-ltb (g / 4294967296) variables (omega arith))
+      go (no z) (yes l) = rw (ne-eqb (g / 4294967296) 0 z, lt-ltb (g / 4294967296) variables l) (guard-told v g m z l s (w / 65536 + 11) (parts-of h .2))
+
+  module _ (v : List Value) (m : Bool) (e : m ≡ mayHold v g) (t : m ≡ true) where
+    pub rest-is-all : (isListed s w g && allHold v (clausesAt s (untold w g))) ≡ (isListed s w g && allHold v (clausesAt s (w / 65536 + 11)))
+    rest-is-all = go (isListed s w g) refl
+      where
+        go : (b : Bool) → isListed s w g ≡ b → (b && allHold v (clausesAt s (untold w g))) ≡ (b && allHold v (clausesAt s (w / 65536 + 11)))
+        go true h = guard-tells h v (sym e ∙ t)
+        go false h = refl
+
+  -- the code's answers
+  module _ (v : List Value) (u : ℕ) (e : u ≡ untold w g) (b : Bool) (q : b ≡ allHold v (clausesAt s u)) where
+    pub rest-fails : b ≡ false → false ≡ (isListed s w g && allHold v (clausesAt s (untold w g)))
+    rest-fails z = go (isListed s w g)
+      where
+        go : (a : Bool) → false ≡ (a && allHold v (clausesAt s (untold w g)))
+        go true = sym z ∙ q ∙ ap (λ (n : ℕ). allHold v (clausesAt s n)) e
+        go false = refl
+
+    pub rest-holds : b ≡ true → (r : Bool) → r ≡ isListed s w g → r ≡ (isListed s w g && allHold v (clausesAt s (untold w g)))
+    rest-holds z r h = let y : allHold v (clausesAt s (untold w g)) ≡ true = sym (sym z ∙ q ∙ ap (λ (n : ℕ). allHold v (clausesAt s n)) e) in rw (← h, y) (go r)
+      where
+        go : (a : Bool) → a ≡ (a && true)
+        go true = refl
+        go false = refl
 
 -- ---- a loop over words, two at a time: those from i on
 pub dropped : (d : List ℕ) (i : ℕ) → i + 1 < length d → drop i d ≡ getD d i 0 ∷ getD d (i + 1) 0 ∷ drop (i + 2) d

@@ -11,11 +11,14 @@ ghost use mathlib.Core.Path.{_≡_};
 ghost use Prim.Native.Nat.{min};
 ghost use lib.ListN.{getD, set, length};
 ghost use lib.Seq.{sets};
+ghost use mathlib.Core.Bool.{_&&_};
+ghost use Rattle.table_semantics.specs.Rules.{allHold};
 ghost use Rattle.table_semantics.specs.Runs.{values};
+ghost use Rattle.table_rules.specs.At.{clausesAt};
 ghost use Rattle.table_rules.specs.Places.{HeadAt};
 ghost use Rattle.table_index.specs.Index.{isHead, keyOf, keyAt, askedIn, guardAt, roomFor, indexOf, indexSize, isListed, listedIn};
 ghost use Rattle.table_index.specs.IndexLaws.{ListsOne};
-ghost use Rattle.table_index.specs.Guards.{mayHold};
+ghost use Rattle.table_index.specs.Guards.{mayHold, untold};
 
 // An index is a slice of numbers: how many rules are listed, the place from which on the other rules are, and two words for each rule listed.
 // One word is the place of its head times KEYS and its key, the other its guard. An index of any content stands for some rules of the table: words
@@ -31,6 +34,9 @@ pub const KEYS: usize = 65536;
 
 // How many values 32 bits have.
 const BITS: usize = 4294967296;
+
+// A clause of one atom.
+const GUARD_SIZE: usize = 10;
 
 // Whether a rule's head stands whole at a place.
 pub fn is_head(table: &[u8], at: usize) -> bool
@@ -115,6 +121,21 @@ pub fn may_hold(bits: &[u32], guard: usize) -> bool
     let value = table_rules::value_in(bits, j);
     let n = (guard % BITS) as u32;
     numbers::same(value, numbers::value_of(n))
+}
+
+// From where on the clauses of the rule that two words list are to be read: a guard that asks a variable for a value tells all of the first.
+pub fn untold(word: usize, guard: usize) -> usize
+    ensures { λ r. ⌜ r ≡ untold word guard ⌝ }
+{
+    let first = word / KEYS + RULE_SIZE;
+    let variable = guard / BITS;
+    if variable == 0 {
+        return first;
+    }
+    if VARIABLES <= variable {
+        return first;
+    }
+    first + GUARD_SIZE
 }
 
 pub fn fewer(n: usize, m: usize) -> usize
@@ -227,4 +248,14 @@ pub fn is_listed(table: &[u8], word: usize, guard: usize) -> bool
         return false;
     }
     guard_of(table, at + RULE_SIZE) == guard
+}
+
+// Whether two words list a rule, and what its guard has not told of it holds. The words are checked last: few rules are enabled.
+pub fn rest_holds(table: &[u8], bits: &[u32], word: usize, guard: usize) -> bool
+    ensures { λ r. ⌜ r ≡ (isListed (now (table .entry)) word guard && allHold (values (now (bits .entry))) (clausesAt (now (table .entry)) (untold word guard))) ⌝ }
+{
+    if !table_rules::is_enabled(table, untold(word, guard), bits) {
+        return false;
+    }
+    is_listed(table, word, guard)
 }

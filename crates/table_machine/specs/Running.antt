@@ -1,8 +1,9 @@
 -- The machine's answers, in the forms that the code has: one event, and the start.
 use mathlib.Core.Path.{_≡_, refl, sym, _∙_, ap}
 use mathlib.Core.Bool.{Bool, true, false, cond}
-use mathlib.Core.List.{List, [], _∷_}
+use mathlib.Core.List.{List, [], _∷_, _++_}
 use Prim.Native.Nat.{ℕ, zero, suc, _+_, _-_, _*_, _<_, _≤_, min}
+use native.Mathlib.Omega.{arith}
 use lib.Dec.{eqb}
 use lib.ListN.{getD, length, take, drop, replicate}
 use borrow.Author.Tests.{ne-eqb}
@@ -22,7 +23,7 @@ use Rattle.table_format.specs.declared.Record.the-variants.{Initial, Head, Clau
 use Rattle.table_format.specs.Variables.{variables, nowVar}
 use Rattle.table_format.specs.Format.{recordOf, records, kindOf}
 use Rattle.table_format.specs.Table.{Rule, gather, tableOf}
-use Rattle.table_format.specs.Laws.{records-at, records-end}
+use Rattle.table_format.specs.RecordsAt.{records-at, records-end}
 use Rattle.table_semantics.specs.declared.Variables.{Variables}
 use Rattle.table_semantics.specs.declared.Stepped.{Stepped}
 use Rattle.table_semantics.specs.Rules.{enabledRules, Write, writes, inconsistent, written}
@@ -31,7 +32,7 @@ use Rattle.table_semantics.specs.Runs.{values, variablesOf, steppedTo}
 use Rattle.table_search.specs.declared.Found.{Found}
 use Rattle.table_rules.specs.At.{ruleAt}
 use Rattle.table_rules.specs.Bits.{values-zero, length-values}
-use Rattle.table_index.specs.Index.{rulesIn, listedIn, rulesBy, stepBy}
+use Rattle.table_index.specs.Index.{listed, rulesIn, listedIn, rulesBy, stepBy}
 use Rattle.table_index.specs.IndexLaws.{words-same, words-within}
 use Rattle.table_semantics.specs.MachineLaws.{choice, firing, fire-by-choice, none, one, several, oneTick}
 use Rattle.table_search.specs.Enabled.{rulesFound}
@@ -52,6 +53,10 @@ module _ (t : List ℕ) (s : Variables) (e : Event) (f : Found) (l : List Rule) 
   pub fire-several : (f .count ≡ 0 → ⊥) → (f .count ≡ 1 → ⊥) → refuse ConflictingRules s ≡ fire s e l
   unfolding rulesFound choice firing
   fire-several z y = rw (ne-eqb (f .count) 0 z, ne-eqb (f .count) 1 y) at found
+
+-- no rules stand behind the table's end
+pub rest-none : (s words : List ℕ) (p : ℕ) → length s ≤ p → rulesIn s words (length s) ≡ rulesIn s words p
+rest-none s words p h = ap (λ (r : List Record). listed s words ++ gather r .rules) (records-end s (length s) (omega arith) ∙ sym (records-end s p h))
 
 -- ---- the start: what a record says of the variables
 unfoldable pub initialAfter : List Value → Record → List Value

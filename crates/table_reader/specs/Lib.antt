@@ -1,2 +1,4 @@
 pub mod Reading
-pub mod Laws
+pub mod Steps
+pub mod Walked
+pub mod Counted

@@ -28,9 +28,9 @@ pub struct Step {
 pub fn place_after(table: &[u8], at: usize) -> usize
     ensures { λ r. ⌜ r ≡ placeAfter (now (table .entry)) at ⌝ }
 {
-    let w = Notation::Table;
-    let n = records::part_length_at(w, table, at);
-    at + n
+    let notation = Notation::Table;
+    let size = records::part_length_at(notation, table, at);
+    at + size
 }
 
 pub fn part_at(table: &[u8], at: usize) -> &[u8]
@@ -47,8 +47,8 @@ pub fn found_at(table: &[u8], at: usize) -> Found
     ensures { λ r. ⌜ r ≡ foundAt (now (table .entry)) at ⌝ }
 {
     if at < table.len() {
-        let x = table_format::record_of(part_at(table, at));
-        return Found::One(x);
+        let found = table_format::record_of(part_at(table, at));
+        return Found::One(found);
     }
     Found::End
 }
@@ -101,19 +101,19 @@ impl<'a> Reader<'a> {
 pub fn step_at(table: &[u8], at: usize) -> Step
     ensures { λ r. ⌜ r ≡ stepAt (now (table .entry)) at ⌝ }
 {
-    let r = Reader { table, at };
-    let f = r.found();
-    let q = r.next();
+    let reader = Reader { table, at };
+    let found = reader.found();
+    let next = reader.next();
     Step {
-        found: f,
-        next: q.at,
+        found: found,
+        next: next.at,
     }
 }
 
-fn rule_in(x: Record) -> usize
-    ensures { λ r. ⌜ r ≡ ruleIn x ⌝ }
+fn rule_in(found: Record) -> usize
+    ensures { λ r. ⌜ r ≡ ruleIn found ⌝ }
 {
-    match x {
+    match found {
         Record::Initial(_) => 0,
         Record::Head(_) => 1,
         Record::Clause => 0,
@@ -124,11 +124,11 @@ fn rule_in(x: Record) -> usize
     }
 }
 
-fn rules_in(f: Found) -> usize
-    ensures { λ r. ⌜ r ≡ rulesIn f ⌝ }
+fn rules_in(found: Found) -> usize
+    ensures { λ r. ⌜ r ≡ rulesIn found ⌝ }
 {
-    match f {
-        Found::One(x) => rule_in(x),
+    match found {
+        Found::One(one) => rule_in(one),
         Found::End => 0,
     }
 }
@@ -137,13 +137,13 @@ fn rules_in(f: Found) -> usize
 pub fn count_rules(table: &[u8]) -> usize
     ensures { λ r. ⌜ r ≡ countRules (records (now (table .entry))) ⌝ }
 {
-    let mut n: usize = 0;
+    let mut count: usize = 0;
     let mut at: usize = 0;
     while at < table.len() {
-        let t = step_at(table, at);
-        let f = t.found;
-        n += rules_in(f);
-        at = t.next;
+        let step = step_at(table, at);
+        let found = step.found;
+        count += rules_in(found);
+        at = step.next;
     }
-    n
+    count
 }

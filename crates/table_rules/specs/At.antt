@@ -2,6 +2,7 @@
 use mathlib.Core.List.{List}
 use Prim.Native.Nat.{ℕ}
 use lib.ListN.{take, drop}
+use Rattle.records.specs.Format.{headSize}
 use Rattle.table_format.specs.declared.RuleHead.{RuleHead}
 use Rattle.table_format.specs.declared.Atom.{Atom}
 use Rattle.table_format.specs.Format.{records, headOf}
@@ -12,7 +13,7 @@ abbrev pub bytesAt : List ℕ → ℕ → ℕ → List ℕ
 bytesAt s p m = take m (drop p s)
 
 abbrev pub headIn : List ℕ → ℕ → RuleHead
-headIn s p = headOf (bytesAt s p 11)
+headIn s p = headOf (bytesAt s p headSize)
 
 -- the clauses of the rule whose records after its head begin at p
 abbrev pub clausesAt : List ℕ → ℕ → List (List Atom)

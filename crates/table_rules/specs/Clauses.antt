@@ -18,7 +18,7 @@ use Rattle.table_format.specs.declared.Record.the-variants.{Initial, Head, Clau
 use Rattle.table_format.specs.Variables.{nowVar}
 use Rattle.table_format.specs.Format.{recordOf, records, atomOf, kindOf}
 use Rattle.table_format.specs.Table.{gather}
-use Rattle.table_format.specs.Laws.{records-end}
+use Rattle.table_format.specs.RecordsAt.{records-end}
 use Rattle.table_semantics.specs.Rules.{valueOf, operandValue, holdsOp, holds, clauseHolds, allHold}
 use Rattle.table_rules.specs.At.{bytesAt, clausesAt}
 use Rattle.table_rules.specs.Places.{clause-records, head-records, atom-records, head-cut, atom-cut, other-records, other-kind}

@@ -13,7 +13,8 @@ use Rattle.table_format.specs.declared.Record.{Record}
 use Rattle.table_format.specs.declared.Record.the-variants.{Initial, Head, Clause, Atomic, Change, Cut, Unknown}
 use Rattle.table_format.specs.Format.{recordOfWhole, recordOf, records, headOf, atomOf, updateOf, kindOf}
 use Rattle.table_format.specs.Table.{gather}
-use Rattle.table_format.specs.Laws.{record-whole, record-cut, kind-unknown, kind-cut, kind-whole, records-at, records-end}
+use Rattle.table_format.specs.Decoded.{record-whole, record-cut, kind-unknown, kind-cut, kind-whole}
+use Rattle.table_format.specs.RecordsAt.{records-at, records-end}
 use Rattle.table_rules.specs.At.{bytesAt, headIn}
 
 pub first-byte : (s : List ℕ) (p m : ℕ) → p < length s → m ≡ partLengthAt notations.Table s p → getD (bytesAt s p m) 0 0 ≡ getD s p 0

@@ -14,7 +14,7 @@ use Rattle.table_format.specs.declared.Record.{Record}
 use Rattle.table_format.specs.declared.Record.the-variants.{Initial, Head, Clause, Atomic, Change, Cut, Unknown}
 use Rattle.table_format.specs.Format.{recordOf, records, kindOf}
 use Rattle.table_format.specs.Table.{Rule, gather}
-use Rattle.table_format.specs.Laws.{records-at, records-end}
+use Rattle.table_format.specs.RecordsAt.{records-at, records-end}
 use Rattle.table_semantics.specs.Rules.{allHold, enabledRules}
 use Rattle.table_search.specs.declared.Found.{Found}
 use Rattle.table_rules.specs.At.{clausesAt, ruleAt, rulesFrom}

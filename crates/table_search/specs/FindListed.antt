@@ -19,8 +19,8 @@ use Rattle.table_rules.specs.Places.{HeadAt, head-kind, head-id}
 use Rattle.table_search.specs.Enabled.{isAsked, foundOneMore, foundRule, rulesFound, FindsIn, find-rule}
 use Rattle.table_semantics.specs.MachineLaws.{choice}
 use Rattle.table_index.specs.IndexLaws.{and-false}
-use Rattle.table_index.specs.Guards.{mayHold, never}
-use Rattle.table_index.specs.Listed.{parts-of, guard-disables, dropped, listed-over}
+use Rattle.table_index.specs.Guards.{mayHold, untold, never}
+use Rattle.table_index.specs.Listed.{parts-of, guard-disables, rest-is-all, dropped, listed-over}
 
 -- what is found where the rule that two words list is looked at too
 unfoldable pub foundListed : List ℕ → List Value → Event → Found → ℕ → ℕ → Found
@@ -36,21 +36,18 @@ find-listed s v e f w g l r = go (isListed s w g)
     go true = find-rule s v e f (w / 65536 + 11) (headIn s (w / 65536)) (listed s l ++ r)
     go false = refl
 
+both-true : (a b : Bool) → (a && b) ≡ true → (a ≡ true) × (b ≡ true)
+both-true true b h = (refl, h)
+both-true false b h = never (sym h)
+
 -- by how the code tells
 asked-key : (s : List ℕ) (p : ℕ) (e : Event) → HeadAt s p → isAsked e (headIn s p) ≡ true → keyAt s p ≡ keyOf (e .kind) (e .id)
 unfolding isAsked
 asked-key s p e h a =
-    let x : headIn s p .kind ≡ e .kind = eqb-true (headIn s p .kind) (e .kind) (first (eqb (headIn s p .kind) (e .kind)) (eqb (headIn s p .id) (e .id)) a) in
-    let y : headIn s p .id ≡ e .id = eqb-true (headIn s p .id) (e .id) (second (eqb (headIn s p .kind) (e .kind)) (eqb (headIn s p .id) (e .id)) a) in
+    let b = both-true (eqb (headIn s p .kind) (e .kind)) (eqb (headIn s p .id) (e .id)) a in
+    let x : headIn s p .kind ≡ e .kind = eqb-true (headIn s p .kind) (e .kind) (b .0) in
+    let y : headIn s p .id ≡ e .id = eqb-true (headIn s p .id) (e .id) (b .1) in
     rw (head-kind s p h, head-id s p h, x, y)
-  where
-    first : (a c : Bool) → (a && c) ≡ true → a ≡ true
-    first true c z = refl
-    first false c z = z
-
-    second : (a c : Bool) → (a && c) ≡ true → c ≡ true
-    second true c z = z
-    second false c z = never (sym z)
 
 module _ (s : List ℕ) (v : List Value) (e : Event) (f : Found) (w g : ℕ) where
   found-unless : (isListed s w g ≡ true → (isAsked e (headIn s (w / 65536)) && allHold v (clausesAt s (w / 65536 + 11))) ≡ false) → f ≡ foundListed s v e f w g
@@ -73,22 +70,29 @@ module _ (s : List ℕ) (v : List Value) (e : Event) (f : Found) (w g : ℕ) whe
   pub found-guarded : (b : Bool) → b ≡ mayHold v g → b ≡ false → f ≡ foundListed s v e f w g
   found-guarded b q z = found-unless (λ h. rw (guard-disables s w g h v (sym q ∙ z)) (and-false (isAsked e (headIn s (w / 65536)))))
 
-  pub found-not-enabled : (b : Bool) → b ≡ allHold v (clausesAt s (w / 65536 + 11)) → b ≡ false → f ≡ foundListed s v e f w g
-  found-not-enabled b q z = found-unless (λ h. rw (← q, z) (and-false (isAsked e (headIn s (w / 65536)))))
+  -- the guard holds; b is whether the words list a rule and the rest of it holds
+  module _ (m : Bool) (k : m ≡ mayHold v g) (t : m ≡ true) (b : Bool) (q : b ≡ (isListed s w g && allHold v (clausesAt s (untold w g)))) where
+    whole : b ≡ (isListed s w g && allHold v (clausesAt s (w / 65536 + 11)))
+    whole = q ∙ rest-is-all s w g v m k t
 
-  module _ (b : Bool) (q : b ≡ isListed s w g) where
-    pub found-not-listed : b ≡ false → f ≡ foundListed s v e f w g
-    unfolding foundListed
-    found-not-listed z = rw (← q, z)
+    pub found-not-enabled : b ≡ false → f ≡ foundListed s v e f w g
+    found-not-enabled z =
+        found-unless (λ h. let y : allHold v (clausesAt s (w / 65536 + 11)) ≡ false = rw h at (sym whole ∙ z) in rw y (and-false (isAsked e (headIn s (w / 65536)))))
 
-    module _ (z : b ≡ true) (h : RuleHead) (i : h ≡ headIn s (w / 65536)) (a : Bool) (k : a ≡ isAsked e h) where
-      pub found-not-asked : a ≡ false → f ≡ foundListed s v e f w g
-      unfolding foundListed foundRule
-      found-not-asked y = rw (← q, z, ← i, ← k, y)
+    module _ (z : b ≡ true) where
+      parts-true : (isListed s w g ≡ true) × (allHold v (clausesAt s (w / 65536 + 11)) ≡ true)
+      parts-true = both-true (isListed s w g) (allHold v (clausesAt s (w / 65536 + 11))) (sym whole ∙ z)
 
-      pub found-listed : a ≡ true → (c : Bool) → c ≡ allHold v (clausesAt s (w / 65536 + 11)) → c ≡ true → foundOneMore f (w / 65536 + 11) h ≡ foundListed s v e f w g
-      unfolding foundListed foundRule
-      found-listed y c l x = rw (← q, z, ← i, ← k, y, ← l, x)
+      pub found-head : HeadAt s (w / 65536)
+      found-head = parts-of s w g (parts-true .0) .0
+
+      module _ (h : RuleHead) (i : h ≡ headIn s (w / 65536)) (a : Bool) (n : a ≡ isAsked e h) where
+        pub found-not-asked : a ≡ false → f ≡ foundListed s v e f w g
+        found-not-asked y = found-unless (λ x. rw (← i, ← n, y))
+
+        pub found-listed : a ≡ true → foundOneMore f (w / 65536 + 11) h ≡ foundListed s v e f w g
+        unfolding foundListed foundRule
+        found-listed y = rw (parts-true .0, parts-true .1, ← i, ← n, y)
 
 -- ---- its loop: i of the words are looked at
 

@@ -100,7 +100,7 @@ fn find_from(table: &[u8], from: usize, bits: &[u32], event: Event, before: Foun
     found
 }
 
-// What is found where the rule that two words list is looked at too. The words are checked last: few rules are enabled.
+// What is found where the rule that two words list is looked at too.
 fn found_listed(
     table: &[u8],
     bits: &[u32],
@@ -114,14 +114,11 @@ fn found_listed(
     if !table_index::may_hold(bits, guard) {
         return found;
     }
+    if !table_index::rest_holds(table, bits, word, guard) {
+        return found;
+    }
     let at = word / KEYS;
     let next = at + RULE_SIZE;
-    if !table_rules::is_enabled(table, next, bits) {
-        return found;
-    }
-    if !table_index::is_listed(table, word, guard) {
-        return found;
-    }
     let head = table_format::head_of(&table[at..next]);
     if !is_asked(event, head) {
         return found;

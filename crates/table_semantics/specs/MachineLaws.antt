@@ -66,13 +66,13 @@ module _ (l : List Rule) (s : Variables) (e : Event) (b : Bool) (g : b ≡ isBro
   unfolding step
   step-broken h = rw (← g, h)
 
-  pub step-ticks : b ≡ false → e .kind ≡ 11 → ticks l s (e .amount) (s .value) ≡ step l s e
+  pub step-ticks : b ≡ false → e .kind ≡ tickKind → ticks l s (e .amount) (s .value) ≡ step l s e
   unfolding step
   step-ticks h k = rw (← g, h, k)
 
-  pub step-fires : b ≡ false → (e .kind ≡ 11 → ⊥) → fire s e (enabledRules (s .value) (e .kind) (e .id) l) ≡ step l s e
+  pub step-fires : b ≡ false → (e .kind ≡ tickKind → ⊥) → fire s e (enabledRules (s .value) (e .kind) (e .id) l) ≡ step l s e
   unfolding step
-  step-fires h k = rw (← g, h, ne-eqb (e .kind) 11 k)
+  step-fires h k = rw (← g, h, ne-eqb (e .kind) tickKind k)
 
 -- the variables one tick later
 abbrev pub oneTick : List Value → List Value

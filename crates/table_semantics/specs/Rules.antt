@@ -9,9 +9,11 @@ use Rattle.numbers.specs.Lists.{item, store}
 use Rattle.numbers.specs.Values.{value, natural, signed, bitsOf, combine, compares, sameValue}
 use Rattle.numbers.specs.Multiples.{isMultiple}
 use Rattle.records.specs.declared.Operand.{Operand}
+use Rattle.records.specs.Format.{constantTag}
 use Rattle.table_format.specs.declared.Atom.{Atom}
 use Rattle.table_format.specs.declared.Update.{Update}
 use Rattle.table_format.specs.Variables.{variables, noVariable}
+use Rattle.table_format.specs.Format.{variableTag, multipleOp}
 use Rattle.table_format.specs.Table.{Rule}
 
 -- variable j; one that is not there reads 0
@@ -21,13 +23,13 @@ valueOf v j = item variables v j (natural 0)
 -- "tag 0 constant, 1 variable, 2 chosen length"; n is the chosen length
 unfoldable pub operandValue : ℕ → List Value → Operand → Value
 operandValue n v o =
-    cond (eqb (o .tag) 0) (o .value) (cond (eqb (o .tag) 1) (valueOf v (bitsOf (o .value .0))) (value (signed n)))
+    cond (eqb (o .tag) constantTag) (o .value) (cond (eqb (o .tag) variableTag) (valueOf v (bitsOf (o .value .0))) (value (signed n)))
 
 -- "Ops 6 and 7: (not) a multiple of a constant above 0."
 unfoldable pub holdsOp : ℕ → Value → Value → Bool
 holdsOp op x y =
-    cond (ltb op 6) (compares op x y)
-    (cond (eqb op 6) (isMultiple (natAbs (x .0)) (bitsOf (y .0))) (not (isMultiple (natAbs (x .0)) (bitsOf (y .0)))))
+    cond (ltb op multipleOp) (compares op x y)
+    (cond (eqb op multipleOp) (isMultiple (natAbs (x .0)) (bitsOf (y .0))) (not (isMultiple (natAbs (x .0)) (bitsOf (y .0)))))
 
 unfoldable pub holds : List Value → Atom → Bool
 holds v a = holdsOp (a .op) (valueOf v (a .variable)) (operandValue 0 v (a .right))

@@ -6,12 +6,14 @@ use mathlib.Core.List.{List, _∷_, _++_}
 use Prim.Native.Nat.{ℕ, _+_, _-_, _/_, _%_, _<_, _≤_}
 use lib.ListN.{getD, length, drop}
 use lib.Dec.{eqb, ltb}
+use borrow.Author.Tests.{ne-eqb}
+use native.Mathlib.Omega.{arith}
 use Rattle.numbers.specs.declared.Value.{Value}
 use Rattle.numbers.specs.Values.{value, signed, sameValue}
 use Rattle.table_format.specs.Variables.{variables}
 use Rattle.table_semantics.specs.Rules.{valueOf, allHold}
 use Rattle.numbers.specs.Lists.{firstBelow}
-use Rattle.numbers.specs.ListLaws.{first-none}
+use Rattle.numbers.specs.ListLaws.{first-none, first-found}
 use Rattle.records.specs.Events.{requestKind}
 use Rattle.table_format.specs.Table.{Rule}
 use Rattle.table_semantics.specs.Machine.{isBusy}
@@ -21,8 +23,8 @@ use Rattle.table_ticks.specs.Ticking.{later, later-other, first-before, 
 use Rattle.table_index.specs.Index.{isHead, isListed, listed}
 use Rattle.table_rules.specs.Places.{HeadAt, head-kind}
 use Rattle.table_ticks.specs.Stops.{ruleStops}
-use Rattle.table_index.specs.Guards.{mayHold}
-use Rattle.table_index.specs.Listed.{listed-no-head, listed-head, guard-disables, dropped, listed-over}
+use Rattle.table_index.specs.Guards.{mayHold, untold}
+use Rattle.table_index.specs.Listed.{listed-no-head, listed-head, guard-disables, rest-is-all, dropped, listed-over}
 
 -- ---- only the clock changes with the ticks, so a guard that fails fails at every one of them
 pub later-may : (i : ℕ) (v : List Value) (g : ℕ) → mayHold (later i v) g ≡ mayHold v g
@@ -77,6 +79,33 @@ module _ (s : List ℕ) (v : List Value) (n w g : ℕ) where
   pub stops-no-head : (b : Bool) → b ≡ isHead s (w / 65536) → b ≡ false → n ≡ firstBelow n (λ i. listedStops s (later i v) w g)
   unfolding listedStops
   stops-no-head b e z = sym (first-none n (λ i. listedStops s (later i v) w g) (λ i h. rw (← listed-no-head s w g b e z)))
+
+  -- a rule for REQUEST stops no tick; k is the event kind
+  pub stops-request : HeadAt s (w / 65536) → (k : ℕ) → k ≡ getD s (w / 65536 + 1) 0 → k ≡ 8 → n ≡ firstBelow n (λ i. listedStops s (later i v) w g)
+  unfolding listedStops ruleStops
+  stops-request h k x z =
+      let q : headIn s (w / 65536) .kind ≡ 8 = sym (head-kind s (w / 65536) h) ∙ sym x ∙ z in
+      sym (first-none n (λ i. listedStops s (later i v) w g) (λ i l. rw q (and-false (isListed s w g))))
+
+  -- one tick, of another rule whose guard holds; b is whether the words list a rule and the rest of it holds
+  module _ (o : n ≡ 1) (h : HeadAt s (w / 65536)) (k : ℕ) (x : k ≡ getD s (w / 65536 + 1) 0) (z : k ≡ 8 → ⊥) (m : Bool) (y : m ≡ mayHold v g) (t : m ≡ true)
+      (b : Bool) (q : b ≡ (isListed s w g && allHold v (clausesAt s (untold w g)))) where
+    stops-by : b ≡ listedStops s v w g
+    unfolding listedStops ruleStops
+    stops-by =
+        let p : headIn s (w / 65536) .kind ≡ k = sym (x ∙ head-kind s (w / 65536) h) in
+        q ∙ rest-is-all s w g v m y t ∙ rw (p, ne-eqb k 8 z)
+
+    pub stops-now : b ≡ true → 0 ≡ firstBelow n (λ i. listedStops s (later i v) w g)
+    unfolding later
+    stops-now e = sym (first-found n (λ i. listedStops s (later i v) w g) 0 (omega arith) (sym stops-by ∙ e) (λ j c. absurd (omega arith)))
+
+    pub stops-not-now : b ≡ false → 1 ≡ firstBelow n (λ i. listedStops s (later i v) w g)
+    unfolding later
+    stops-not-now e = sym o ∙ sym (first-none n (λ i. listedStops s (later i v) w g) (λ j c. only j (omega arith)))
+      where
+        only : (j : ℕ) → j ≡ 0 → listedStops s (later j v) w g ≡ false
+        only j u = rw u (sym stops-by ∙ e)
 
   -- its rule stops none of n ticks: listed or not
   pub stops-none : HeadAt s (w / 65536) → (k : ℕ) → k ≡ getD s (w / 65536 + 1) 0 → (r : ℕ) → r ≡ firstBelow n (λ i. ruleStops s (later i v) (w / 65536 + 11) k) →

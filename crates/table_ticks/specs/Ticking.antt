@@ -17,6 +17,7 @@ use Rattle.numbers.specs.Values.{natural, plus, bitsOf}
 use Rattle.records.specs.declared.Notation.the-variants as notations
 use Rattle.records.specs.declared.Operand.{Operand}
 use Rattle.records.specs.Format.{partLengthAt}
+use Rattle.records.specs.Events.{requestKind}
 use Rattle.table_format.specs.declared.RuleHead.{RuleHead}
 use Rattle.table_format.specs.declared.Atom.{Atom}
 use Rattle.table_format.specs.declared.Record.{Record}
@@ -24,7 +25,7 @@ use Rattle.table_format.specs.declared.Record.the-variants.{Head}
 use Rattle.table_format.specs.Variables.{variables, nowVar}
 use Rattle.table_format.specs.Format.{recordOf, records, kindOf}
 use Rattle.table_format.specs.Table.{Rule, gather}
-use Rattle.table_format.specs.Laws.{records-at, records-end}
+use Rattle.table_format.specs.RecordsAt.{records-at, records-end}
 use Rattle.table_semantics.specs.Rules.{valueOf, operandValue, holds, clauseHolds, allHold}
 use Rattle.table_semantics.specs.MachineLaws.{oneTick}
 use Rattle.table_index.specs.IndexLaws.{and-false}
@@ -193,22 +194,22 @@ module _ (s : List ℕ) (v : List Value) (n q : ℕ) where
 
   -- k is its event kind
   module _ (k : ℕ) where
-    pub request-never : k ≡ 8 → n ≡ firstBelow n (λ i. ruleStops s (later i v) q k)
+    pub request-never : k ≡ requestKind → n ≡ firstBelow n (λ i. ruleStops s (later i v) q k)
     unfolding ruleStops
     request-never e = sym (first-none n (λ i. ruleStops s (later i v) q k) (λ j b. rw e))
 
     pub none-left : n ≡ 0 → n ≡ firstBelow n (λ i. ruleStops s (later i v) q k)
     none-left z = let w = first-within n (λ i. ruleStops s (later i v) q k) in omega arith
 
-    module _ (e : k ≡ 8 → ⊥) where
+    module _ (e : k ≡ requestKind → ⊥) where
       pub rule-never : (b : Bool) → b ≡ allPass true v (clausesAt s q) → b ≡ false → n ≡ firstBelow n (λ i. ruleStops s (later i v) q k)
       unfolding ruleStops
       rule-never b g f =
-          sym (first-none n (λ i. ruleStops s (later i v) q k) (λ j c. rw (ne-eqb k 8 e) (all-fail j v (clausesAt s q) (sym g ∙ f))))
+          sym (first-none n (λ i. ruleStops s (later i v) q k) (λ j c. rw (ne-eqb k requestKind e) (all-fail j v (clausesAt s q) (sym g ∙ f))))
 
       pub rule-first : firstBelow n (λ i. allHold (later i v) (clausesAt s q)) ≡ firstBelow n (λ i. ruleStops s (later i v) q k)
       unfolding ruleStops
-      rule-first = first-same n (λ i. allHold (later i v) (clausesAt s q)) (λ i. ruleStops s (later i v) q k) (λ i. rw (ne-eqb k 8 e))
+      rule-first = first-same n (λ i. allHold (later i v) (clausesAt s q)) (λ i. ruleStops s (later i v) q k) (λ i. rw (ne-eqb k requestKind e))
 
       -- one tick
       module _ (o : n ≡ 1) (b : Bool) (g : b ≡ allHold v (clausesAt s q)) where

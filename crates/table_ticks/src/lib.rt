@@ -145,15 +145,28 @@ fn quiet_from(table: &[u8], from: usize, bits: &[u32], n: u32) -> u32
     limit
 }
 
-// After how many ticks the rule that two words list stops them. The words are checked last: few rules stop a tick.
+// After how many ticks the rule that two words list stops them; one whose guard fails stops none. The words are checked last: few rules stop a tick.
 fn ticks_to_listed(table: &[u8], bits: &[u32], limit: u32, word: usize, guard: usize) -> u32
     ensures { λ r. ⌜ r ≡ firstBelow limit (λ i. listedStops (now (table .entry)) (later i (values (now (bits .entry)))) word guard) ⌝ }
 {
+    if !table_index::may_hold(bits, guard) {
+        return limit;
+    }
     let at = word / KEYS;
     if !table_index::is_head(table, at) {
         return limit;
     }
     let kind = table[at + 1];
+    if kind == REQUEST {
+        return limit;
+    }
+    if limit == 1 {
+        return if table_index::rest_holds(table, bits, word, guard) {
+            0
+        } else {
+            1
+        };
+    }
     let n = ticks_to_rule(table, bits, limit, at + RULE_SIZE, kind);
     if n == limit {
         return limit;
@@ -164,7 +177,7 @@ fn ticks_to_listed(table: &[u8], bits: &[u32], limit: u32, word: usize, guard: u
     n
 }
 
-// How many of n ticks pass before some rule that words list stops them. Words whose guard fails are passed over.
+// How many of n ticks pass before some rule that words list stops them.
 fn quiet_listed(table: &[u8], words: &[usize], bits: &[u32], n: u32) -> u32
     ensures { λ r. ⌜ QuietListed (now (table .entry)) (values (now (bits .entry))) n (now (words .entry)) r ⌝ }
 {
@@ -172,10 +185,6 @@ fn quiet_listed(table: &[u8], words: &[usize], bits: &[u32], n: u32) -> u32
     let mut i: usize = 0;
     while i + 1 < words.len() {
         let guard = words[i + 1];
-        if !table_index::may_hold(bits, guard) {
-            i += 2;
-            continue;
-        }
         limit = ticks_to_listed(table, bits, limit, words[i], guard);
         i += 2;
     }

@@ -27,13 +27,20 @@ use Rattle.table_format.specs.declared.Record.the-variants.{Initial, Head, Clau
 use Rattle.table_format.specs.Variables.{variables}
 use Rattle.table_format.specs.Format.{recordOf, records, updateOf, kindOf}
 use Rattle.table_format.specs.Table.{gather}
-use Rattle.table_format.specs.Laws.{records-end}
+use Rattle.table_format.specs.RecordsAt.{records-end}
 use Rattle.table_semantics.specs.Rules.{applies, newValue, Write, writes, writtenTo, inconsistent, written}
 use Rattle.table_semantics.specs.RuleLaws.{writes-first}
 use Rattle.table_semantics.specs.Runs.{values}
 use Rattle.table_rules.specs.Bits.{values-store, length-values, put-length}
 use Rattle.table_rules.specs.At.{bytesAt}
 use Rattle.table_rules.specs.Places.{head-records, head-cut, update-records, update-cut, other-records, other-kind}
+
+-- how many updates most rules have at most, and how many numbers a target can have
+abbrev pub fewUpdates : ℕ
+fewUpdates = 64
+
+abbrev pub targetNumbers : ℕ
+targetNumbers = 65536
 
 -- ---- targets written twice, or marked before
 unfoldable pub clashes : (ℕ → Bool) → List Write → Bool
@@ -344,7 +351,7 @@ pub record Collected (w : List Write) (v : List Value) (r k : ℕ) (t n : List �
   pub small : r < 3
   pub targets : length t ≡ a
   pub news : length n ≡ b
-  pub wide : r ≡ 2 → 65536 ≤ c → variables ≤ a → variables ≤ b → ⊥
+  pub wide : r ≡ 2 → targetNumbers ≤ c → variables ≤ a → variables ≤ b → ⊥
   pub twice : (r ≡ 2 → ⊥) → eqb r 1 ≡ inconsistent w
   pub bits : r ≡ 0 → written (pending k t n) v ≡ written w v
 
@@ -481,7 +488,7 @@ writing-end k m t n v₀ v i em q eq w h =
 pub record Fired (w : List Write) (v : List ℕ) (r : ℕ) (v′ : List ℕ) (a b c : ℕ) : Type 0 where
   pub small : r < 3
   pub size : length v′ ≡ length v
-  pub wide : r ≡ 2 → 65536 ≤ c → variables ≤ a → variables ≤ b → ⊥
+  pub wide : r ≡ 2 → targetNumbers ≤ c → variables ≤ a → variables ≤ b → ⊥
   pub twice : (r ≡ 2 → ⊥) → eqb r 1 ≡ inconsistent w
   pub same : (r ≡ 0 → ⊥) → v′ ≡ v
   pub taken : r ≡ 0 → values v′ ≡ written w (values v)

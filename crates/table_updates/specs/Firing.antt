@@ -8,6 +8,7 @@ use lib.Dec.{leb}
 use borrow.Author.Tests.{eq-eqb, ne-eqb}
 use Rattle.records.specs.declared.Cause.the-variants.{NotEnabled, InconsistentUpdates}
 use Rattle.records.specs.declared.Event.{Event}
+use Rattle.records.specs.Events.{startKind}
 use Rattle.table_format.specs.declared.RuleHead.{RuleHead}
 use Rattle.table_semantics.specs.declared.Variables.{Variables}
 use Rattle.table_semantics.specs.Machine.{refuse, accept, allowsLength, fire}
@@ -15,7 +16,7 @@ use Rattle.table_semantics.specs.Runs.{values, variablesOf, steppedTo}
 use Rattle.table_format.specs.Variables.{variables}
 use Rattle.table_rules.specs.At.{ruleAt}
 use Rattle.table_semantics.specs.MachineLaws as laws
-use Rattle.table_updates.specs.Applied.{writesFrom, Fired, headAllows}
+use Rattle.table_updates.specs.Applied.{writesFrom, targetNumbers, Fired, headAllows}
 
 -- ---- the one enabled rule: a is whether it allows the event's length, w what its updates have come to
 module _ (t : List ℕ) (s : Variables) (e : Event) (p : ℕ) (h : RuleHead) (a : Bool) (g : a ≡ headAllows e h) where
@@ -24,7 +25,7 @@ module _ (t : List ℕ) (s : Variables) (e : Event) (p : ℕ) (h : RuleHead) (a 
   fire-outside z = laws.fire-outside s e (ruleAt t p h) (sym g ∙ z)
 
   module _ (z : a ≡ true) (v : List ℕ) (f : s ≡ variablesOf v) (c : ℕ) (v′ : List ℕ)
-      (r : Fired (writesFrom (e .amount) (values v) t p) v c v′ variables variables 65536) where
+      (r : Fired (writesFrom (e .amount) (values v) t p) v c v′ variables variables targetNumbers) where
     pub fire-twice : c ≡ 1 → steppedTo InconsistentUpdates v′ ≡ fire s e (ruleAt t p h ∷ [])
     unfolding allowsLength headAllows
     fire-twice y =
@@ -45,10 +46,10 @@ module _ (t : List ℕ) (s : Variables) (e : Event) (p : ℕ) (h : RuleHead) (a 
         none (suc (suc zero)) h a b = absurd (b refl)
         none (suc (suc (suc c))) h a b = absurd (omega arith)
 
-pub allows-other : (e : Event) (h : RuleHead) → (e .kind ≡ 4 → ⊥) → true ≡ headAllows e h
+pub allows-other : (e : Event) (h : RuleHead) → (e .kind ≡ startKind → ⊥) → true ≡ headAllows e h
 unfolding headAllows
-allows-other e h k = rw (ne-eqb (e .kind) 4 k)
+allows-other e h k = rw (ne-eqb (e .kind) startKind k)
 
-pub allows-start : (e : Event) (h : RuleHead) → e .kind ≡ 4 → (leb (h .low) (e .amount) && leb (e .amount) (h .high)) ≡ headAllows e h
+pub allows-start : (e : Event) (h : RuleHead) → e .kind ≡ startKind → (leb (h .low) (e .amount) && leb (e .amount) (h .high)) ≡ headAllows e h
 unfolding headAllows
 allows-start e h k = rw k

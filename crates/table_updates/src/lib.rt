@@ -22,7 +22,7 @@ ghost use Rattle.table_semantics.specs.Rules as rules;
 ghost use Rattle.table_semantics.specs.Machine as machine;
 ghost use Rattle.table_semantics.specs.Runs.{values, variablesOf, steppedTo};
 ghost use Rattle.table_rules.specs.At.{ruleAt};
-ghost use Rattle.table_updates.specs.Applied.{Unmarked, writesFrom, markedBelow, pending, Gathers, Collected, Fired, headAllows};
+ghost use Rattle.table_updates.specs.Applied.{Unmarked, writesFrom, markedBelow, pending, Gathers, Collected, fewUpdates, targetNumbers, Fired, headAllows};
 
 // ---- updates
 // Whether the update that a part holds applies.
@@ -217,7 +217,7 @@ fn fire_within(
 
 // Most rules have few updates.
 fn fire_few(table: &[u8], place: usize, n: u32, bits: &mut [u32]) -> u8
-    ensures { λ r. ⌜ Fired (writesFrom n (values (now (bits .entry))) (now (table .entry)) place) (now (bits .entry)) r (now (bits .exit)) 64 64 variables ⌝ }
+    ensures { λ r. ⌜ Fired (writesFrom n (values (now (bits .entry))) (now (table .entry)) place) (now (bits .entry)) r (now (bits .exit)) fewUpdates fewUpdates variables ⌝ }
 {
     let mut targets = [0; FEW];
     let mut news = [0; FEW];
@@ -227,7 +227,7 @@ fn fire_few(table: &[u8], place: usize, n: u32, bits: &mut [u32]) -> u8
 
 // As many as there are variables, and a mark for each number that a target can have, always do.
 fn fire_many(table: &[u8], place: usize, n: u32, bits: &mut [u32]) -> u8
-    ensures { λ r. ⌜ Fired (writesFrom n (values (now (bits .entry))) (now (table .entry)) place) (now (bits .entry)) r (now (bits .exit)) variables variables 65536 ⌝ }
+    ensures { λ r. ⌜ Fired (writesFrom n (values (now (bits .entry))) (now (table .entry)) place) (now (bits .entry)) r (now (bits .exit)) variables variables targetNumbers ⌝ }
 {
     let mut targets = [0; VARIABLES];
     let mut news = [0; VARIABLES];
@@ -236,7 +236,7 @@ fn fire_many(table: &[u8], place: usize, n: u32, bits: &mut [u32]) -> u8
 }
 
 fn fire_updates(table: &[u8], place: usize, n: u32, bits: &mut [u32]) -> u8
-    ensures { λ r. ⌜ Fired (writesFrom n (values (now (bits .entry))) (now (table .entry)) place) (now (bits .entry)) r (now (bits .exit)) variables variables 65536 ⌝ }
+    ensures { λ r. ⌜ Fired (writesFrom n (values (now (bits .entry))) (now (table .entry)) place) (now (bits .entry)) r (now (bits .exit)) variables variables targetNumbers ⌝ }
 {
     let few = fire_few(table, place, n, bits);
     if few != 2 {

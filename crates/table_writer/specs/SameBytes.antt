@@ -24,7 +24,7 @@ pub same-as : {o p : Operand} → o ≡ p → SameBytes o p
 same-as e = rw e (record { tag = refl; bits = refl })
 
 -- its bytes are those of n
-pub constant-bytes : (n : ℕ) → Fits w32 n → SameBytes (constantBits n) (record { tag = 0; value = natural n })
+constant-bytes : (n : ℕ) → Fits w32 n → SameBytes (constantBits n) (record { tag = 0; value = natural n })
 constant-bytes n f = record { tag = refl; bits = ofZ-toZ w32 n f }
 
 pub constant-same : (n : ℕ) (o : Operand) → Fits w32 n → o ≡ constantBits n → SameBytes o (record { tag = 0; value = natural n })

@@ -1,6 +1,6 @@
 -- Laws of bytes and records that are written one after the other.
 use mathlib.Core.Path.{_≡_, refl, sym, _∙_, ap}
-use mathlib.Core.List.{List, [], _∷_, _++_, append-assoc}
+use mathlib.Core.List.{List, [], _∷_, _++_}
 use Prim.Native.Nat.{ℕ, suc, _+_, _≤_, min}
 use native.Mathlib.Nat.{add-zero, add-suc, suc-add}
 use native.Mathlib.Numerals.{add-one, add-two, add-three, add-four, add-five, add-six, add-seven, add-eight}
@@ -9,8 +9,8 @@ use native.Mathlib.Decide.{decLe}
 use lib.ListN.{length, set, length-append}
 use lib.Seq.{sets, length-sets, set-out}
 use Rattle.table_format.specs.declared.Record.{Record}
-use Rattle.table_format.specs.declared.Record.the-variants.{Initial, Head, Clause, Atomic, Change, Cut, Unknown}
 use Rattle.table_format.specs.Format.{recordTo, bytesOf}
+use Rattle.table_format.specs.BytesLaws.{bytes-append}
 use Rattle.table_writer.specs.Wrote.{farthest, Wrote, WroteRecords}
 
 -- bytes that the slice has room for
@@ -66,20 +66,6 @@ and-then {d} {e} {f} {at} {p} {q} a b h w x = record { bytes = x .bytes ∙ go (
         sets-past b e p m ∙ sym (sets-append d a b at ∙ ap (λ (l : List ℕ). sets l (at + length a) b) (sym (w .bytes)) ∙ sets-past b e (at + length a) n)
 
 -- ---- the same of lists of records
-bytes-append : (a b : List Record) → bytesOf (a ++ b) ≡ bytesOf a ++ bytesOf b
-unfolding bytesOf
-bytes-append [] b = refl
-bytes-append (x ∷ a) b = ap (recordTo x) (bytes-append a b) ∙ apart x (bytesOf a ++ bytesOf b) ∙ sym (ap (λ (l : List ℕ). l ++ bytesOf b) (apart x (bytesOf a)) ∙ append-assoc (recordTo x []) (bytesOf a) (bytesOf b))
-  where
-    apart : (x : Record) (r : List ℕ) → recordTo x r ≡ recordTo x [] ++ r
-    apart (Initial x) r = unfold recordTo in refl
-    apart (Head x) r = unfold recordTo in refl
-    apart Clause r = unfold recordTo in refl
-    apart (Atomic x) r = unfold recordTo in refl
-    apart (Change x) r = unfold recordTo in refl
-    apart Cut r = unfold recordTo in refl
-    apart Unknown r = unfold recordTo in refl
-
 pub records-none : (d : List ℕ) (at : ℕ) → at ≤ farthest → WroteRecords d at [] d at
 unfolding bytesOf
 records-none d at h = wrote-nothing d at h

@@ -12,137 +12,146 @@ ghost use Rattle.table_format.specs.Format.{operandTo, recordTo};
 ghost use Rattle.table_writer.specs.Wrote.{farthest, Wrote};
 use numbers::Value;
 use records::Operand;
+use records::TABLE_ATOM;
+use records::TABLE_ATOM_SIZE;
+use records::TABLE_CLAUSE;
+use records::TABLE_RULE;
+use records::TABLE_START;
+use records::TABLE_UPDATE;
 use table_format::Atom;
 use table_format::InitialValue;
 use table_format::Record;
 use table_format::RuleHead;
 use table_format::Update;
 
-// The place n bytes further.
-fn advance(at: usize, n: usize) -> usize
-    ensures { λ r. ⌜ r ≡ min (at + n) farthest ⌝ }
+// The farthest place that can be told.
+const FARTHEST: usize = 18446744073709551615;
+
+// The place so many bytes further.
+fn advance(at: usize, count: usize) -> usize
+    ensures { λ r. ⌜ r ≡ min (at + count) farthest ⌝ }
 {
-    if 18446744073709551615 - n < at {
-        18446744073709551615
+    if FARTHEST - count < at {
+        FARTHEST
     } else {
-        at + n
+        at + count
     }
 }
 
-pub fn put_byte(d: &mut [u8], at: usize, b: u8) -> usize
-    ensures { λ r. ⌜ Wrote (now (d .entry)) at (b ∷ []) (now (d .exit)) r ⌝ }
+pub fn put_byte(output: &mut [u8], at: usize, byte: u8) -> usize
+    ensures { λ r. ⌜ Wrote (now (output .entry)) at (byte ∷ []) (now (output .exit)) r ⌝ }
 {
-    if at < d.len() {
-        d[at] = b;
+    if at < output.len() {
+        output[at] = byte;
         advance(at, 1)
     } else {
         advance(at, 1)
     }
 }
 
-pub fn put_u16(d: &mut [u8], at: usize, n: u16) -> usize
-    ensures { λ r. ⌜ Wrote (now (d .entry)) at (u16To n []) (now (d .exit)) r ⌝ }
+fn put_u16(output: &mut [u8], at: usize, number: u16) -> usize
+    ensures { λ r. ⌜ Wrote (now (output .entry)) at (u16To number []) (now (output .exit)) r ⌝ }
 {
-    numbers::put16(d, at, n);
+    numbers::put16(output, at, number);
     advance(at, 2)
 }
 
-pub fn put_u32(d: &mut [u8], at: usize, n: u32) -> usize
-    ensures { λ r. ⌜ Wrote (now (d .entry)) at (u32To n []) (now (d .exit)) r ⌝ }
+fn put_u32(output: &mut [u8], at: usize, number: u32) -> usize
+    ensures { λ r. ⌜ Wrote (now (output .entry)) at (u32To number []) (now (output .exit)) r ⌝ }
 {
-    numbers::put32(d, at, n);
+    numbers::put32(output, at, number);
     advance(at, 4)
 }
 
-pub fn put_value(d: &mut [u8], at: usize, v: Value) -> usize
-    ensures { λ r. ⌜ Wrote (now (d .entry)) at (u32To (bitsOf (v .0)) []) (now (d .exit)) r ⌝ }
+fn put_value(output: &mut [u8], at: usize, value: Value) -> usize
+    ensures { λ r. ⌜ Wrote (now (output .entry)) at (u32To (bitsOf (value .0)) []) (now (output .exit)) r ⌝ }
 {
-    put_u32(d, at, numbers::bits(v))
+    put_u32(output, at, numbers::bits(value))
 }
 
-pub fn put_operand(d: &mut [u8], at: usize, o: Operand) -> usize
-    ensures { λ r. ⌜ Wrote (now (d .entry)) at (operandTo o []) (now (d .exit)) r ⌝ }
+fn put_operand(output: &mut [u8], at: usize, operand: Operand) -> usize
+    ensures { λ r. ⌜ Wrote (now (output .entry)) at (operandTo operand []) (now (output .exit)) r ⌝ }
 {
-    let v = o.value;
-    let p = put_byte(d, at, o.tag);
-    put_value(d, p, v)
+    let value = operand.value;
+    let at = put_byte(output, at, operand.tag);
+    put_value(output, at, value)
 }
 
-pub fn put_initial(d: &mut [u8], at: usize, x: InitialValue) -> usize
-    ensures { λ r. ⌜ Wrote (now (d .entry)) at (recordTo (Record.Initial x) []) (now (d .exit)) r ⌝ }
+pub fn put_initial(output: &mut [u8], at: usize, initial: InitialValue) -> usize
+    ensures { λ r. ⌜ Wrote (now (output .entry)) at (recordTo (Record.Initial initial) []) (now (output .exit)) r ⌝ }
 {
-    let v = x.value;
-    let p = put_byte(d, at, 32);
-    let q = put_u16(d, p, x.variable);
-    put_value(d, q, v)
+    let value = initial.value;
+    let at = put_byte(output, at, TABLE_START);
+    let at = put_u16(output, at, initial.variable);
+    put_value(output, at, value)
 }
 
-pub fn put_head(d: &mut [u8], at: usize, x: RuleHead) -> usize
-    ensures { λ r. ⌜ Wrote (now (d .entry)) at (recordTo (Record.Head x) []) (now (d .exit)) r ⌝ }
+pub fn put_head(output: &mut [u8], at: usize, head: RuleHead) -> usize
+    ensures { λ r. ⌜ Wrote (now (output .entry)) at (recordTo (Record.Head head) []) (now (output .exit)) r ⌝ }
 {
-    let p = put_byte(d, at, 33);
-    let q = put_byte(d, p, x.kind);
-    let a = put_byte(d, q, x.id);
-    let b = put_u32(d, a, x.low);
-    put_u32(d, b, x.high)
+    let at = put_byte(output, at, TABLE_RULE);
+    let at = put_byte(output, at, head.kind);
+    let at = put_byte(output, at, head.id);
+    let at = put_u32(output, at, head.low);
+    put_u32(output, at, head.high)
 }
 
-pub fn put_clause(d: &mut [u8], at: usize) -> usize
-    ensures { λ r. ⌜ Wrote (now (d .entry)) at (recordTo Record.Clause []) (now (d .exit)) r ⌝ }
+pub fn put_clause(output: &mut [u8], at: usize) -> usize
+    ensures { λ r. ⌜ Wrote (now (output .entry)) at (recordTo Record.Clause []) (now (output .exit)) r ⌝ }
 {
-    put_byte(d, at, 34)
+    put_byte(output, at, TABLE_CLAUSE)
 }
 
 // Most of a table are atoms: each is stored at once where it has room.
-fn store_atom(d: &mut [u8], at: usize, x: Atom)
-    requires { ⌜ at + 9 ≤ length (now d) ⌝ }
-    ensures { λ r. ⌜ now (d .exit) ≡ sets (now (d .entry)) at (recordTo (Record.Atomic x) []) ⌝ }
+fn store_atom(output: &mut [u8], at: usize, atom: Atom)
+    requires { ⌜ at + 9 ≤ length (now output) ⌝ }
+    ensures { λ r. ⌜ now (output .exit) ≡ sets (now (output .entry)) at (recordTo (Record.Atomic atom) []) ⌝ }
 {
-    let o = x.right;
-    let w = o.value;
-    let n = x.variable;
-    let v = numbers::bits(w);
-    d[at] = 35;
-    d[at + 1] = x.op;
-    d[at + 2] = (n % 256) as u8;
-    d[at + 3] = (n / 256 % 256) as u8;
-    d[at + 4] = o.tag;
-    d[at + 5] = (v % 256) as u8;
-    d[at + 6] = (v / 256 % 256) as u8;
-    d[at + 7] = (v / 256 / 256 % 256) as u8;
-    d[at + 8] = (v / 256 / 256 / 256 % 256) as u8;
+    let right = atom.right;
+    let value = right.value;
+    let variable = atom.variable;
+    let bits = numbers::bits(value);
+    output[at] = TABLE_ATOM;
+    output[at + 1] = atom.op;
+    output[at + 2] = (variable % 256) as u8;
+    output[at + 3] = (variable / 256 % 256) as u8;
+    output[at + 4] = right.tag;
+    output[at + 5] = (bits % 256) as u8;
+    output[at + 6] = (bits / 256 % 256) as u8;
+    output[at + 7] = (bits / 256 / 256 % 256) as u8;
+    output[at + 8] = (bits / 256 / 256 / 256 % 256) as u8;
 }
 
-fn has_room(n: usize, at: usize, m: usize) -> bool
-    ensures { λ r. ⌜ (r ≡ true → at + m ≤ n) ⌝ }
+fn has_room(end: usize, at: usize, size: usize) -> bool
+    ensures { λ r. ⌜ (r ≡ true → at + size ≤ end) ⌝ }
 {
-    if at < n { m <= n - at } else { false }
+    if at < end { size <= end - at } else { false }
 }
 
-pub fn put_atom(d: &mut [u8], at: usize, x: Atom) -> usize
-    ensures { λ r. ⌜ Wrote (now (d .entry)) at (recordTo (Record.Atomic x) []) (now (d .exit)) r ⌝ }
+pub fn put_atom(output: &mut [u8], at: usize, atom: Atom) -> usize
+    ensures { λ r. ⌜ Wrote (now (output .entry)) at (recordTo (Record.Atomic atom) []) (now (output .exit)) r ⌝ }
 {
-    if has_room(d.len(), at, 9) {
-        store_atom(d, at, x);
-        return at + 9;
+    if has_room(output.len(), at, TABLE_ATOM_SIZE) {
+        store_atom(output, at, atom);
+        return at + TABLE_ATOM_SIZE;
     }
-    let o = x.right;
-    let p = put_byte(d, at, 35);
-    let q = put_byte(d, p, x.op);
-    let a = put_u16(d, q, x.variable);
-    put_operand(d, a, o)
+    let right = atom.right;
+    let at = put_byte(output, at, TABLE_ATOM);
+    let at = put_byte(output, at, atom.op);
+    let at = put_u16(output, at, atom.variable);
+    put_operand(output, at, right)
 }
 
-pub fn put_update(d: &mut [u8], at: usize, x: Update) -> usize
-    ensures { λ r. ⌜ Wrote (now (d .entry)) at (recordTo (Record.Change x) []) (now (d .exit)) r ⌝ }
+pub fn put_update(output: &mut [u8], at: usize, update: Update) -> usize
+    ensures { λ r. ⌜ Wrote (now (output .entry)) at (recordTo (Record.Change update) []) (now (output .exit)) r ⌝ }
 {
-    let f = x.first;
-    let s = x.second;
-    let p = put_byte(d, at, 36);
-    let q = put_u16(d, p, x.condition);
-    let a = put_byte(d, q, x.wanted);
-    let b = put_u16(d, a, x.target);
-    let c = put_byte(d, b, x.op);
-    let e = put_operand(d, c, f);
-    put_operand(d, e, s)
+    let first = update.first;
+    let second = update.second;
+    let at = put_byte(output, at, TABLE_UPDATE);
+    let at = put_u16(output, at, update.condition);
+    let at = put_byte(output, at, update.wanted);
+    let at = put_u16(output, at, update.target);
+    let at = put_byte(output, at, update.op);
+    let at = put_operand(output, at, first);
+    put_operand(output, at, second)
 }

@@ -25,7 +25,7 @@ use table_format::Update;
 use table_format::VARIABLE_TAG;
 
 // A constant by its bits, which are all that is written of it.
-pub fn constant(number: u32) -> Operand
+fn constant(number: u32) -> Operand
     ensures { λ r. ⌜ r ≡ constantBits number ⌝ }
 {
     let value = numbers::value_of(number);
@@ -35,10 +35,10 @@ pub fn constant(number: u32) -> Operand
     }
 }
 
-pub fn variable(j: u16) -> Operand
-    ensures { λ r. ⌜ r ≡ record { tag = 1; value = natural j } ⌝ }
+pub fn variable(number: u16) -> Operand
+    ensures { λ r. ⌜ r ≡ record { tag = 1; value = natural number } ⌝ }
 {
-    let value = numbers::value_of(j as u32);
+    let value = numbers::value_of(number as u32);
     Operand {
         tag: VARIABLE_TAG,
         value: value,
@@ -55,7 +55,7 @@ pub fn unused() -> Operand
     }
 }
 
-pub fn chosen_length() -> Operand
+fn chosen_length() -> Operand
     ensures { λ r. ⌜ r ≡ record { tag = 2; value = natural 0 } ⌝ }
 {
     let value = Value(0);

@@ -119,7 +119,7 @@ fn print_reading(table: &[u8]) {
     print(b"bytes");
     print_number(table.len() as u64);
     print(b" read");
-    print_refusal(table_format::read_table(table));
+    print_refusal(table_faults::read_table(table));
 }
 
 fn print_rules(table: &[u8]) {
@@ -129,7 +129,7 @@ fn print_rules(table: &[u8]) {
 }
 
 fn print_run(table: &[u8], script: &[u8]) {
-    let ran = table_machine::run_table(table, script);
+    let ran = table_runs::run_table(table, script);
     print(b"taken");
     print_number(ran.taken as u64);
     print(b" stopped");
@@ -138,7 +138,7 @@ fn print_run(table: &[u8], script: &[u8]) {
 }
 
 fn print_run_on(table: &[u8], script: &[u8]) {
-    let tally = table_machine::run_on(table, script);
+    let tally = table_runs::run_on(table, script);
     print(b"taken");
     print_number(tally.taken as u64);
     print(b" refused");

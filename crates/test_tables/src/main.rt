@@ -75,11 +75,11 @@ fn print_trace(table: &[u8], script: &[u8]) {
 
 // The run up to the first refused event, and the run that goes on.
 fn print_runs(table: &[u8], script: &[u8]) {
-    let ran = table_machine::run_table(table, script);
+    let ran = table_runs::run_table(table, script);
     print(b"taken ");
     print_number(ran.taken as u64);
     print(b"\n");
-    let tally = table_machine::run_on(table, script);
+    let tally = table_runs::run_on(table, script);
     print(b"on");
     print_two(tally.taken, tally.refused);
     let variables = tally.state;
@@ -89,7 +89,7 @@ fn print_runs(table: &[u8], script: &[u8]) {
 fn print_case(name: &[u8], table: &[u8], script: &[u8]) {
     print(name);
     print(b"\n");
-    let refusal = table_format::read_table(table);
+    let refusal = table_faults::read_table(table);
     let cause = refusal.cause;
     if records::is_none(cause) {
         print(b"ok\n");

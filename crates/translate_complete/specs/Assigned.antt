@@ -13,7 +13,7 @@ use Rattle.model_format.specs.declared.Assignment.{Assignment}
 use Rattle.model_format.specs.declared.Connection.{Connection}
 use Rattle.model_format.specs.declared.Timing.{Timing}
 use Rattle.model_format.specs.declared.Behavior.{Behavior}
-use Rattle.model_format.specs.Model.{assignmentAt, connectionAt, outputOwner, immediate, isKind, sourceThread}
+use Rattle.model_format.specs.Model.{assignmentAt, connectionAt, outputTag, immediate, isKind, sourceThread}
 use Rattle.model_format.specs.WellFormed.{GoodTiming}
 use Rattle.table_format.specs.declared.Update.{Update}
 use Rattle.table_format.specs.Variables.{flagVar, bufferVar, outputVar, inputRoom, outputRoom}
@@ -57,10 +57,10 @@ assignments-end b k n j h l w = loop-ends joins-updates (assignmentOf b k) n j h
 
 -- ---- what an output port holds after the assignments
 module _ (a : Assignment) (o : ℕ) (x : Expression) where
-  pub sent-new : (y : Expression) → (eqb (a .tag) 3 && eqb (a .number) o) ≡ true → y ≡ assignedExpression a → y ≡ sentAfter a o x
+  pub sent-new : (y : Expression) → (eqb (a .tag) outputTag && eqb (a .number) o) ≡ true → y ≡ assignedExpression a → y ≡ sentAfter a o x
   sent-new y t h = rw t h
 
-  pub sent-old : (eqb (a .tag) 3 && eqb (a .number) o) ≡ false → x ≡ sentAfter a o x
+  pub sent-old : (eqb (a .tag) outputTag && eqb (a .number) o) ≡ false → x ≡ sentAfter a o x
   sent-old t = rw t
 
 module _ (b : Behavior) (k o : ℕ) where
@@ -79,10 +79,6 @@ module _ (b : Behavior) (k o : ℕ) where
 -- connection c is an immediate one from thread t
 abbrev pub isSent : Timing → ℕ → ℕ → Bool
 isSent m t c = isKind m immediate c && eqb (sourceThread m c) t
-
--- u is its source's owner
-pub sent-is : (m : Timing) (t c : ℕ) (x : Connection) (u : ℕ) → x ≡ connectionAt m c → u ≡ outputOwner m (x .source) → (eqb (x .kind) immediate && eqb u t) ≡ isSent m t c
-sent-is m t c x u g h = rw (h, g)
 
 module _ (m : Timing) (g : GoodTiming m) (c : ℕ) (h : c < m .connections) (x : Connection) (e : x ≡ connectionAt m c) where
   pub source-small : x .source < outputRoom

@@ -7,6 +7,7 @@ use lib.ListN.{length}
 use lib.Dec.{eqb}
 use borrow.Author.Tests.{eq-eqb, ne-eqb}
 use Rattle.numbers.specs.Lists.{joinBelow, foldBelow}
+use Rattle.records.specs.Events.{completeKind}
 use Rattle.model_format.specs.declared.Behavior.{Behavior}
 use Rattle.model_format.specs.declared.Timing.{Timing}
 use Rattle.model_format.specs.declared.Model.{Model}
@@ -82,31 +83,31 @@ module _ {d e f : List ℕ} {at p q : ℕ} (t : ℕ) (h : Counted (length d)) wh
   default-updates y b k w v = wrote-both joins-updates (finishUpdates y t) (sendUpdates y immediate t oldOutput) h w v
 
 -- ---- rules, with their heads
-module _ {d e f g : List ℕ} {at p q r : ℕ} (m : Model) (t : ℕ) (h : Counted (length d)) (w : Wrote d at (recordTo (Head (record { kind = 5; id = t; low = 0; high = 0 })) []) e p) where
+module _ {d e f g : List ℕ} {at p q r : ℕ} (m : Model) (t : ℕ) (h : Counted (length d)) (w : Wrote d at (recordTo (Head (record { kind = completeKind; id = t; low = 0; high = 0 })) []) e p) where
   pub transition-rule : {a : List ℕ} {s : ℕ} (k : ℕ) → WroteClauses e p (openClauses t (transitionAt (m .behavior) k .from) (guardClauses (m .behavior) k)) f q →
       WroteClauses f q (perTransition (m .behavior) t k (earlierClause (m .behavior) k)) a s → WroteUpdates a s (transitionUpdates m t k) g r →
-      WroteRules d at (stamped 5 t (transitionRule m t k ∷ [])) g r
+      WroteRules d at (stamped completeKind t (transitionRule m t k ∷ [])) g r
   unfolding stamped transitionRule
   transition-rule k v u i =
       let b = m .behavior in
       wrote-rule _ (transitionClauses b t k) (transitionUpdates m t k) h w
       (λ l. wrote-both joins-clauses (openClauses t (transitionAt b k .from) (guardClauses b k)) _ l v u) (λ l. i)
 
-  pub default-rule : WroteClauses e p (defaultClauses (m .behavior) t) f q → WroteUpdates f q (defaultUpdates (m .timing) t) g r → WroteRules d at (stamped 5 t (defaultRule m t ∷ [])) g r
+  pub default-rule : WroteClauses e p (defaultClauses (m .behavior) t) f q → WroteUpdates f q (defaultUpdates (m .timing) t) g r → WroteRules d at (stamped completeKind t (defaultRule m t ∷ [])) g r
   unfolding stamped defaultRule
   default-rule c u = wrote-rule _ (defaultClauses (m .behavior) t) (defaultUpdates (m .timing) t) h w (λ l. c) (λ l. u)
 
 -- ---- the rules of all transitions; transition k is x
 module _ (m : Model) (t k : ℕ) (x : Transition) (g : x ≡ transitionAt (m .behavior) k) where
-  pub rule-written : {d e : List ℕ} {at p : ℕ} → x .thread ≡ t → WroteRules d at (stamped 5 t (transitionRule m t k ∷ [])) e p → WroteRules d at (stamped 5 t (rulesAt m t k)) e p
+  pub rule-written : {d e : List ℕ} {at p : ℕ} → x .thread ≡ t → WroteRules d at (stamped completeKind t (transitionRule m t k ∷ [])) e p → WroteRules d at (stamped completeKind t (rulesAt m t k)) e p
   rule-written s w = rw (← g, eq-eqb _ _ s) w
 
-  pub rule-none : {d : List ℕ} {at : ℕ} → (x .thread ≡ t → ⊥) → Counted at → WroteRules d at (stamped 5 t (rulesAt m t k)) d at
-  rule-none s h = rw (← g, ne-eqb _ _ s) (wrote-none (joins-stamped 5 t) h)
+  pub rule-none : {d : List ℕ} {at : ℕ} → (x .thread ≡ t → ⊥) → Counted at → WroteRules d at (stamped completeKind t (rulesAt m t k)) d at
+  rule-none s h = rw (← g, ne-eqb _ _ s) (wrote-none (joins-stamped completeKind t) h)
 
-pub complete-end : {d e f : List ℕ} {at p q : ℕ} (m : Model) (t k n : ℕ) → n ≡ m .behavior .transitions → Counted (length d) → WroteRules d at (stamped 5 t (joinBelow k (rulesAt m t))) e p →
-    k ≤ n → n ≤ k → WroteRules e p (stamped 5 t (defaultRule m t ∷ [])) f q → WroteRules d at (stamped 5 t (completeRules m t)) f q
+pub complete-end : {d e f : List ℕ} {at p q : ℕ} (m : Model) (t k n : ℕ) → n ≡ m .behavior .transitions → Counted (length d) → WroteRules d at (stamped completeKind t (joinBelow k (rulesAt m t))) e p →
+    k ≤ n → n ≤ k → WroteRules e p (stamped completeKind t (defaultRule m t ∷ [])) f q → WroteRules d at (stamped completeKind t (completeRules m t)) f q
 unfolding completeRules
 complete-end m t k n i h w l g v =
-    wrote-both (joins-stamped 5 t) (joinBelow (m .behavior .transitions) (rulesAt m t)) (defaultRule m t ∷ []) h
-    (loop-ends (joins-stamped 5 t) (rulesAt m t) (m .behavior .transitions) k (rw (← i) l) (rw (← i) g) w) v
+    wrote-both (joins-stamped completeKind t) (joinBelow (m .behavior .transitions) (rulesAt m t)) (defaultRule m t ∷ []) h
+    (loop-ends (joins-stamped completeKind t) (rulesAt m t) (m .behavior .transitions) k (rw (← i) l) (rw (← i) g) w) v

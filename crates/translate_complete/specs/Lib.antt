@@ -1,5 +1,2 @@
-pub mod Named
-pub mod Operands
-pub mod Guards
 pub mod Assigned
 pub mod Complete

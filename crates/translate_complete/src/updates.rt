@@ -1,13 +1,10 @@
 // The assignments of a transition and the buffers that it fills, as updates.
 
-use crate::parts::operand_of;
-use crate::parts::variable_of;
 use model_format::Assignment;
 use model_format::IMMEDIATE;
 use model_format::OUTPUT_TAG;
 use model_words::assignment_at;
 use model_words::connection_at;
-use model_words::output_owner;
 use records::Operand;
 use table_format::COPY;
 use table_format::NO_VARIABLE;
@@ -17,6 +14,9 @@ use table_format::flag_var;
 use table_format::output_var;
 use table_writer::unused;
 use table_writer::variable;
+use translate_guards::operand_of;
+use translate_guards::variable_of;
+use translate_waits::is_from;
 ghost use mathlib.Core.Path.{_≡_};
 ghost use mathlib.Core.List.{[], _∷_};
 ghost use Prim.Native.Nat.{_<_};
@@ -27,8 +27,8 @@ ghost use Rattle.table_format.specs.Variables.{outputRoom};
 ghost use Rattle.translation.specs.Parts as parts;
 ghost use Rattle.translation.specs.Rules.{assignedExpression, assignmentUpdate, assignmentUpdates, oldOutput, sentAfter, sentExpression, sendUpdate, whereSent, sendUpdates};
 ghost use Rattle.table_writer.specs.WroteRules.{WroteUpdates};
-ghost use Rattle.translate_complete.specs.Named.{NamedAssignment, NamedFirst};
-ghost use Rattle.translate_complete.specs.Assigned.{expressionOf, isSent};
+ghost use Rattle.translate_guards.specs.Named.{NamedAssignment, NamedFirst};
+ghost use Rattle.translate_complete.specs.Assigned.{expressionOf};
 
 // What a variable is set to: `op` of two operands.
 struct Expression {
@@ -37,12 +37,12 @@ struct Expression {
     second: Operand,
 }
 
-fn copied_output(o: u16) -> Expression
-    requires { ⌜ o < outputRoom ⌝ }
-    ensures { λ r. ⌜ expressionOf r ≡ oldOutput o ⌝ }
+fn copied_output(port: u16) -> Expression
+    requires { ⌜ port < outputRoom ⌝ }
+    ensures { λ r. ⌜ expressionOf r ≡ oldOutput port ⌝ }
 {
-    let port = output_var(o);
-    let first = variable(port);
+    let held = output_var(port);
+    let first = variable(held);
     let second = unused();
     Expression {
         op: COPY,
@@ -109,96 +109,114 @@ fn put_assignment(output: &mut [u8], at: usize, assignment: Assignment) -> usize
     put_assigned(output, at, NO_VARIABLE, 0, target, expression)
 }
 
-// The first n assignments of transition k.
-pub fn put_assignments(output: &mut [u8], at: usize, m: &[u32], k: usize, n: usize) -> usize
-    requires { ⌜ NamedFirst (behaviorIn (now m)) k n ⌝ }
-    ensures { λ r. ⌜ WroteUpdates (now (output .entry)) at (assignmentUpdates (behaviorIn (now (m .entry))) k n) (now (output .exit)) r ⌝ }
+// The first `count` assignments of a transition.
+pub fn put_assignments(
+    output: &mut [u8],
+    at: usize,
+    model: &[u32],
+    transition: usize,
+    count: usize,
+) -> usize
+    requires { ⌜ NamedFirst (behaviorIn (now model)) transition count ⌝ }
+    ensures { λ r. ⌜ WroteUpdates (now (output .entry)) at (assignmentUpdates (behaviorIn (now (model .entry))) transition count) (now (output .exit)) r ⌝ }
 {
     let mut at = at;
-    let mut j: usize = 0;
-    while j < n {
-        let assignment = assignment_at(m, k, j);
+    let mut number: usize = 0;
+    while number < count {
+        let assignment = assignment_at(model, transition, number);
         at = put_assignment(output, at, assignment);
-        j += 1;
+        number += 1;
     }
     at
 }
 
-// What output port o holds after an assignment, where it held x before.
-fn sent_after(assignment: Assignment, o: u16, x: Expression) -> Expression
+// What an output port holds after an assignment, by what it held.
+fn sent_after(assignment: Assignment, port: u16, held: Expression) -> Expression
     requires { ⌜ NamedAssignment assignment ⌝ }
-    ensures { λ r. ⌜ expressionOf r ≡ sentAfter assignment o (expressionOf x) ⌝ }
+    ensures { λ r. ⌜ expressionOf r ≡ sentAfter assignment port (expressionOf held) ⌝ }
 {
-    if (assignment.tag == OUTPUT_TAG) & (assignment.number == o) {
+    if (assignment.tag == OUTPUT_TAG) & (assignment.number == port) {
         return assigned(assignment);
     }
-    x
+    held
 }
 
-// And after the first n of transition k.
-fn sent(m: &[u32], k: usize, n: usize, o: u16) -> Expression
-    requires { ⌜ NamedFirst (behaviorIn (now m)) k n × (o < outputRoom) ⌝ }
-    ensures { λ r. ⌜ expressionOf r ≡ sentExpression (behaviorIn (now (m .entry))) k n o ⌝ }
+// And after the first `count` of a transition.
+fn sent(model: &[u32], transition: usize, count: usize, port: u16) -> Expression
+    requires { ⌜ NamedFirst (behaviorIn (now model)) transition count × (port < outputRoom) ⌝ }
+    ensures { λ r. ⌜ expressionOf r ≡ sentExpression (behaviorIn (now (model .entry))) transition count port ⌝ }
 {
-    let mut x = copied_output(o);
-    let mut j: usize = 0;
-    while j < n {
-        let assignment = assignment_at(m, k, j);
-        x = sent_after(assignment, o, x);
-        j += 1;
+    let mut expression = copied_output(port);
+    let mut number: usize = 0;
+    while number < count {
+        let assignment = assignment_at(model, transition, number);
+        expression = sent_after(assignment, port, expression);
+        number += 1;
     }
-    x
+    expression
 }
 
-// What connection c sends after those.
-fn put_send(output: &mut [u8], at: usize, m: &[u32], k: usize, n: usize, c: usize) -> usize
-    requires { ⌜ GoodTiming (timingIn (now m)) × (NamedFirst (behaviorIn (now m)) k n × (c < timingIn (now m) .connections)) ⌝ }
-    ensures { λ r. ⌜ WroteUpdates (now (output .entry)) at (sendUpdate c (connectionAt (timingIn (now (m .entry))) c) (sentExpression (behaviorIn (now (m .entry))) k n) ∷ []) (now (output .exit)) r ⌝ }
+// What a connection sends after those.
+fn put_send(
+    output: &mut [u8],
+    at: usize,
+    model: &[u32],
+    transition: usize,
+    count: usize,
+    connection: usize,
+) -> usize
+    requires { ⌜ GoodTiming (timingIn (now model)) × (NamedFirst (behaviorIn (now model)) transition count × (connection < timingIn (now model) .connections)) ⌝ }
+    ensures { λ r. ⌜ WroteUpdates (now (output .entry)) at (sendUpdate connection (connectionAt (timingIn (now (model .entry))) connection) (sentExpression (behaviorIn (now (model .entry))) transition count) ∷ []) (now (output .exit)) r ⌝ }
 {
-    let connection = connection_at(m, c);
-    let target = buffer_var(connection.target);
-    let x = sent(m, k, n, connection.source);
-    put_assigned(output, at, flag_var(c as u16), 1, target, x)
-}
-
-// Connection c is an immediate one from thread t.
-fn is_sent(m: &[u32], t: u8, c: usize) -> bool
-    ensures { λ r. ⌜ r ≡ isSent (timingIn (now (m .entry))) t c ⌝ }
-{
-    let connection = connection_at(m, c);
-    let owner = output_owner(m, connection.source as usize);
-    (connection.kind == IMMEDIATE) & (owner == t)
+    let own = connection_at(model, connection);
+    let target = buffer_var(own.target);
+    let expression = sent(model, transition, count, own.source);
+    put_assigned(
+        output,
+        at,
+        flag_var(connection as u16),
+        1,
+        target,
+        expression,
+    )
 }
 
 fn put_send_from(
     output: &mut [u8],
     at: usize,
-    m: &[u32],
-    t: u8,
-    k: usize,
-    n: usize,
-    c: usize,
+    model: &[u32],
+    thread: u8,
+    transition: usize,
+    count: usize,
+    connection: usize,
 ) -> usize
-    requires { ⌜ GoodTiming (timingIn (now m)) × (NamedFirst (behaviorIn (now m)) k n × (c < timingIn (now m) .connections)) ⌝ }
-    ensures { λ r. ⌜ WroteUpdates (now (output .entry)) at (whereSent (timingIn (now (m .entry))) immediate t (sentExpression (behaviorIn (now (m .entry))) k n) c) (now (output .exit)) r ⌝ }
+    requires { ⌜ GoodTiming (timingIn (now model)) × (NamedFirst (behaviorIn (now model)) transition count × (connection < timingIn (now model) .connections)) ⌝ }
+    ensures { λ r. ⌜ WroteUpdates (now (output .entry)) at (whereSent (timingIn (now (model .entry))) immediate thread (sentExpression (behaviorIn (now (model .entry))) transition count) connection) (now (output .exit)) r ⌝ }
 {
-    if is_sent(m, t, c) {
-        return put_send(output, at, m, k, n, c);
+    if is_from(model, connection, IMMEDIATE, thread) {
+        return put_send(output, at, model, transition, count, connection);
     }
     at
 }
 
-// What the immediate connections from thread t send after the first n assignments of transition k.
-pub fn put_sends(output: &mut [u8], at: usize, m: &[u32], t: u8, k: usize, n: usize) -> usize
-    requires { ⌜ GoodTiming (timingIn (now m)) × NamedFirst (behaviorIn (now m)) k n ⌝ }
-    ensures { λ r. ⌜ WroteUpdates (now (output .entry)) at (sendUpdates (timingIn (now (m .entry))) immediate t (sentExpression (behaviorIn (now (m .entry))) k n)) (now (output .exit)) r ⌝ }
+// What the immediate connections from the thread send after the first `count` assignments of the transition.
+pub fn put_sends(
+    output: &mut [u8],
+    at: usize,
+    model: &[u32],
+    thread: u8,
+    transition: usize,
+    count: usize,
+) -> usize
+    requires { ⌜ GoodTiming (timingIn (now model)) × NamedFirst (behaviorIn (now model)) transition count ⌝ }
+    ensures { λ r. ⌜ WroteUpdates (now (output .entry)) at (sendUpdates (timingIn (now (model .entry))) immediate thread (sentExpression (behaviorIn (now (model .entry))) transition count)) (now (output .exit)) r ⌝ }
 {
-    let connections = model_words::connections(m);
+    let connections = model_words::connections(model);
     let mut at = at;
-    let mut c: usize = 0;
-    while c < connections {
-        at = put_send_from(output, at, m, t, k, n, c);
-        c += 1;
+    let mut connection: usize = 0;
+    while connection < connections {
+        at = put_send_from(output, at, model, thread, transition, count, connection);
+        connection += 1;
     }
     at
 }

@@ -7,41 +7,26 @@ use native.Mathlib.Omega.{arith}
 use lib.Dec.{eqb}
 use borrow.Author.Tests.{lt-ltb, le-ltb, eq-eqb, ne-eqb}
 use Rattle.numbers.specs.ListLaws.{first-found, first-none}
-use Rattle.model_format.specs.declared.Thread.{Thread}
 use Rattle.model_format.specs.declared.Timing.{Timing}
 use Rattle.model_format.specs.declared.Connection.{Connection}
-use Rattle.model_format.specs.Model.{immediate, threadAt, inputOwner, outputOwner, connectionAt, isKind, sourceThread, targetThread}
+use Rattle.model_format.specs.Model.{immediate, inputOwner, connectionAt}
 use Rattle.model_format.specs.WellFormed.{GoodTiming}
 use Rattle.table_format.specs.declared.Update.{Update}
-use Rattle.table_format.specs.Variables.{connectionRoom, inputRoom, outputRoom, flagVar, inputVar, bufferVar, outputVar, noVariable}
+use Rattle.table_format.specs.Variables.{inputRoom, outputRoom, flagVar, inputVar, bufferVar, outputVar, noVariable}
 use Rattle.translation.specs.Parts.{variable, copied, updateWhen, update}
-use Rattle.translation.specs.Rules.{delayedClause, besideClause, comingClause, takeBuffer, immediateInto, dispatchPort, startPort, delayedFrom, feedsAtOnce, besideFrom, comingFrom, oldOutput, sendUpdate}
+use Rattle.translation.specs.Rules.{takeBuffer, immediateInto, dispatchPort, startPort, feedsAtOnce, oldOutput, sendUpdate}
 use Rattle.table_writer.specs.Lists.{joins-updates, Counted}
-use Rattle.table_writer.specs.WroteRules.{WroteClauses, WroteUpdates}
-use Rattle.translate_connections.specs.Named.{same-variable, update-named, where-passed, where-failed}
+use Rattle.table_writer.specs.WroteRules.{WroteUpdates}
+use Rattle.translate_waits.specs.Named.{same-variable, update-named, where-passed, where-failed}
 
--- ---- how many there are; n is what the code has counted
-module _ {m : Timing} (g : GoodTiming m) {n i : ℕ} where
-  pub few-connections : n ≡ m .connections → i < n → i < connectionRoom
-  few-connections e h = omega (arith, g .connections, e, h)
-
-  pub few-inputs : n ≡ m .inputs → i < n → i < inputRoom
-  few-inputs e h = omega (arith, g .inputs, e, h)
+-- n is how many the code has counted
+pub few-inputs : {m : Timing} (g : GoodTiming m) {n i : ℕ} → n ≡ m .inputs → i < n → i < inputRoom
+few-inputs g e h = omega (arith, g .inputs, e, h)
 
 -- ---- connection c; x is the one that the code has read
 module _ (m : Timing) (c : ℕ) {x : Connection} (e : x ≡ connectionAt m c) where
   pub feeds-is : (i : ℕ) → (eqb (x .kind) immediate && eqb (x .target) i) ≡ feedsAtOnce m i c
   feeds-is i = rw e
-
-  pub source-is : {u : ℕ} → u ≡ outputOwner m (x .source) → u ≡ sourceThread m c
-  source-is o = rw e at o
-
-  -- it is of a kind, and into or from thread t; u is the thread that the code has found
-  pub into-is : (kind t : ℕ) {u : ℕ} → u ≡ inputOwner m (x .target) → (eqb (x .kind) kind && eqb u t) ≡ (isKind m kind c && eqb (targetThread m c) t)
-  into-is kind t o = rw (o, e)
-
-  pub from-is : (kind t : ℕ) {u : ℕ} → u ≡ outputOwner m (x .source) → (eqb (x .kind) kind && eqb u t) ≡ (isKind m kind c && eqb (sourceThread m c) t)
-  from-is kind t o = rw (o, e)
 
   pub source-small : GoodTiming m → c < m .connections → x .source < outputRoom
   source-small g h = rw e (omega (arith, g .source c h, g .outputs))
@@ -55,14 +40,6 @@ module _ (m : Timing) (c : ℕ) {x : Connection} (e : x ≡ connectionAt m c) wh
 pub sent-from : {d e : List ℕ} {at p flag buffer output : ℕ} (c : ℕ) (x : Connection) → flag ≡ flagVar c → buffer ≡ bufferVar (x .target) → output ≡ outputVar (x .source) →
     WroteUpdates d at (updateWhen flag 1 buffer (copied (variable output)) ∷ []) e p → WroteUpdates d at (sendUpdate c x oldOutput ∷ []) e p
 sent-from c x q r s w = update-named _ _ _ q r (same-variable s) w
-
-module _ (m : Timing) (c : ℕ) {d : List ℕ} {at : ℕ} where
-  pub delayed-wait : {e : List ℕ} {p u : ℕ} → u ≡ sourceThread m c → WroteClauses d at (delayedFrom c u ∷ []) e p → WroteClauses d at (delayedClause m c ∷ []) e p
-  delayed-wait k w = rw k at w
-
-  pub immediate-wait : (t : ℕ) {e : List ℕ} {p u : ℕ} (x : Thread) → u ≡ sourceThread m c → x ≡ threadAt m u →
-      WroteClauses d at (besideFrom t c u ∷ comingFrom t c u (x .period .0) ∷ []) e p → WroteClauses d at (besideClause m t c ∷ comingClause m t c ∷ []) e p
-  immediate-wait t x k y w = rw (y, k) at w
 
 -- ---- input port i
 module _ (m : Timing) (i : ℕ) where

@@ -27,8 +27,8 @@ fn immediate_into(model: &[u32], port: u16) -> usize
     let count = connections(model);
     let mut connection: usize = 0;
     while connection < count {
-        let x = connection_at(model, connection);
-        if (x.kind == IMMEDIATE) & (x.target == port) {
+        let own = connection_at(model, connection);
+        if (own.kind == IMMEDIATE) & (own.target == port) {
             return connection;
         }
         connection += 1;

@@ -1,6 +1,5 @@
 // The buffers that a thread's connections fill.
 
-use crate::connections::is_from;
 use model_format::Connection;
 use model_words::connection_at;
 use model_words::connections;
@@ -8,6 +7,7 @@ use table_format::buffer_var;
 use table_format::flag_var;
 use table_format::output_var;
 use table_writer::put_copy_when;
+use translate_waits::is_from;
 ghost use mathlib.Core.List.{[], _∷_};
 ghost use Prim.Native.Nat.{_<_};
 ghost use Rattle.model_format.specs.WellFormed.{GoodTiming};
@@ -16,14 +16,14 @@ ghost use Rattle.table_format.specs.Variables.{connectionRoom, inputRoom, outpu
 ghost use Rattle.translation.specs.Rules.{oldOutput, sendUpdate, sendUpdates};
 ghost use Rattle.table_writer.specs.WroteRules.{WroteUpdates};
 
-// What a connection, which is x, sends.
-fn put_sent(output: &mut [u8], at: usize, connection: u16, x: Connection) -> usize
-    requires { ⌜ (connection < connectionRoom) × ((x .source < outputRoom) × (x .target < inputRoom)) ⌝ }
-    ensures { λ r. ⌜ WroteUpdates (now (output .entry)) at (sendUpdate connection x oldOutput ∷ []) (now (output .exit)) r ⌝ }
+// What a connection sends; `own` is its record.
+fn put_sent(output: &mut [u8], at: usize, connection: u16, own: Connection) -> usize
+    requires { ⌜ (connection < connectionRoom) × ((own .source < outputRoom) × (own .target < inputRoom)) ⌝ }
+    ensures { λ r. ⌜ WroteUpdates (now (output .entry)) at (sendUpdate connection own oldOutput ∷ []) (now (output .exit)) r ⌝ }
 {
     let flag = flag_var(connection);
-    let buffer = buffer_var(x.target);
-    let source = output_var(x.source);
+    let buffer = buffer_var(own.target);
+    let source = output_var(own.source);
     put_copy_when(output, at, flag, 1, buffer, source)
 }
 
@@ -39,8 +39,8 @@ pub fn put_sends(output: &mut [u8], at: usize, model: &[u32], kind: u8, thread: 
         let connection = next;
         next += 1;
         if is_from(model, connection, kind, thread) {
-            let x = connection_at(model, connection);
-            at = put_sent(output, at, connection as u16, x);
+            let own = connection_at(model, connection);
+            at = put_sent(output, at, connection as u16, own);
         }
     }
     at

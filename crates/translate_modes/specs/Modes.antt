@@ -5,6 +5,7 @@ use mathlib.Core.List.{List, [], _∷_, _++_}
 use Prim.Native.Nat.{ℕ, _<_, _≤_}
 use native.Mathlib.Omega.{arith}
 use lib.ListN.{length}
+use Rattle.records.specs.Events.{requestKind, enterKind, leaveKind}
 use Rattle.model_format.specs.declared.Thread.{Thread}
 use Rattle.model_format.specs.declared.Connection.{Connection}
 use Rattle.model_format.specs.declared.ModeTransition.{ModeTransition}
@@ -44,21 +45,21 @@ WroteHead d at kind q e p = Wrote d at (recordTo (Head (record { kind = kind; id
 
 module _ {d₁ d₂ d₃ : List ℕ} {at p₂ p₃ : ℕ} (h : Counted (length d₁)) where
   pub request-wrote : (q : ℕ) (m : Timing) (x : ModeTransition) → x ≡ switchAt m q →
-      WroteRules d₁ at (stamped 8 q (requestGranted q (x .from) ∷ [])) d₂ p₂ → WroteRules d₂ p₂ (stamped 8 q (requestIgnored (x .from) ∷ [])) d₃ p₃ →
-      WroteRules d₁ at (stamped 8 q (requestRules m q)) d₃ p₃
+      WroteRules d₁ at (stamped requestKind q (requestGranted q (x .from) ∷ [])) d₂ p₂ → WroteRules d₂ p₂ (stamped requestKind q (requestIgnored (x .from) ∷ [])) d₃ p₃ →
+      WroteRules d₁ at (stamped requestKind q (requestRules m q)) d₃ p₃
   unfolding stamped requestRules
   request-wrote q m x e a b = rw (← e) (wrote-both joins-rules _ _ h a b)
 
   module _ {d₄ : List ℕ} {p₄ : ℕ} where
-    pub enter-wrote : (q : ℕ) (m : Timing) (x : ModeTransition) → x ≡ switchAt m q → WroteHead d₁ at 9 q d₂ p₂ →
+    pub enter-wrote : (q : ℕ) (m : Timing) (x : ModeTransition) → x ≡ switchAt m q → WroteHead d₁ at enterKind q d₂ p₂ →
         WroteClauses d₂ p₂ (enterClauses q (x .h1 .0)) d₃ p₃ → WroteUpdates d₃ p₃ (enterUpdates m (x .from) (x .to)) d₄ p₄ →
-        WroteRules d₁ at (stamped 9 q (enterRules m q)) d₄ p₄
+        WroteRules d₁ at (stamped enterKind q (enterRules m q)) d₄ p₄
     unfolding stamped enterRules
     enter-wrote q m x e w c u = rw (← e) (wrote-rule _ _ _ h w (λ i. c) (λ i. u))
 
-    pub leave-wrote : (q : ℕ) (m : Timing) (x : ModeTransition) → x ≡ switchAt m q → WroteHead d₁ at 10 q d₂ p₂ →
+    pub leave-wrote : (q : ℕ) (m : Timing) (x : ModeTransition) → x ≡ switchAt m q → WroteHead d₁ at leaveKind q d₂ p₂ →
         WroteClauses d₂ p₂ (leaveClauses q (x .h2 .0)) d₃ p₃ → WroteUpdates d₃ p₃ (leaveUpdates m (x .to)) d₄ p₄ →
-        WroteRules d₁ at (stamped 10 q (leaveRules m q)) d₄ p₄
+        WroteRules d₁ at (stamped leaveKind q (leaveRules m q)) d₄ p₄
     unfolding stamped leaveRules
     leave-wrote q m x e w c u = rw (← e) (wrote-rule _ _ _ h w (λ i. c) (λ i. u))
 
@@ -67,9 +68,9 @@ module _ {d₁ d₂ d₃ : List ℕ} {at p₂ p₃ : ℕ} (h : Counted (length d
     exit-allowed q n a b c = wrote-then joins-clauses _ _ h a (λ i. wrote-both joins-clauses _ _ i b c)
 
     module _ {d₅ : List ℕ} {p₅ : ℕ} where
-      pub ignored-wrote : (q from : ℕ) → WroteHead d₁ at 8 q d₂ p₂ → Wrote d₂ p₂ (recordTo Clause []) d₃ p₃ →
+      pub ignored-wrote : (q from : ℕ) → WroteHead d₁ at requestKind q d₂ p₂ → Wrote d₂ p₂ (recordTo Clause []) d₃ p₃ →
           WroteAtoms d₃ p₃ (differs phaseVar (constant 0) ∷ []) d₄ p₄ → WroteAtoms d₄ p₄ (differs modeVar (constant from) ∷ []) d₅ p₅ →
-          WroteRules d₁ at (stamped 8 q (requestIgnored from ∷ [])) d₅ p₅
+          WroteRules d₁ at (stamped requestKind q (requestIgnored from ∷ [])) d₅ p₅
       unfolding stamped
       ignored-wrote q from w c a b = wrote-still _ _ h w (λ i. wrote-clause _ i c (λ j. wrote-both joins-atoms _ _ j a b))
 
@@ -82,9 +83,9 @@ module _ {d₁ d₂ d₃ : List ℕ} {at p₂ p₃ : ℕ} (h : Counted (length d
           WroteUpdates d₃ p₃ (setTo modeVar new ∷ []) d₄ p₄ → WroteUpdates d₄ p₄ (flagUpdates m new new) d₅ p₅ → WroteUpdates d₁ at (leaveUpdates m new) d₅ p₅
       exit-updated m new a b x y = wrote-then joins-updates _ _ h a (λ i. wrote-then joins-updates _ _ i b (λ j. wrote-both joins-updates _ _ j x y))
 
-      pub granted-wrote : {d₆ : List ℕ} {p₆ : ℕ} (q from : ℕ) → WroteHead d₁ at 8 q d₂ p₂ →
+      pub granted-wrote : {d₆ : List ℕ} {p₆ : ℕ} (q from : ℕ) → WroteHead d₁ at requestKind q d₂ p₂ →
           WroteClauses d₂ p₂ (plain (equals phaseVar (constant 0)) ∷ []) d₃ p₃ → WroteClauses d₃ p₃ (plain (equals modeVar (constant from)) ∷ []) d₄ p₄ →
           WroteUpdates d₄ p₄ (setTo phaseVar 1 ∷ []) d₅ p₅ → WroteUpdates d₅ p₅ (setTo pendingVar q ∷ []) d₆ p₆ →
-          WroteRules d₁ at (stamped 8 q (requestGranted q from ∷ [])) d₆ p₆
+          WroteRules d₁ at (stamped requestKind q (requestGranted q from ∷ [])) d₆ p₆
       unfolding stamped
       granted-wrote q from w a b x y = wrote-rule _ _ _ h w (λ i. wrote-both joins-clauses _ _ i a b) (λ i. wrote-both joins-updates _ _ i x y)

@@ -32,6 +32,7 @@ use table_writer::put_set;
 ghost use mathlib.Core.Path.{_≡_};
 ghost use mathlib.Core.List.{[], _∷_};
 ghost use Prim.Native.Nat.{_<_};
+ghost use Rattle.records.specs.Events.{requestKind, enterKind, leaveKind};
 ghost use Rattle.model_format.specs.WellFormed.{GoodTiming};
 ghost use Rattle.model_semantics.specs.Effects.{inBoth};
 ghost use Rattle.model_words.specs.Words.{timingIn};
@@ -41,10 +42,10 @@ ghost use Rattle.translation.specs.Parts.{stamped};
 ghost use Rattle.translation.specs.Rules as rules;
 ghost use Rattle.table_writer.specs.WroteRules.{WroteClauses, WroteUpdates, WroteRules};
 
-fn bit_of(b: bool) -> u32
-    ensures { λ r. ⌜ r ≡ bit b ⌝ }
+fn bit_of(holds: bool) -> u32
+    ensures { λ r. ⌜ r ≡ bit holds ⌝ }
 {
-    if b { 1 } else { 0 }
+    if holds { 1 } else { 0 }
 }
 
 fn in_both(mask: u8, old: u8, new: u8) -> bool
@@ -59,8 +60,8 @@ fn in_both(mask: u8, old: u8, new: u8) -> bool
 fn put_active(output: &mut [u8], at: usize, model: &[u32], mode: u8, thread: u8) -> usize
     ensures { λ r. ⌜ WroteUpdates (now (output .entry)) at (rules.activeUpdate (timingIn (now (model .entry))) mode thread) (now (output .exit)) r ⌝ }
 {
-    let x = thread_at(model, thread as usize);
-    let active = bit_of(in_mode(x.modes, mode));
+    let own = thread_at(model, thread as usize);
+    let active = bit_of(in_mode(own.modes, mode));
     put_set(output, at, active_var(thread), active)
 }
 
@@ -83,8 +84,8 @@ fn put_flag(output: &mut [u8], at: usize, model: &[u32], old: u8, new: u8, conne
     requires { ⌜ connection < connectionRoom ⌝ }
     ensures { λ r. ⌜ WroteUpdates (now (output .entry)) at (rules.flagUpdate (timingIn (now (model .entry))) old new connection) (now (output .exit)) r ⌝ }
 {
-    let x = connection_at(model, connection as usize);
-    let live = bit_of(in_both(x.modes, old, new));
+    let own = connection_at(model, connection as usize);
+    let live = bit_of(in_both(own.modes, old, new));
     put_set(output, at, flag_var(connection), live)
 }
 
@@ -104,7 +105,7 @@ fn put_flags(output: &mut [u8], at: usize, model: &[u32], old: u8, new: u8) -> u
 
 // ---- REQUEST: one rule where it is granted, one where it is ignored
 fn put_granted(output: &mut [u8], at: usize, switch: u8, from: u8) -> usize
-    ensures { λ r. ⌜ WroteRules (now (output .entry)) at (stamped 8 switch (rules.requestGranted switch from ∷ [])) (now (output .exit)) r ⌝ }
+    ensures { λ r. ⌜ WroteRules (now (output .entry)) at (stamped requestKind switch (rules.requestGranted switch from ∷ [])) (now (output .exit)) r ⌝ }
 {
     let at = put_rule(output, at, REQUEST, switch, 0, 0);
     let at = put_equals(output, at, PHASE, STEADY as u32);
@@ -114,7 +115,7 @@ fn put_granted(output: &mut [u8], at: usize, switch: u8, from: u8) -> usize
 }
 
 fn put_ignored(output: &mut [u8], at: usize, switch: u8, from: u8) -> usize
-    ensures { λ r. ⌜ WroteRules (now (output .entry)) at (stamped 8 switch (rules.requestIgnored from ∷ [])) (now (output .exit)) r ⌝ }
+    ensures { λ r. ⌜ WroteRules (now (output .entry)) at (stamped requestKind switch (rules.requestIgnored from ∷ [])) (now (output .exit)) r ⌝ }
 {
     let at = put_rule(output, at, REQUEST, switch, 0, 0);
     let at = put_clause(output, at);
@@ -123,11 +124,11 @@ fn put_ignored(output: &mut [u8], at: usize, switch: u8, from: u8) -> usize
 }
 
 pub fn put_request(output: &mut [u8], at: usize, model: &[u32], switch: u8) -> usize
-    ensures { λ r. ⌜ WroteRules (now (output .entry)) at (stamped 8 switch (rules.requestRules (timingIn (now (model .entry))) switch)) (now (output .exit)) r ⌝ }
+    ensures { λ r. ⌜ WroteRules (now (output .entry)) at (stamped requestKind switch (rules.requestRules (timingIn (now (model .entry))) switch)) (now (output .exit)) r ⌝ }
 {
-    let x = switch_at(model, switch as usize);
-    let at = put_granted(output, at, switch, x.from);
-    put_ignored(output, at, switch, x.from)
+    let own = switch_at(model, switch as usize);
+    let at = put_granted(output, at, switch, own.from);
+    put_ignored(output, at, switch, own.from)
 }
 
 // ---- ENTER and LEAVE
@@ -157,13 +158,13 @@ fn put_entry_updates(output: &mut [u8], at: usize, model: &[u32], old: u8, new: 
 
 pub fn put_enter(output: &mut [u8], at: usize, model: &[u32], switch: u8) -> usize
     requires { ⌜ GoodTiming (timingIn (now model)) ⌝ }
-    ensures { λ r. ⌜ WroteRules (now (output .entry)) at (stamped 9 switch (rules.enterRules (timingIn (now (model .entry))) switch)) (now (output .exit)) r ⌝ }
+    ensures { λ r. ⌜ WroteRules (now (output .entry)) at (stamped enterKind switch (rules.enterRules (timingIn (now (model .entry))) switch)) (now (output .exit)) r ⌝ }
 {
-    let x = switch_at(model, switch as usize);
-    let hyperperiod = x.h1;
+    let own = switch_at(model, switch as usize);
+    let hyperperiod = own.h1;
     let at = put_rule(output, at, ENTER, switch, 0, 0);
     let at = put_entry_clauses(output, at, switch, hyperperiod.0);
-    put_entry_updates(output, at, model, x.from, x.to)
+    put_entry_updates(output, at, model, own.from, own.to)
 }
 
 // Not in the instant of ENTER.
@@ -187,11 +188,11 @@ fn put_exit_updates(output: &mut [u8], at: usize, model: &[u32], new: u8) -> usi
 
 pub fn put_leave(output: &mut [u8], at: usize, model: &[u32], switch: u8) -> usize
     requires { ⌜ GoodTiming (timingIn (now model)) ⌝ }
-    ensures { λ r. ⌜ WroteRules (now (output .entry)) at (stamped 10 switch (rules.leaveRules (timingIn (now (model .entry))) switch)) (now (output .exit)) r ⌝ }
+    ensures { λ r. ⌜ WroteRules (now (output .entry)) at (stamped leaveKind switch (rules.leaveRules (timingIn (now (model .entry))) switch)) (now (output .exit)) r ⌝ }
 {
-    let x = switch_at(model, switch as usize);
-    let hyperperiod = x.h2;
+    let own = switch_at(model, switch as usize);
+    let hyperperiod = own.h2;
     let at = put_rule(output, at, LEAVE, switch, 0, 0);
     let at = put_exit_clauses(output, at, switch, hyperperiod.0);
-    put_exit_updates(output, at, model, x.to)
+    put_exit_updates(output, at, model, own.to)
 }

@@ -24,7 +24,8 @@ use Rattle.table_writer.specs.Written.{records-one}
 use Rattle.table_writer.specs.Wrote.{Wrote}
 use Rattle.table_writer.specs.Lists.{Counted, joins-initial, wrote-none}
 use Rattle.table_writer.specs.WroteRules.{WroteInitial}
-use Rattle.translate_starts.specs.Blocks.{SameBits, isShown, absent-on}
+use Rattle.translate_shown.specs.Standing.{isShown}
+use Rattle.translate_shown.specs.Blocks.{SameBits, absent-on}
 
 -- variable j where its value is not 0
 abbrev pub start : ℕ → Value → List InitialValue

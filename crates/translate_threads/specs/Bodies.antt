@@ -8,7 +8,7 @@ use Rattle.table_writer.specs.Wrote.{Wrote}
 use Rattle.table_writer.specs.Lists.{joins-rules, Counted, wrote-rule}
 use Rattle.table_writer.specs.WroteRules.{WroteClauses, WroteUpdates, WroteRules}
 use Rattle.translation.specs.Parts.{Body, stamped}
-use Rattle.translate_connections.specs.Named.{wrote-more}
+use Rattle.translate_waits.specs.Named.{wrote-more}
 
 pub wrote-body : {d e g k : List ℕ} {at p q r : ℕ} (kind id : ℕ) (b : Body) → Counted (length d) →
     Wrote d at (recordTo (Head (record { kind = kind; id = id; low = b .low; high = b .high })) []) e p →

@@ -35,12 +35,13 @@ use table_writer::put_multiple;
 use table_writer::put_rule;
 use table_writer::put_set;
 use table_writer::put_sum;
-use translate_connections::put_delayed_waits;
 use translate_connections::put_dispatch_ports;
-use translate_connections::put_immediate_waits;
 use translate_connections::put_sends;
 use translate_connections::put_start_ports;
+use translate_waits::put_delayed_waits;
+use translate_waits::put_immediate_waits;
 ghost use mathlib.Core.List.{[], _∷_};
+ghost use Rattle.records.specs.Events.{activateKind, deactivateKind, dispatchKind, startKind, deadlineKind, missKind};
 ghost use Rattle.model_format.specs.WellFormed.{GoodTiming};
 ghost use Rattle.model_words.specs.Words.{timingIn};
 ghost use Rattle.translation.specs.Parts.{stamped};
@@ -49,7 +50,7 @@ ghost use Rattle.table_writer.specs.WroteRules.{WroteClauses, WroteUpdates, Wro
 
 // ---- ACTIVATE and DEACTIVATE
 pub fn put_activate(output: &mut [u8], at: usize, model: &[u32], thread: u8) -> usize
-    ensures { λ r. ⌜ WroteRules (now (output .entry)) at (stamped 1 thread (rules.activateRules (timingIn (now (model .entry))) thread)) (now (output .exit)) r ⌝ }
+    ensures { λ r. ⌜ WroteRules (now (output .entry)) at (stamped activateKind thread (rules.activateRules (timingIn (now (model .entry))) thread)) (now (output .exit)) r ⌝ }
 {
     let at = put_rule(output, at, ACTIVATE, thread, 0, 0);
     let at = put_active_is(output, at, thread, 1);
@@ -58,7 +59,7 @@ pub fn put_activate(output: &mut [u8], at: usize, model: &[u32], thread: u8) -> 
 }
 
 pub fn put_deactivate(output: &mut [u8], at: usize, model: &[u32], thread: u8) -> usize
-    ensures { λ r. ⌜ WroteRules (now (output .entry)) at (stamped 2 thread (rules.deactivateRules (timingIn (now (model .entry))) thread)) (now (output .exit)) r ⌝ }
+    ensures { λ r. ⌜ WroteRules (now (output .entry)) at (stamped deactivateKind thread (rules.deactivateRules (timingIn (now (model .entry))) thread)) (now (output .exit)) r ⌝ }
 {
     let at = put_rule(output, at, DEACTIVATE, thread, 0, 0);
     let at = put_active_is(output, at, thread, 0);
@@ -93,7 +94,7 @@ fn put_dispatch_updates(output: &mut [u8], at: usize, model: &[u32], thread: u8)
 
 pub fn put_dispatch(output: &mut [u8], at: usize, model: &[u32], thread: u8) -> usize
     requires { ⌜ GoodTiming (timingIn (now model)) ⌝ }
-    ensures { λ r. ⌜ WroteRules (now (output .entry)) at (stamped 3 thread (rules.dispatchRules (timingIn (now (model .entry))) thread)) (now (output .exit)) r ⌝ }
+    ensures { λ r. ⌜ WroteRules (now (output .entry)) at (stamped dispatchKind thread (rules.dispatchRules (timingIn (now (model .entry))) thread)) (now (output .exit)) r ⌝ }
 {
     let at = put_rule(output, at, DISPATCH, thread, 0, 0);
     let at = put_dispatch_clauses(output, at, model, thread);
@@ -125,7 +126,7 @@ fn put_start_updates(output: &mut [u8], at: usize, model: &[u32], thread: u8) ->
 
 pub fn put_start(output: &mut [u8], at: usize, model: &[u32], thread: u8) -> usize
     requires { ⌜ GoodTiming (timingIn (now model)) ⌝ }
-    ensures { λ r. ⌜ WroteRules (now (output .entry)) at (stamped 4 thread (rules.startRules (timingIn (now (model .entry))) thread)) (now (output .exit)) r ⌝ }
+    ensures { λ r. ⌜ WroteRules (now (output .entry)) at (stamped startKind thread (rules.startRules (timingIn (now (model .entry))) thread)) (now (output .exit)) r ⌝ }
 {
     let own = thread_at(model, thread as usize);
     let at = put_rule(output, at, START, thread, own.bcet.0, own.wcet.0);
@@ -143,7 +144,7 @@ fn put_deadline_rule(
     code: u8,
 ) -> usize
     requires { ⌜ GoodTiming (timingIn (now model)) ⌝ }
-    ensures { λ r. ⌜ WroteRules (now (output .entry)) at (stamped 6 thread (rules.deadlineRule (timingIn (now (model .entry))) thread active code ∷ [])) (now (output .exit)) r ⌝ }
+    ensures { λ r. ⌜ WroteRules (now (output .entry)) at (stamped deadlineKind thread (rules.deadlineRule (timingIn (now (model .entry))) thread active code ∷ [])) (now (output .exit)) r ⌝ }
 {
     let at = put_rule(output, at, DEADLINE, thread, 0, 0);
     let at = put_state_is(output, at, thread, COMPLETED);
@@ -155,7 +156,7 @@ fn put_deadline_rule(
 
 pub fn put_deadline(output: &mut [u8], at: usize, model: &[u32], thread: u8) -> usize
     requires { ⌜ GoodTiming (timingIn (now model)) ⌝ }
-    ensures { λ r. ⌜ WroteRules (now (output .entry)) at (stamped 6 thread (rules.deadlineRules (timingIn (now (model .entry))) thread)) (now (output .exit)) r ⌝ }
+    ensures { λ r. ⌜ WroteRules (now (output .entry)) at (stamped deadlineKind thread (rules.deadlineRules (timingIn (now (model .entry))) thread)) (now (output .exit)) r ⌝ }
 {
     let at = put_deadline_rule(output, at, model, thread, 1, WAITING_DISPATCH);
     put_deadline_rule(output, at, model, thread, 0, WAITING_MODE)
@@ -163,7 +164,7 @@ pub fn put_deadline(output: &mut [u8], at: usize, model: &[u32], thread: u8) -> 
 
 // ---- MISS
 fn put_miss_waiting(output: &mut [u8], at: usize, thread: u8, active: u8, code: u8) -> usize
-    ensures { λ r. ⌜ WroteRules (now (output .entry)) at (stamped 7 thread (rules.missWaiting thread active code ∷ [])) (now (output .exit)) r ⌝ }
+    ensures { λ r. ⌜ WroteRules (now (output .entry)) at (stamped missKind thread (rules.missWaiting thread active code ∷ [])) (now (output .exit)) r ⌝ }
 {
     let at = put_rule(output, at, MISS, thread, 0, 0);
     let at = put_state_is(output, at, thread, WAITING_EXECUTION);
@@ -180,7 +181,7 @@ fn put_miss_running(
     active: u8,
     code: u8,
 ) -> usize
-    ensures { λ r. ⌜ WroteRules (now (output .entry)) at (stamped 7 thread (rules.missRunning (timingIn (now (model .entry))) thread active code ∷ [])) (now (output .exit)) r ⌝ }
+    ensures { λ r. ⌜ WroteRules (now (output .entry)) at (stamped missKind thread (rules.missRunning (timingIn (now (model .entry))) thread active code ∷ [])) (now (output .exit)) r ⌝ }
 {
     let end = end_var(thread);
     let at = put_rule(output, at, MISS, thread, 0, 0);
@@ -193,7 +194,7 @@ fn put_miss_running(
 }
 
 pub fn put_miss(output: &mut [u8], at: usize, model: &[u32], thread: u8) -> usize
-    ensures { λ r. ⌜ WroteRules (now (output .entry)) at (stamped 7 thread (rules.missRules (timingIn (now (model .entry))) thread)) (now (output .exit)) r ⌝ }
+    ensures { λ r. ⌜ WroteRules (now (output .entry)) at (stamped missKind thread (rules.missRules (timingIn (now (model .entry))) thread)) (now (output .exit)) r ⌝ }
 {
     let at = put_miss_waiting(output, at, thread, 1, WAITING_DISPATCH);
     let at = put_miss_waiting(output, at, thread, 0, WAITING_MODE);

@@ -14,7 +14,7 @@ use Rattle.numbers.specs.Lists.{joinBelow}
 use Rattle.table_format.specs.Variables.{variables, noVariable}
 use Rattle.table_format.specs.RuleKinds.{hasRules}
 use Rattle.table_format.specs.VariableLaws.{variable-there}
-use Rattle.table_format.specs.Reading.{operandFits, headFits, atomFits, updateFits}
+use Rattle.table_format.specs.Reading.{operandFits, longestLength, headFits, atomFits, updateFits}
 use Rattle.table_format.specs.All.{All, all-append, all-join}
 use Rattle.table_format.specs.WellFormed.{GoodAtom, GoodUpdate, GoodRule}
 use Rattle.translation.specs.Parts.{constant, variable, chosenLength, Expression, copied, sumOf, updateWhen, update, setTo, Body, stamped, Group, rulesOfGroups}
@@ -93,7 +93,7 @@ set-good kind target n l h k = update-good kind target (copied (constant n)) l h
 -- ---- rules but for their ids
 pub record GoodBody (kind : ℕ) (b : Body) : Type 0 where
   pub shortest : b .low ≤ b .high
-  pub longest : b .high ≤ cond (eqb kind startKind) 1000000 0
+  pub longest : b .high ≤ cond (eqb kind startKind) longestLength 0
   pub clauses : All (All GoodAtom) (b .clauses)
   pub updates : All (GoodUpdate kind) (b .updates)
 
@@ -107,7 +107,7 @@ unfolding stamped headFits
 stamped-good kind id [] a c h = tt
 stamped-good kind id (x ∷ l) a c h = (
   record {
-    head = rw (a, le-leb (x .low) (x .high) (h .0 .shortest), le-leb (x .high) (cond (eqb kind startKind) 1000000 0) (h .0 .longest));
+    head = rw (a, le-leb (x .low) (x .high) (h .0 .shortest), le-leb (x .high) (cond (eqb kind startKind) longestLength 0) (h .0 .longest));
     id = c;
     clauses = h .0 .clauses;
     updates = h .0 .updates;

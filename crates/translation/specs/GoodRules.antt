@@ -6,18 +6,21 @@ use Prim.Native.Nat.{ℕ, zero, suc, _<_, _≤_}
 use native.Mathlib.Omega.{arith}
 use lib.Dec.{eqb}
 use borrow.Author.Tests.{ltb-true, eqb-true, eqb-false}
-use Rattle.numbers.specs.Values.{bitsOf}
+use Rattle.numbers.specs.Values.{bitsOf, copyOp, equalsOp, differsOp, belowOp, atLeastOp, aboveOp, atMostOp}
 use Rattle.records.specs.declared.Operand.{Operand}
+use Rattle.records.specs.Format.{constantTag}
+use Rattle.records.specs.Events.{activateKind, deactivateKind, dispatchKind, startKind, completeKind, deadlineKind, missKind, requestKind, enterKind, leaveKind}
 use Rattle.model_format.specs.declared.Timing.{Timing}
 use Rattle.model_format.specs.declared.Model.{Model}
-use Rattle.model_format.specs.Model.{threadAt, inputOwner, connectionAt, switchAt, transitionAt, atomAt, assignmentAt, inMode, immediate, delayed, isKind, sourceThread, targetThread}
+use Rattle.model_format.specs.Model.{threadAt, inputOwner, connectionAt, switchAt, transitionAt, atomAt, assignmentAt, inMode, immediate, delayed, isKind, sourceThread, targetThread, inputTag, localTag, outputTag}
 use Rattle.model_format.specs.WellFormed.{GoodOperand as ReadOperand, GoodTiming, WellFormed}
 use Rattle.model_format.specs.Reading.{namesItem}
 use Rattle.model_semantics.specs.State.{none}
 use Rattle.model_semantics.specs.Effects.{inBoth}
-use Rattle.model_semantics.specs.Tests.{waitingMode, waitingDispatch, waitingExecution, execution, completed}
+use Rattle.model_semantics.specs.Tests.{waitingMode, waitingDispatch, waitingExecution, execution, completed, steady, requested, changing}
 use Rattle.table_format.specs.declared.Atom.{Atom}
 use Rattle.table_format.specs.declared.Update.{Update}
+use Rattle.table_format.specs.Format.{multipleOp, noMultipleOp}
 use Rattle.table_format.specs.Variables.{variables, nowVar, modeVar, phaseVar, pendingVar, enteredVar, activeVar, stateVar, dispatchVar, dueVar, endVar, behaviorVar, missedVar, flagVar, inputVar, bufferVar, outputVar}
 use Rattle.table_format.specs.RuleKinds.{isOneOf}
 use Rattle.table_format.specs.All.{All, _also_, one-cond, fold-keeps, all-append, all-join, all-when, all-only}
@@ -39,16 +42,16 @@ bit-small false = omega arith
 -- ---- a thread's own variables
 module _ (t : ℕ) (h : t < 16) where
   state-good : (code : ℕ) → code < 8 → All GoodAtom (stateIs t code)
-  state-good code k = constant-compare 0 (stateVar t) code (omega arith) (omega arith) (omega arith) also tt
+  state-good code k = constant-compare equalsOp (stateVar t) code (omega arith) (omega arith) (omega arith) also tt
 
   active-good : (b : ℕ) → b < 8 → All GoodAtom (activeIs t b)
-  active-good b k = constant-compare 0 (activeVar t) b (omega arith) (omega arith) (omega arith) also tt
+  active-good b k = constant-compare equalsOp (activeVar t) b (omega arith) (omega arith) (omega arith) also tt
 
   due-good : All GoodAtom (dueIsNow t)
-  due-good = variable-compare 0 (dueVar t) nowVar (omega arith) (omega arith) (omega arith) also tt
+  due-good = variable-compare equalsOp (dueVar t) nowVar (omega arith) (omega arith) (omega arith) also tt
 
   end-good : All GoodAtom (endIsNow t)
-  end-good = variable-compare 0 (endVar t) nowVar (omega arith) (omega arith) (omega arith) also tt
+  end-good = variable-compare equalsOp (endVar t) nowVar (omega arith) (omega arith) (omega arith) also tt
 
   set-state : (kind code : ℕ) → code < 8 → GoodUpdate kind (setTo (stateVar t) code)
   set-state kind code k = set-good kind (stateVar t) code (omega arith) (omega arith) (omega arith)
@@ -57,34 +60,34 @@ module _ (t : ℕ) (h : t < 16) where
   ends-good m kind = set-good kind (cpuVarFor m t) none (omega arith) (omega arith) (omega arith) also set-good kind (endVar t) 0 (omega arith) (omega arith) (omega arith) also tt
 
   -- ---- "1, 2"
-  activate-good : (m : Timing) → All (GoodBody 1) (activateRules m t)
+  activate-good : (m : Timing) → All (GoodBody activateKind) (activateRules m t)
   unfolding activateRules
   activate-good m =
-      body-good 1 _ _ (active-good 1 (omega arith) also state-good waitingMode (omega arith) also tt) (set-state 1 waitingDispatch (omega arith) also tt) also tt
+      body-good activateKind _ _ (active-good 1 (omega arith) also state-good waitingMode (omega arith) also tt) (set-state activateKind waitingDispatch (omega arith) also tt) also tt
 
-  deactivate-good : (m : Timing) → All (GoodBody 2) (deactivateRules m t)
+  deactivate-good : (m : Timing) → All (GoodBody deactivateKind) (deactivateRules m t)
   unfolding deactivateRules
   deactivate-good m =
-      body-good 2 _ _ (active-good 0 (omega arith) also state-good waitingDispatch (omega arith) also tt) (set-state 2 waitingMode (omega arith) also tt) also tt
+      body-good deactivateKind _ _ (active-good 0 (omega arith) also state-good waitingDispatch (omega arith) also tt) (set-state deactivateKind waitingMode (omega arith) also tt) also tt
 
   -- ---- "7"
-  missed-good : (code : ℕ) → code < 8 → All (GoodUpdate 7) (missUpdates t code)
+  missed-good : (code : ℕ) → code < 8 → All (GoodUpdate missKind) (missUpdates t code)
   missed-good code k =
-      set-state 7 code k also
-      update-good 7 (missedVar t) (sumOf (variable (missedVar t)) (constant 1)) (omega arith) (omega arith)
-      (sum-good 7 (variable (missedVar t)) (constant 1) (variable-good false (missedVar t) (omega arith)) (constant-good false 1 (omega arith))) also tt
+      set-state missKind code k also
+      update-good missKind (missedVar t) (sumOf (variable (missedVar t)) (constant 1)) (omega arith) (omega arith)
+      (sum-good missKind (variable (missedVar t)) (constant 1) (variable-good false (missedVar t) (omega arith)) (constant-good false 1 (omega arith))) also tt
 
-  waiting-good : (active code : ℕ) → active < 8 → code < 8 → GoodBody 7 (missWaiting t active code)
-  waiting-good active code a k = body-good 7 _ _ (state-good waitingExecution (omega arith) also active-good active a also due-good also tt) (missed-good code k)
+  waiting-good : (active code : ℕ) → active < 8 → code < 8 → GoodBody missKind (missWaiting t active code)
+  waiting-good active code a k = body-good missKind _ _ (state-good waitingExecution (omega arith) also active-good active a also due-good also tt) (missed-good code k)
 
-  running-good : (m : Timing) (active code : ℕ) → active < 8 → code < 8 → GoodBody 7 (missRunning m t active code)
+  running-good : (m : Timing) (active code : ℕ) → active < 8 → code < 8 → GoodBody missKind (missRunning m t active code)
   running-good m active code a k =
-      body-good 7 _ _
+      body-good missKind _ _
       (state-good execution (omega arith) also active-good active a also due-good also
-      (variable-compare 1 (endVar t) nowVar (omega arith) (omega arith) (omega arith) also tt) also tt)
-      (all-append (GoodUpdate 7) (missUpdates t code) (jobEnds m t) (missed-good code k) (ends-good m 7))
+      (variable-compare differsOp (endVar t) nowVar (omega arith) (omega arith) (omega arith) also tt) also tt)
+      (all-append (GoodUpdate missKind) (missUpdates t code) (jobEnds m t) (missed-good code k) (ends-good m missKind))
 
-  miss-good : (m : Timing) → All (GoodBody 7) (missRules m t)
+  miss-good : (m : Timing) → All (GoodBody missKind) (missRules m t)
   unfolding missRules
   miss-good m =
       waiting-good 1 waitingDispatch (omega arith) (omega arith) also waiting-good 0 waitingMode (omega arith) (omega arith) also
@@ -138,50 +141,50 @@ module _ (m : Timing) (g : GoodTiming m) where
   delayed-good c h =
       let u = source-small c h in
       let l = connection-small c h in
-      constant-compare 0 (flagVar c) 0 (omega arith) (omega arith) (omega arith) also
-      constant-compare 0 (stateVar (sourceThread m c)) waitingMode (omega arith) (omega arith) (omega arith) also
-      constant-compare 0 (stateVar (sourceThread m c)) waitingDispatch (omega arith) (omega arith) (omega arith) also
-      variable-compare 1 (dueVar (sourceThread m c)) nowVar (omega arith) (omega arith) (omega arith) also tt
+      constant-compare equalsOp (flagVar c) 0 (omega arith) (omega arith) (omega arith) also
+      constant-compare equalsOp (stateVar (sourceThread m c)) waitingMode (omega arith) (omega arith) (omega arith) also
+      constant-compare equalsOp (stateVar (sourceThread m c)) waitingDispatch (omega arith) (omega arith) (omega arith) also
+      variable-compare differsOp (dueVar (sourceThread m c)) nowVar (omega arith) (omega arith) (omega arith) also tt
 
-  dispatch-good : (t : ℕ) → t < m .threads → All (GoodBody 3) (dispatchRules m t)
+  dispatch-good : (t : ℕ) → t < m .threads → All (GoodBody dispatchKind) (dispatchRules m t)
   unfolding dispatchRules
   dispatch-good t h =
       let l = thread-small t h in
       let x = g .thread t h in
-      body-good 3 _ _
+      body-good dispatchKind _ _
       (state-good t l waitingDispatch (omega arith) also active-good t l 1 (omega arith) also
-      (multiple-good 6 nowVar (threadAt m t .period .0) (omega arith) (omega arith) (omega arith) (omega arith) (omega arith) also tt) also
+      (multiple-good multipleOp nowVar (threadAt m t .period .0) (omega arith) (omega arith) (omega arith) (omega arith) (omega arith) also tt) also
       into-good delayed t (λ c. delayedClause m c ∷ []) (λ c k. delayed-good c k also tt))
-      (set-state t l 3 waitingExecution (omega arith) also
-      update-good 3 (dispatchVar t) (copied (variable nowVar)) (omega arith) (omega arith) (taken-good 3 nowVar (omega arith)) also
-      update-good 3 (dueVar t) (sumOf (variable nowVar) (constant (threadAt m t .deadline .0))) (omega arith) (omega arith)
-      (sum-good 3 (variable nowVar) (constant (threadAt m t .deadline .0)) (variable-good false nowVar (omega arith)) (constant-good false (threadAt m t .deadline .0) (omega arith))) also
-      input-good 3 t (dispatchPort m)
-      (λ i k. one-cond (GoodUpdate 3) (isImmediatePort m i) (updateWhen (flagVar (immediateInto m i)) 0 (inputVar i) (takeBuffer i)) (update (inputVar i) (takeBuffer i))
-      (λ e. take-when 3 i 0 k (omega arith) e) (λ e. take-good 3 i k) also tt)) also tt
+      (set-state t l dispatchKind waitingExecution (omega arith) also
+      update-good dispatchKind (dispatchVar t) (copied (variable nowVar)) (omega arith) (omega arith) (taken-good dispatchKind nowVar (omega arith)) also
+      update-good dispatchKind (dueVar t) (sumOf (variable nowVar) (constant (threadAt m t .deadline .0))) (omega arith) (omega arith)
+      (sum-good dispatchKind (variable nowVar) (constant (threadAt m t .deadline .0)) (variable-good false nowVar (omega arith)) (constant-good false (threadAt m t .deadline .0) (omega arith))) also
+      input-good dispatchKind t (dispatchPort m)
+      (λ i k. one-cond (GoodUpdate dispatchKind) (isImmediatePort m i) (updateWhen (flagVar (immediateInto m i)) 0 (inputVar i) (takeBuffer i)) (update (inputVar i) (takeBuffer i))
+      (λ e. take-when dispatchKind i 0 k (omega arith) e) (λ e. take-good dispatchKind i k) also tt)) also tt
 
   -- ---- "4"
   beside-good : (t c : ℕ) → t < 16 → c < m .connections → All GoodAtom (besideClause m t c)
   beside-good t c k h =
       let u = source-small c h in
       let l = connection-small c h in
-      constant-compare 0 (flagVar c) 0 (omega arith) (omega arith) (omega arith) also
-      constant-compare 2 (stateVar (sourceThread m c)) waitingExecution (omega arith) (omega arith) (omega arith) also
-      constant-compare 0 (stateVar (sourceThread m c)) completed (omega arith) (omega arith) (omega arith) also
-      variable-compare 1 (dispatchVar (sourceThread m c)) (dispatchVar t) (omega arith) (omega arith) (omega arith) also tt
+      constant-compare equalsOp (flagVar c) 0 (omega arith) (omega arith) (omega arith) also
+      constant-compare belowOp (stateVar (sourceThread m c)) waitingExecution (omega arith) (omega arith) (omega arith) also
+      constant-compare equalsOp (stateVar (sourceThread m c)) completed (omega arith) (omega arith) (omega arith) also
+      variable-compare differsOp (dispatchVar (sourceThread m c)) (dispatchVar t) (omega arith) (omega arith) (omega arith) also tt
 
   coming-good : (t c : ℕ) → t < 16 → c < m .connections → All GoodAtom (comingClause m t c)
   coming-good t c k h =
       let u = source-small c h in
       let l = connection-small c h in
       let x = g .thread (sourceThread m c) (g .output (connectionAt m c .source) (g .source c h)) in
-      constant-compare 0 (flagVar c) 0 (omega arith) (omega arith) (omega arith) also
-      constant-compare 0 (activeVar (sourceThread m c)) 0 (omega arith) (omega arith) (omega arith) also
-      constant-compare 3 (stateVar (sourceThread m c)) waitingExecution (omega arith) (omega arith) (omega arith) also
-      variable-compare 1 (dispatchVar t) nowVar (omega arith) (omega arith) (omega arith) also
-      multiple-good 7 nowVar (threadAt m (sourceThread m c) .period .0) (omega arith) (omega arith) (omega arith) (omega arith) (omega arith) also tt
+      constant-compare equalsOp (flagVar c) 0 (omega arith) (omega arith) (omega arith) also
+      constant-compare equalsOp (activeVar (sourceThread m c)) 0 (omega arith) (omega arith) (omega arith) also
+      constant-compare atLeastOp (stateVar (sourceThread m c)) waitingExecution (omega arith) (omega arith) (omega arith) also
+      variable-compare differsOp (dispatchVar t) nowVar (omega arith) (omega arith) (omega arith) also
+      multiple-good noMultipleOp nowVar (threadAt m (sourceThread m c) .period .0) (omega arith) (omega arith) (omega arith) (omega arith) (omega arith) also tt
 
-  start-good : (t : ℕ) → t < m .threads → All (GoodBody 4) (startRules m t)
+  start-good : (t : ℕ) → t < m .threads → All (GoodBody startKind) (startRules m t)
   unfolding startRules
   start-good t h =
       let l = thread-small t h in
@@ -191,16 +194,16 @@ module _ (m : Timing) (g : GoodTiming m) where
         longest = omega arith;
         clauses =
             state-good t l waitingExecution (omega arith) also
-            (constant-compare 0 (cpuVarFor m t) none (omega arith) (omega arith) (omega arith) also tt) also
-            (variable-compare 1 (dueVar t) nowVar (omega arith) (omega arith) (omega arith) also tt) also
+            (constant-compare equalsOp (cpuVarFor m t) none (omega arith) (omega arith) (omega arith) also tt) also
+            (variable-compare differsOp (dueVar t) nowVar (omega arith) (omega arith) (omega arith) also tt) also
             into-good immediate t (λ c. besideClause m t c ∷ comingClause m t c ∷ []) (λ c k. beside-good t c l k also coming-good t c l k also tt);
         updates =
-            set-state t l 4 execution (omega arith) also
-            set-good 4 (cpuVarFor m t) t (omega arith) (omega arith) (omega arith) also
-            update-good 4 (endVar t) (sumOf (variable nowVar) chosenLength) (omega arith) (omega arith)
-            (sum-good 4 (variable nowVar) chosenLength (variable-good true nowVar (omega arith)) length-good) also
-            input-good 4 t (startPort m)
-            (λ i k. all-only (GoodUpdate 4) (isImmediatePort m i) (updateWhen (flagVar (immediateInto m i)) 1 (inputVar i) (takeBuffer i)) (λ e. take-when 4 i 1 k (omega arith) e));
+            set-state t l startKind execution (omega arith) also
+            set-good startKind (cpuVarFor m t) t (omega arith) (omega arith) (omega arith) also
+            update-good startKind (endVar t) (sumOf (variable nowVar) chosenLength) (omega arith) (omega arith)
+            (sum-good startKind (variable nowVar) chosenLength (variable-good true nowVar (omega arith)) length-good) also
+            input-good startKind t (startPort m)
+            (λ i k. all-only (GoodUpdate startKind) (isImmediatePort m i) (updateWhen (flagVar (immediateInto m i)) 1 (inputVar i) (takeBuffer i)) (λ e. take-when startKind i 1 k (omega arith) e));
       } also tt
 
   -- ---- buffers that a thread's connections of a kind fill
@@ -219,38 +222,38 @@ module _ (m : Timing) (g : GoodTiming m) where
   output-good event o h = taken-good event (outputVar o) (omega (arith, g .outputs))
 
   -- ---- "6"
-  deadline-good : (t : ℕ) → t < m .threads → All (GoodBody 6) (deadlineRules m t)
+  deadline-good : (t : ℕ) → t < m .threads → All (GoodBody deadlineKind) (deadlineRules m t)
   unfolding deadlineRules
   deadline-good t h = one 1 waitingDispatch (omega arith) (omega arith) also one 0 waitingMode (omega arith) (omega arith) also tt
     where
       l : t < 16
       l = thread-small t h
 
-      one : (active code : ℕ) → active < 8 → code < 8 → GoodBody 6 (deadlineRule m t active code)
+      one : (active code : ℕ) → active < 8 → code < 8 → GoodBody deadlineKind (deadlineRule m t active code)
       one active code a k =
-          body-good 6 _ _ (state-good t l completed (omega arith) also due-good t l also active-good t l active a also tt)
-          (set-state t l 6 code k also send-good 6 delayed t oldOutput (output-good 6))
+          body-good deadlineKind _ _ (state-good t l completed (omega arith) also due-good t l also active-good t l active a also tt)
+          (set-state t l deadlineKind code k also send-good deadlineKind delayed t oldOutput (output-good deadlineKind))
 
   -- ---- "8"
-  request-good : (q : ℕ) → q < m .switches → All (GoodBody 8) (requestRules m q)
+  request-good : (q : ℕ) → q < m .switches → All (GoodBody requestKind) (requestRules m q)
   unfolding requestRules
   request-good q h =
       let l = switch-small q h in
       let f : switchAt m q .from < 8 = omega (arith, g .from q h, g .modes) in
-      body-good 8 _ _
-      ((constant-compare 0 phaseVar 0 (omega arith) (omega arith) (omega arith) also tt) also
-      (constant-compare 0 modeVar (switchAt m q .from) (omega arith) (omega arith) (omega arith) also tt) also tt)
-      (set-good 8 phaseVar 1 (omega arith) (omega arith) (omega arith) also set-good 8 pendingVar q (omega arith) (omega arith) (omega arith) also tt) also
-      body-good 8 _ _
-      ((constant-compare 1 phaseVar 0 (omega arith) (omega arith) (omega arith) also
-      constant-compare 1 modeVar (switchAt m q .from) (omega arith) (omega arith) (omega arith) also tt) also tt) tt also tt
+      body-good requestKind _ _
+      ((constant-compare equalsOp phaseVar steady (omega arith) (omega arith) (omega arith) also tt) also
+      (constant-compare equalsOp modeVar (switchAt m q .from) (omega arith) (omega arith) (omega arith) also tt) also tt)
+      (set-good requestKind phaseVar requested (omega arith) (omega arith) (omega arith) also set-good requestKind pendingVar q (omega arith) (omega arith) (omega arith) also tt) also
+      body-good requestKind _ _
+      ((constant-compare differsOp phaseVar steady (omega arith) (omega arith) (omega arith) also
+      constant-compare differsOp modeVar (switchAt m q .from) (omega arith) (omega arith) (omega arith) also tt) also tt) tt also tt
 
   -- ---- "9, 10"
   phase-good : (phase q : ℕ) (r : List (List Atom)) → phase < 8 → q < m .switches → All (All GoodAtom) r → All (All GoodAtom) (phaseIs phase q ++ r)
   phase-good phase q r k h f =
       let l = switch-small q h in
-      (constant-compare 0 phaseVar phase (omega arith) (omega arith) (omega arith) also tt) also
-      (constant-compare 0 pendingVar q (omega arith) (omega arith) (omega arith) also tt) also f
+      (constant-compare equalsOp phaseVar phase (omega arith) (omega arith) (omega arith) also tt) also
+      (constant-compare equalsOp pendingVar q (omega arith) (omega arith) (omega arith) also tt) also f
 
   actives-good : (kind mode : ℕ) → All (GoodUpdate kind) (activeUpdates m mode)
   actives-good kind mode =
@@ -268,31 +271,31 @@ module _ (m : Timing) (g : GoodTiming m) where
       let b = bit-small (inBoth (connectionAt m c .modes) old new) in
       set-good kind (flagVar c) (bit (inBoth (connectionAt m c .modes) old new)) (omega arith) (omega arith) (omega arith) also tt)
 
-  enter-good : (q : ℕ) → q < m .switches → All (GoodBody 9) (enterRules m q)
+  enter-good : (q : ℕ) → q < m .switches → All (GoodBody enterKind) (enterRules m q)
   unfolding enterRules
   enter-good q h =
       let k = g .h1 q h in
-      body-good 9 _ _
-      (phase-good 1 q (plain (multipleOf nowVar (constant (switchAt m q .h1 .0))) ∷ []) (omega arith) h
-      ((multiple-good 6 nowVar (switchAt m q .h1 .0) (omega arith) (omega arith) (omega arith) (omega arith) (omega arith) also tt) also tt))
-      (set-good 9 phaseVar 2 (omega arith) (omega arith) (omega arith) also
-      update-good 9 enteredVar (copied (variable nowVar)) (omega arith) (omega arith) (taken-good 9 nowVar (omega arith)) also
-      all-append (GoodUpdate 9) (activeUpdates m (switchAt m q .to)) (flagUpdates m (switchAt m q .from) (switchAt m q .to))
-      (actives-good 9 (switchAt m q .to)) (flags-good 9 (switchAt m q .from) (switchAt m q .to))) also tt
+      body-good enterKind _ _
+      (phase-good requested q (plain (multipleOf nowVar (constant (switchAt m q .h1 .0))) ∷ []) (omega arith) h
+      ((multiple-good multipleOp nowVar (switchAt m q .h1 .0) (omega arith) (omega arith) (omega arith) (omega arith) (omega arith) also tt) also tt))
+      (set-good enterKind phaseVar changing (omega arith) (omega arith) (omega arith) also
+      update-good enterKind enteredVar (copied (variable nowVar)) (omega arith) (omega arith) (taken-good enterKind nowVar (omega arith)) also
+      all-append (GoodUpdate enterKind) (activeUpdates m (switchAt m q .to)) (flagUpdates m (switchAt m q .from) (switchAt m q .to))
+      (actives-good enterKind (switchAt m q .to)) (flags-good enterKind (switchAt m q .from) (switchAt m q .to))) also tt
 
-  leave-good : (q : ℕ) → q < m .switches → All (GoodBody 10) (leaveRules m q)
+  leave-good : (q : ℕ) → q < m .switches → All (GoodBody leaveKind) (leaveRules m q)
   unfolding leaveRules
   leave-good q h =
       let k = g .h2 q h in
       let f : switchAt m q .to < 8 = omega (arith, g .to q h, g .modes) in
-      body-good 10 _ _
-      (phase-good 2 q (plain (differs nowVar (variable enteredVar)) ∷ plain (multipleOf nowVar (constant (switchAt m q .h2 .0))) ∷ []) (omega arith) h
-      ((variable-compare 1 nowVar enteredVar (omega arith) (omega arith) (omega arith) also tt) also
-      (multiple-good 6 nowVar (switchAt m q .h2 .0) (omega arith) (omega arith) (omega arith) (omega arith) (omega arith) also tt) also tt))
-      (set-good 10 phaseVar 0 (omega arith) (omega arith) (omega arith) also
-      set-good 10 pendingVar none (omega arith) (omega arith) (omega arith) also
-      set-good 10 modeVar (switchAt m q .to) (omega arith) (omega arith) (omega arith) also
-      flags-good 10 (switchAt m q .to) (switchAt m q .to)) also tt
+      body-good leaveKind _ _
+      (phase-good changing q (plain (differs nowVar (variable enteredVar)) ∷ plain (multipleOf nowVar (constant (switchAt m q .h2 .0))) ∷ []) (omega arith) h
+      ((variable-compare differsOp nowVar enteredVar (omega arith) (omega arith) (omega arith) also tt) also
+      (multiple-good multipleOp nowVar (switchAt m q .h2 .0) (omega arith) (omega arith) (omega arith) (omega arith) (omega arith) also tt) also tt))
+      (set-good leaveKind phaseVar steady (omega arith) (omega arith) (omega arith) also
+      set-good leaveKind pendingVar none (omega arith) (omega arith) (omega arith) also
+      set-good leaveKind modeVar (switchAt m q .to) (omega arith) (omega arith) (omega arith) also
+      flags-good leaveKind (switchAt m q .to) (switchAt m q .to)) also tt
 
 -- ---- "5"
 -- a number that one of two tests names lies between them
@@ -306,11 +309,11 @@ between n a b h l = go (eqb n a) refl h
 negated-small : (op : ℕ) → negatedOp op < 6
 unfolding negatedOp
 negated-small op =
-    one-cond Small (eqb op 0) 1 _ (λ e. omega arith) (λ e.
-    one-cond Small (eqb op 1) 0 _ (λ e. omega arith) (λ e.
-    one-cond Small (eqb op 2) 3 _ (λ e. omega arith) (λ e.
-    one-cond Small (eqb op 3) 2 _ (λ e. omega arith) (λ e.
-    one-cond Small (eqb op 4) 5 4 (λ e. omega arith) (λ e. omega arith)))))
+    one-cond Small (eqb op equalsOp) differsOp _ (λ e. omega arith) (λ e.
+    one-cond Small (eqb op differsOp) equalsOp _ (λ e. omega arith) (λ e.
+    one-cond Small (eqb op belowOp) atLeastOp _ (λ e. omega arith) (λ e.
+    one-cond Small (eqb op atLeastOp) belowOp _ (λ e. omega arith) (λ e.
+    one-cond Small (eqb op aboveOp) atMostOp aboveOp (λ e. omega arith) (λ e. omega arith)))))
   where
     Small : ℕ → Type 0
     Small n = n < 6
@@ -327,11 +330,11 @@ module _ (m : Model) (w : WellFormed m) where
   operand-good : (b : Bool) (o : Operand) → ReadOperand (m .timing) o → GoodOperand b (operandOf o)
   unfolding operandOf operandFits
   operand-good b o r =
-      one-cond (GoodOperand b) (eqb (o .tag) 0) o (variable (variableOf (o .tag) (bitsOf (o .value .0))))
+      one-cond (GoodOperand b) (eqb (o .tag) constantTag) o (variable (variableOf (o .tag) (bitsOf (o .value .0))))
       (λ e. record { fits = rw e; value = r .fits })
       (λ e.
       let k = ltb-true (o .tag) 3 (r .tag) in
-      let n : o .tag ≡ 0 → ⊥ = eqb-false (o .tag) 0 e in
+      let n : o .tag ≡ constantTag → ⊥ = eqb-false (o .tag) constantTag e in
       variable-good b (variableOf (o .tag) (bitsOf (o .value .0))) (names-good (o .tag) (bitsOf (o .value .0)) (omega arith) (omega arith) (r .names) .1))
 
   module _ (k : ℕ) (l : k < m .behavior .transitions) where
@@ -339,7 +342,7 @@ module _ (m : Model) (w : WellFormed m) where
     atom-good f j s h =
         let a = atomAt (m .behavior) k j in
         let r = w .behavior .atom k j l h in
-        let (p, q) = between (a .tag) 1 2 (r .tag) (omega arith) in
+        let (p, q) = between (a .tag) inputTag localTag (r .tag) (omega arith) in
         compare-good (f (a .op)) (variableOf (a .tag) (a .number)) (operandOf (a .right)) (s (a .op) (r .op))
         (names-good (a .tag) (a .number) p (omega arith) (r .names) .1) (operand-good false (a .right) (r .right))
 
@@ -355,36 +358,36 @@ module _ (m : Model) (w : WellFormed m) where
         all-join GoodAtom (transitionAt (m .behavior) k .atoms) (λ j. plain (atomWith negatedOp (atomAt (m .behavior) k j)))
         (λ j h. atom-good negatedOp j (λ op s. negated-small op) h also tt)
 
-    assigned-good : (j : ℕ) → j < transitionAt (m .behavior) k .assignments → GoodExpression 5 (assignedExpression (assignmentAt (m .behavior) k j))
+    assigned-good : (j : ℕ) → j < transitionAt (m .behavior) k .assignments → GoodExpression completeKind (assignedExpression (assignmentAt (m .behavior) k j))
     unfolding assignedExpression
     assigned-good j h =
         let a = assignmentAt (m .behavior) k j in
         let r = w .behavior .assignment k j l h in
         let first = operand-good false (a .first) (r .first) in
-        one-cond (GoodExpression 5) (eqb (a .op) 0) (copied (operandOf (a .first))) (record { op = a .op; first = operandOf (a .first); second = operandOf (a .second) })
-        (λ e. copied-good 5 (operandOf (a .first)) first)
+        one-cond (GoodExpression completeKind) (eqb (a .op) copyOp) (copied (operandOf (a .first))) (record { op = a .op; first = operandOf (a .first); second = operandOf (a .second) })
+        (λ e. copied-good completeKind (operandOf (a .first)) first)
         (λ e. record { op = r .op; first = first; second = operand-good false (a .second) (r .second) })
 
-    assignments-good : All (GoodUpdate 5) (assignmentUpdates (m .behavior) k (transitionAt (m .behavior) k .assignments))
+    assignments-good : All (GoodUpdate completeKind) (assignmentUpdates (m .behavior) k (transitionAt (m .behavior) k .assignments))
     unfolding assignmentUpdates
     assignments-good =
-        all-join (GoodUpdate 5) (transitionAt (m .behavior) k .assignments)
+        all-join (GoodUpdate completeKind) (transitionAt (m .behavior) k .assignments)
         (λ j. update (variableOf (assignmentAt (m .behavior) k j .tag) (assignmentAt (m .behavior) k j .number)) (assignedExpression (assignmentAt (m .behavior) k j)) ∷ [])
         (λ j h.
         let a = assignmentAt (m .behavior) k j in
         let r = w .behavior .assignment k j l h in
-        let (p, q) = between (a .tag) 2 3 (r .tag) (omega arith) in
+        let (p, q) = between (a .tag) localTag outputTag (r .tag) (omega arith) in
         let (s, n) = names-good (a .tag) (a .number) (omega arith) q (r .names) in
-        update-good 5 (variableOf (a .tag) (a .number)) (assignedExpression a) s n (assigned-good j h) also tt)
+        update-good completeKind (variableOf (a .tag) (a .number)) (assignedExpression a) s n (assigned-good j h) also tt)
 
-    sent-good : (o : ℕ) → o < m .timing .outputs → GoodExpression 5 (sentExpression (m .behavior) k (transitionAt (m .behavior) k .assignments) o)
+    sent-good : (o : ℕ) → o < m .timing .outputs → GoodExpression completeKind (sentExpression (m .behavior) k (transitionAt (m .behavior) k .assignments) o)
     unfolding sentExpression
     sent-good o h =
-        fold-keeps (GoodExpression 5) (transitionAt (m .behavior) k .assignments)
-        (λ j x. cond (eqb (assignmentAt (m .behavior) k j .tag) 3 && eqb (assignmentAt (m .behavior) k j .number) o) (assignedExpression (assignmentAt (m .behavior) k j)) x)
-        (oldOutput o) (output-good (m .timing) (w .timing) 5 o h)
+        fold-keeps (GoodExpression completeKind) (transitionAt (m .behavior) k .assignments)
+        (λ j x. cond (eqb (assignmentAt (m .behavior) k j .tag) outputTag && eqb (assignmentAt (m .behavior) k j .number) o) (assignedExpression (assignmentAt (m .behavior) k j)) x)
+        (oldOutput o) (output-good (m .timing) (w .timing) completeKind o h)
         (λ j x i f.
-        one-cond (GoodExpression 5) (eqb (assignmentAt (m .behavior) k j .tag) 3 && eqb (assignmentAt (m .behavior) k j .number) o)
+        one-cond (GoodExpression completeKind) (eqb (assignmentAt (m .behavior) k j .tag) outputTag && eqb (assignmentAt (m .behavior) k j .number) o)
         (assignedExpression (assignmentAt (m .behavior) k j)) x (λ e. assigned-good j i) (λ e. f))
 
   -- lists for a thread's transitions below n
@@ -395,43 +398,43 @@ module _ (m : Model) (w : WellFormed m) where
       (λ k i. all-when P (eqb (transitionAt (m .behavior) k .thread) t) (f k) (λ e. h k i))
 
   module _ (t : ℕ) (l : t < 16) where
-    transition-good : (k : ℕ) → k < m .behavior .transitions → GoodBody 5 (transitionRule m t k)
+    transition-good : (k : ℕ) → k < m .behavior .transitions → GoodBody completeKind (transitionRule m t k)
     unfolding transitionRule
     transition-good k h =
         let b = m .behavior in
-        let ends = ends-good t l (m .timing) 5 in
+        let ends = ends-good t l (m .timing) completeKind in
         let n = transitionAt b k .assignments in
-        body-good 5 _ _
+        body-good completeKind _ _
         (state-good t l execution (omega arith) also end-good t l also
-        (constant-compare 0 (behaviorVar t) (transitionAt b k .from) (omega arith) (omega arith) (omega (arith, w .behavior .from k h)) also tt) also
+        (constant-compare equalsOp (behaviorVar t) (transitionAt b k .from) (omega arith) (omega arith) (omega (arith, w .behavior .from k h)) also tt) also
         all-append (All GoodAtom) (guardClauses b k) (perTransition b t k (earlierClause b k)) (guard-good k h)
         (transitions-good (All GoodAtom) t k (earlierClause b k) (omega arith)
         (λ e i. all-only (All GoodAtom) (eqb (transitionAt b e .from) (transitionAt b k .from)) (negatedGuard b e) (λ q. negated-good e (omega arith)))))
-        (set-state t l 5 completed (omega arith) also
+        (set-state t l completeKind completed (omega arith) also
         ends .0 also ends .1 .0 also
-        set-good 5 (behaviorVar t) (transitionAt b k .to) (omega arith) (omega arith) (omega (arith, w .behavior .to k h)) also
-        all-append (GoodUpdate 5) (assignmentUpdates b k n) (sendUpdates (m .timing) immediate t (sentExpression b k n)) (assignments-good k h)
-        (send-good (m .timing) (w .timing) 5 immediate t (sentExpression b k n) (sent-good k h)))
+        set-good completeKind (behaviorVar t) (transitionAt b k .to) (omega arith) (omega arith) (omega (arith, w .behavior .to k h)) also
+        all-append (GoodUpdate completeKind) (assignmentUpdates b k n) (sendUpdates (m .timing) immediate t (sentExpression b k n)) (assignments-good k h)
+        (send-good (m .timing) (w .timing) completeKind immediate t (sentExpression b k n) (sent-good k h)))
 
-    default-good : GoodBody 5 (defaultRule m t)
+    default-good : GoodBody completeKind (defaultRule m t)
     unfolding defaultRule
     default-good =
         let b = m .behavior in
-        let ends = ends-good t l (m .timing) 5 in
-        body-good 5 _ _
+        let ends = ends-good t l (m .timing) completeKind in
+        body-good completeKind _ _
         (state-good t l execution (omega arith) also end-good t l also
         transitions-good (All GoodAtom) t (b .transitions) (otherwiseClause b t) (omega arith)
         (λ k h.
-        (constant-compare 1 (behaviorVar t) (transitionAt b k .from) (omega arith) (omega arith) (omega (arith, w .behavior .from k h)) also negated-good k h) also tt))
-        (set-state t l 5 completed (omega arith) also
+        (constant-compare differsOp (behaviorVar t) (transitionAt b k .from) (omega arith) (omega arith) (omega (arith, w .behavior .from k h)) also negated-good k h) also tt))
+        (set-state t l completeKind completed (omega arith) also
         ends .0 also ends .1 .0 also
-        send-good (m .timing) (w .timing) 5 immediate t oldOutput (output-good (m .timing) (w .timing) 5))
+        send-good (m .timing) (w .timing) completeKind immediate t oldOutput (output-good (m .timing) (w .timing) completeKind))
 
-    complete-good : All (GoodBody 5) (completeRules m t)
+    complete-good : All (GoodBody completeKind) (completeRules m t)
     unfolding completeRules
     complete-good =
-        all-append (GoodBody 5) (perTransition (m .behavior) t (m .behavior .transitions) (λ k. transitionRule m t k ∷ [])) (defaultRule m t ∷ [])
-        (transitions-good (GoodBody 5) t (m .behavior .transitions) (λ k. transitionRule m t k ∷ []) (omega arith) (λ k h. transition-good k h also tt))
+        all-append (GoodBody completeKind) (perTransition (m .behavior) t (m .behavior .transitions) (λ k. transitionRule m t k ∷ [])) (defaultRule m t ∷ [])
+        (transitions-good (GoodBody completeKind) t (m .behavior .transitions) (λ k. transitionRule m t k ∷ []) (omega arith) (λ k h. transition-good k h also tt))
         (default-good also tt)
 
   -- ---- all rules

@@ -4,40 +4,42 @@ use mathlib.Core.List.{List, [], _∷_, _++_}
 use Prim.Native.Nat.{ℕ}
 use lib.Dec.{eqb}
 use Rattle.numbers.specs.Lists.{joinBelow}
-use Rattle.numbers.specs.Values.{natural}
+use Rattle.numbers.specs.Values.{natural, copyOp, sumOp, equalsOp, differsOp, belowOp, atLeastOp, aboveOp, atMostOp}
 use Rattle.records.specs.declared.Operand.{Operand}
+use Rattle.records.specs.Format.{constantTag}
 use Rattle.table_format.specs.declared.Atom.{Atom}
 use Rattle.table_format.specs.declared.Update.{Update}
 use Rattle.table_format.specs.Variables.{noVariable}
+use Rattle.table_format.specs.Format.{variableTag, lengthTag, multipleOp, noMultipleOp}
 use Rattle.table_format.specs.Table.{Rule}
 
 abbrev pub constant : ℕ → Operand
-constant n = record { tag = 0; value = natural n }
+constant n = record { tag = constantTag; value = natural n }
 
 abbrev pub variable : ℕ → Operand
-variable j = record { tag = 1; value = natural j }
+variable j = record { tag = variableTag; value = natural j }
 
 abbrev pub chosenLength : Operand
-chosenLength = record { tag = 2; value = natural 0 }
+chosenLength = record { tag = lengthTag; value = natural 0 }
 
 -- ---- atoms: variable j on the left, o on the right
 abbrev pub equals : ℕ → Operand → Atom
-equals j o = record { op = 0; variable = j; right = o }
+equals j o = record { op = equalsOp; variable = j; right = o }
 
 abbrev pub differs : ℕ → Operand → Atom
-differs j o = record { op = 1; variable = j; right = o }
+differs j o = record { op = differsOp; variable = j; right = o }
 
 abbrev pub isBelow : ℕ → Operand → Atom
-isBelow j o = record { op = 2; variable = j; right = o }
+isBelow j o = record { op = belowOp; variable = j; right = o }
 
 abbrev pub isAtLeast : ℕ → Operand → Atom
-isAtLeast j o = record { op = 3; variable = j; right = o }
+isAtLeast j o = record { op = atLeastOp; variable = j; right = o }
 
 abbrev pub multipleOf : ℕ → Operand → Atom
-multipleOf j o = record { op = 6; variable = j; right = o }
+multipleOf j o = record { op = multipleOp; variable = j; right = o }
 
 abbrev pub noMultipleOf : ℕ → Operand → Atom
-noMultipleOf j o = record { op = 7; variable = j; right = o }
+noMultipleOf j o = record { op = noMultipleOp; variable = j; right = o }
 
 -- "Each plain condition is a clause of one atom"
 abbrev pub plain : Atom → List Atom
@@ -45,7 +47,12 @@ plain a = a ∷ []
 
 -- the opposite comparison: = and ≠, < and ≥, > and ≤
 unfoldable pub negatedOp : ℕ → ℕ
-negatedOp op = cond (eqb op 0) 1 (cond (eqb op 1) 0 (cond (eqb op 2) 3 (cond (eqb op 3) 2 (cond (eqb op 4) 5 4))))
+negatedOp op =
+    cond (eqb op equalsOp) differsOp
+    (cond (eqb op differsOp) equalsOp
+    (cond (eqb op belowOp) atLeastOp
+    (cond (eqb op atLeastOp) belowOp
+    (cond (eqb op aboveOp) atMostOp aboveOp))))
 
 -- ---- updates: "equality and copy unless said; unused update fields 0, but the condition variable 65,535 where there is no condition"
 pub record Expression : Type 0 where
@@ -54,10 +61,10 @@ pub record Expression : Type 0 where
   pub second : Operand
 
 abbrev pub copied : Operand → Expression
-copied o = record { op = 0; first = o; second = constant 0 }
+copied o = record { op = copyOp; first = o; second = constant 0 }
 
 abbrev pub sumOf : Operand → Operand → Expression
-sumOf a b = record { op = 1; first = a; second = b }
+sumOf a b = record { op = sumOp; first = a; second = b }
 
 abbrev pub updateWhen : ℕ → ℕ → ℕ → Expression → Update
 updateWhen condition wanted target x =

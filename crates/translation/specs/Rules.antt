@@ -4,18 +4,20 @@ use mathlib.Core.List.{List, [], _∷_, _++_}
 use Prim.Native.Nat.{ℕ, _+_}
 use lib.Dec.{eqb, ltb}
 use Rattle.numbers.specs.Lists.{joinBelow, firstBelow, foldBelow, only}
-use Rattle.numbers.specs.Values.{bitsOf}
+use Rattle.numbers.specs.Values.{bitsOf, copyOp}
 use Rattle.records.specs.declared.Operand.{Operand}
+use Rattle.records.specs.Format.{constantTag}
+use Rattle.records.specs.Events.{activateKind, deactivateKind, dispatchKind, startKind, completeKind, deadlineKind, missKind, requestKind, enterKind, leaveKind}
 use Rattle.model_format.specs.declared.Assignment.{Assignment}
 use Rattle.model_format.specs.declared.Connection.{Connection}
 use Rattle.model_format.specs.declared.Timing.{Timing}
 use Rattle.model_format.specs.declared.Behavior.{Behavior}
 use Rattle.model_format.specs.declared.Model.{Model}
 use Rattle.model_format.specs.declared.Atom as model-atom
-use Rattle.model_format.specs.Model.{threadAt, inputOwner, connectionAt, switchAt, transitionAt, atomAt, assignmentAt, inMode, immediate, delayed, isKind, sourceThread, targetThread}
+use Rattle.model_format.specs.Model.{threadAt, inputOwner, connectionAt, switchAt, transitionAt, atomAt, assignmentAt, inMode, inputTag, localTag, outputTag, immediate, delayed, isKind, sourceThread, targetThread}
 use Rattle.model_semantics.specs.State.{none}
 use Rattle.model_semantics.specs.Effects.{inBoth}
-use Rattle.model_semantics.specs.Tests.{waitingMode, waitingDispatch, waitingExecution, execution, completed}
+use Rattle.model_semantics.specs.Tests.{waitingMode, waitingDispatch, waitingExecution, execution, completed, steady, requested, changing}
 use Rattle.table_format.specs.declared.Atom.{Atom}
 use Rattle.table_format.specs.declared.Update.{Update}
 use Rattle.table_format.specs.Variables.{nowVar, modeVar, phaseVar, pendingVar, enteredVar, cpuVar, activeVar, stateVar, dispatchVar, dueVar, endVar, behaviorVar, missedVar, flagVar, inputVar, bufferVar, outputVar, localVar}
@@ -144,12 +146,12 @@ startRules m t = record { low = threadAt m t .bcet .0; high = threadAt m t .wcet
 
 -- ---- "5: per transition of the thread State, End=Now, behaviour state, atoms, per earlier one with equal from a clause of negated
 -- atoms; then one default rule: State, End=Now, per transition [behaviour state≠from, negated atoms]."
--- the variable that a tag and a number name: 1 input port, 2 local, 3 output port
+-- the variable that a tag and a number name
 unfoldable pub variableOf : ℕ → ℕ → ℕ
-variableOf tag n = cond (eqb tag 1) (inputVar n) (cond (eqb tag 2) (localVar n) (outputVar n))
+variableOf tag n = cond (eqb tag inputTag) (inputVar n) (cond (eqb tag localTag) (localVar n) (outputVar n))
 
 unfoldable pub operandOf : Operand → Operand
-operandOf o = cond (eqb (o .tag) 0) o (variable (variableOf (o .tag) (bitsOf (o .value .0))))
+operandOf o = cond (eqb (o .tag) constantTag) o (variable (variableOf (o .tag) (bitsOf (o .value .0))))
 
 abbrev pub atomWith : (ℕ → ℕ) → model-atom.Atom → Atom
 atomWith op a = record { op = op (a .op); variable = variableOf (a .tag) (a .number); right = operandOf (a .right) }
@@ -192,7 +194,7 @@ otherwiseClause b t k = shutClause t (transitionAt b k .from) (negatedGuard b k)
 -- expression or the old port."
 -- a copy has no second operand
 unfoldable pub assignedExpression : Assignment → Expression
-assignedExpression a = cond (eqb (a .op) 0) (copied (operandOf (a .first))) (record { op = a .op; first = operandOf (a .first); second = operandOf (a .second) })
+assignedExpression a = cond (eqb (a .op) copyOp) (copied (operandOf (a .first))) (record { op = a .op; first = operandOf (a .first); second = operandOf (a .second) })
 
 abbrev pub assignmentUpdate : Assignment → List Update
 assignmentUpdate a = update (variableOf (a .tag) (a .number)) (assignedExpression a) ∷ []
@@ -205,7 +207,7 @@ abbrev pub oldOutput : ℕ → Expression
 oldOutput o = copied (variable (outputVar o))
 
 abbrev pub sentAfter : Assignment → ℕ → Expression → Expression
-sentAfter a o x = cond (eqb (a .tag) 3 && eqb (a .number) o) (assignedExpression a) x
+sentAfter a o x = cond (eqb (a .tag) outputTag && eqb (a .number) o) (assignedExpression a) x
 
 unfoldable pub sentExpression : Behavior → ℕ → ℕ → ℕ → Expression
 sentExpression b k n o = foldBelow n (λ j x. sentAfter (assignmentAt b k j) o x) (oldOutput o)
@@ -287,10 +289,10 @@ missRules m t = missWaiting t 1 waitingDispatch ∷ missWaiting t 0 waitingMode 
 -- ---- "8: Phase, Mode; Phase, Pending; then [Phase≠0, Mode≠from] without updates."
 abbrev pub requestGranted : ℕ → ℕ → Body
 requestGranted q from =
-    body (plain (equals phaseVar (constant 0)) ∷ plain (equals modeVar (constant from)) ∷ []) (setTo phaseVar 1 ∷ setTo pendingVar q ∷ [])
+    body (plain (equals phaseVar (constant steady)) ∷ plain (equals modeVar (constant from)) ∷ []) (setTo phaseVar requested ∷ setTo pendingVar q ∷ [])
 
 abbrev pub requestIgnored : ℕ → Body
-requestIgnored from = body ((differs phaseVar (constant 0) ∷ differs modeVar (constant from) ∷ []) ∷ []) []
+requestIgnored from = body ((differs phaseVar (constant steady) ∷ differs modeVar (constant from) ∷ []) ∷ []) []
 
 unfoldable pub requestRules : Timing → ℕ → List Body
 requestRules m q = requestGranted q (switchAt m q .from) ∷ requestIgnored (switchAt m q .from) ∷ []
@@ -312,19 +314,19 @@ abbrev pub flagUpdates : Timing → ℕ → ℕ → List Update
 flagUpdates m old new = joinBelow (m .connections) (flagUpdate m old new)
 
 abbrev pub enterClauses : ℕ → ℕ → List (List Atom)
-enterClauses q h1 = phaseIs 1 q ++ plain (multipleOf nowVar (constant h1)) ∷ []
+enterClauses q h1 = phaseIs requested q ++ plain (multipleOf nowVar (constant h1)) ∷ []
 
 abbrev pub enterUpdates : Timing → ℕ → ℕ → List Update
-enterUpdates m old new = setTo phaseVar 2 ∷ update enteredVar (copied (variable nowVar)) ∷ activeUpdates m new ++ flagUpdates m old new
+enterUpdates m old new = setTo phaseVar changing ∷ update enteredVar (copied (variable nowVar)) ∷ activeUpdates m new ++ flagUpdates m old new
 
 unfoldable pub enterRules : Timing → ℕ → List Body
 enterRules m q = let x = switchAt m q in body (enterClauses q (x .h1 .0)) (enterUpdates m (x .from) (x .to)) ∷ []
 
 abbrev pub leaveClauses : ℕ → ℕ → List (List Atom)
-leaveClauses q h2 = phaseIs 2 q ++ plain (differs nowVar (variable enteredVar)) ∷ plain (multipleOf nowVar (constant h2)) ∷ []
+leaveClauses q h2 = phaseIs changing q ++ plain (differs nowVar (variable enteredVar)) ∷ plain (multipleOf nowVar (constant h2)) ∷ []
 
 abbrev pub leaveUpdates : Timing → ℕ → List Update
-leaveUpdates m new = setTo phaseVar 0 ∷ setTo pendingVar none ∷ setTo modeVar new ∷ flagUpdates m new new
+leaveUpdates m new = setTo phaseVar steady ∷ setTo pendingVar none ∷ setTo modeVar new ∷ flagUpdates m new new
 
 unfoldable pub leaveRules : Timing → ℕ → List Body
 leaveRules m q = let x = switchAt m q in body (leaveClauses q (x .h2 .0)) (leaveUpdates m (x .to)) ∷ []
@@ -332,7 +334,7 @@ leaveRules m q = let x = switchAt m q in body (leaveClauses q (x .h2 .0)) (leave
 -- ---- all rules
 -- "08 REQUEST, 09 ENTER, 0A LEAVE: mode transition"; the others have a thread
 abbrev pub switchKinds : List ℕ
-switchKinds = 8 ∷ 9 ∷ 10 ∷ []
+switchKinds = requestKind ∷ enterKind ∷ leaveKind ∷ []
 
 -- how many threads or mode transitions have rules of a kind
 unfoldable pub itemsOf : Timing → ℕ → ℕ
@@ -341,18 +343,18 @@ itemsOf m kind = cond (isOneOf switchKinds kind) (m .switches) (m .threads)
 -- the rules of a kind and an item: COMPLETE's by the behaviours too, the others by the timing
 unfoldable pub timingRules : Timing → ℕ → ℕ → List Body
 timingRules m kind i =
-    cond (eqb kind 1) (activateRules m i)
-    (cond (eqb kind 2) (deactivateRules m i)
-    (cond (eqb kind 3) (dispatchRules m i)
-    (cond (eqb kind 4) (startRules m i)
-    (cond (eqb kind 6) (deadlineRules m i)
-    (cond (eqb kind 7) (missRules m i)
-    (cond (eqb kind 8) (requestRules m i)
-    (cond (eqb kind 9) (enterRules m i)
-    (cond (eqb kind 10) (leaveRules m i) []))))))))
+    cond (eqb kind activateKind) (activateRules m i)
+    (cond (eqb kind deactivateKind) (deactivateRules m i)
+    (cond (eqb kind dispatchKind) (dispatchRules m i)
+    (cond (eqb kind startKind) (startRules m i)
+    (cond (eqb kind deadlineKind) (deadlineRules m i)
+    (cond (eqb kind missKind) (missRules m i)
+    (cond (eqb kind requestKind) (requestRules m i)
+    (cond (eqb kind enterKind) (enterRules m i)
+    (cond (eqb kind leaveKind) (leaveRules m i) []))))))))
 
 unfoldable pub rulesFor : Model → ℕ → ℕ → List Body
-rulesFor m kind i = cond (eqb kind 5) (completeRules m i) (timingRules (m .timing) kind i)
+rulesFor m kind i = cond (eqb kind completeKind) (completeRules m i) (timingRules (m .timing) kind i)
 
 unfoldable pub groupsFor : Model → List ℕ → List Group
 groupsFor m [] = []

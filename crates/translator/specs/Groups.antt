@@ -7,6 +7,7 @@ use lib.ListN.{getD, length}
 use lib.Dec.{eqb}
 use borrow.Author.Tests.{ne-eqb}
 use Rattle.numbers.specs.Lists.{joinBelow}
+use Rattle.records.specs.Events.{completeKind, requestKind, enterKind, leaveKind}
 use Rattle.model_format.specs.declared.Timing.{Timing}
 use Rattle.model_format.specs.declared.Model.{Model}
 use Rattle.model_format.specs.WellFormed.{GoodTiming}
@@ -23,20 +24,20 @@ abbrev pub groupRules : Timing → ℕ → List Rule
 groupRules x kind = joinBelow (itemsOf x kind) (λ i. stamped kind i (timingRules x kind i))
 
 abbrev pub completesOf : Model → List Rule
-completesOf m = joinBelow (m .timing .threads) (λ i. stamped 5 i (completeRules m i))
+completesOf m = joinBelow (m .timing .threads) (λ i. stamped completeKind i (completeRules m i))
 
 abbrev pub kindRules : Model → ℕ → List Rule
 kindRules m kind = joinBelow (itemsOf (m .timing) kind) (λ i. stamped kind i (rulesFor m kind i))
 
 -- n is how many there are
 module _ (x : Timing) (kind n : ℕ) where
-  pub items-switches : n ≡ x .switches → (eqb kind 8 || (eqb kind 9 || eqb kind 10)) ≡ true → n ≡ itemsOf x kind
+  pub items-switches : n ≡ x .switches → (eqb kind requestKind || (eqb kind enterKind || eqb kind leaveKind)) ≡ true → n ≡ itemsOf x kind
   unfolding itemsOf isOneOf
-  items-switches e h = rw (e, or-false (eqb kind 10), h)
+  items-switches e h = rw (e, or-false (eqb kind leaveKind), h)
 
-  pub items-threads : n ≡ x .threads → (eqb kind 8 || (eqb kind 9 || eqb kind 10)) ≡ false → n ≡ itemsOf x kind
+  pub items-threads : n ≡ x .threads → (eqb kind requestKind || (eqb kind enterKind || eqb kind leaveKind)) ≡ false → n ≡ itemsOf x kind
   unfolding itemsOf isOneOf
-  items-threads e h = rw (e, or-false (eqb kind 10), h)
+  items-threads e h = rw (e, or-false (eqb kind leaveKind), h)
 
 module _ (x : Timing) (kind : ℕ) where
   pub items-few : GoodTiming x → itemsOf x kind ≤ 16
@@ -75,13 +76,13 @@ module _ (x : ℕ → List Rule) where
 
 -- ---- the kinds, one after the other; k is the kind as the code has read it
 module _ {d e : List ℕ} {at p : ℕ} (m : Model) (kind : ℕ) {k : ℕ} (q : k ≡ kind) where
-  pub complete-kind : k ≡ 5 → WroteRules d at (completesOf m) e p → WroteRules d at (kindRules m kind) e p
+  pub complete-kind : k ≡ completeKind → WroteRules d at (completesOf m) e p → WroteRules d at (kindRules m kind) e p
   unfolding itemsOf isOneOf rulesFor
   complete-kind h w = rw (sym q ∙ h) w
 
-  pub other-kind : (k ≡ 5 → ⊥) → WroteRules d at (groupRules (m .timing) k) e p → WroteRules d at (kindRules m kind) e p
+  pub other-kind : (k ≡ completeKind → ⊥) → WroteRules d at (groupRules (m .timing) k) e p → WroteRules d at (kindRules m kind) e p
   unfolding rulesFor
-  other-kind h w = rw (← q, ne-eqb k 5 h) w
+  other-kind h w = rw (← q, ne-eqb k completeKind h) w
 
 join-front : {A : Type 0} (n : ℕ) (f : ℕ → List A) → joinBelow (suc n) f ≡ f 0 ++ joinBelow n (λ i. f (suc i))
 unfolding joinBelow

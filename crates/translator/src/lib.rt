@@ -50,114 +50,114 @@ const RULE_KINDS: [u8; KINDS] = [
     LEAVE,
 ];
 
-fn rule_kind(i: usize) -> u8
-    requires { ⌜ i < length ruleKinds ⌝ }
-    ensures { λ r. ⌜ r ≡ getD ruleKinds i 0 ⌝ }
+fn rule_kind(number: usize) -> u8
+    requires { ⌜ number < length ruleKinds ⌝ }
+    ensures { λ r. ⌜ r ≡ getD ruleKinds number 0 ⌝ }
 {
-    RULE_KINDS[i]
+    RULE_KINDS[number]
 }
 
 // How many items an event kind has rules for: mode transitions, or threads.
-fn items_of(m: &[u32], kind: u8) -> usize
-    ensures { λ r. ⌜ r ≡ itemsOf (timingIn (now (m .entry))) kind ⌝ }
+fn items_of(words: &[u32], kind: u8) -> usize
+    ensures { λ r. ⌜ r ≡ itemsOf (timingIn (now (words .entry))) kind ⌝ }
 {
     if (kind == REQUEST) | ((kind == ENTER) | (kind == LEAVE)) {
-        return model_words::switches(m);
+        return model_words::switches(words);
     }
-    model_words::threads(m)
+    model_words::threads(words)
 }
 
 // The rules of an event kind and an item. COMPLETE has its own function: only it needs the behaviours.
-fn put_item(output: &mut [u8], at: usize, m: &[u32], kind: u8, i: u8) -> usize
-    requires { ⌜ GoodTiming (timingIn (now m)) ⌝ }
-    ensures { λ r. ⌜ WroteRules (now (output .entry)) at (stamped kind i (timingRules (timingIn (now (m .entry))) kind i)) (now (output .exit)) r ⌝ }
+fn put_item(output: &mut [u8], at: usize, words: &[u32], kind: u8, item: u8) -> usize
+    requires { ⌜ GoodTiming (timingIn (now words)) ⌝ }
+    ensures { λ r. ⌜ WroteRules (now (output .entry)) at (stamped kind item (timingRules (timingIn (now (words .entry))) kind item)) (now (output .exit)) r ⌝ }
 {
     match kind {
-        ACTIVATE => translate_threads::put_activate(output, at, m, i),
-        DEACTIVATE => translate_threads::put_deactivate(output, at, m, i),
-        DISPATCH => translate_threads::put_dispatch(output, at, m, i),
-        START => translate_threads::put_start(output, at, m, i),
-        DEADLINE => translate_threads::put_deadline(output, at, m, i),
-        MISS => translate_threads::put_miss(output, at, m, i),
-        REQUEST => translate_modes::put_request(output, at, m, i),
-        ENTER => translate_modes::put_enter(output, at, m, i),
-        LEAVE => translate_modes::put_leave(output, at, m, i),
+        ACTIVATE => translate_threads::put_activate(output, at, words, item),
+        DEACTIVATE => translate_threads::put_deactivate(output, at, words, item),
+        DISPATCH => translate_threads::put_dispatch(output, at, words, item),
+        START => translate_threads::put_start(output, at, words, item),
+        DEADLINE => translate_threads::put_deadline(output, at, words, item),
+        MISS => translate_threads::put_miss(output, at, words, item),
+        REQUEST => translate_modes::put_request(output, at, words, item),
+        ENTER => translate_modes::put_enter(output, at, words, item),
+        LEAVE => translate_modes::put_leave(output, at, words, item),
         _ => at,
     }
 }
 
 // The rules of an event kind.
-fn put_group(output: &mut [u8], at: usize, m: &[u32], kind: u8) -> usize
-    requires { ⌜ GoodTiming (timingIn (now m)) ⌝ }
-    ensures { λ r. ⌜ WroteRules (now (output .entry)) at (groupRules (timingIn (now (m .entry))) kind) (now (output .exit)) r ⌝ }
+fn put_group(output: &mut [u8], at: usize, words: &[u32], kind: u8) -> usize
+    requires { ⌜ GoodTiming (timingIn (now words)) ⌝ }
+    ensures { λ r. ⌜ WroteRules (now (output .entry)) at (groupRules (timingIn (now (words .entry))) kind) (now (output .exit)) r ⌝ }
 {
-    let n = items_of(m, kind);
+    let items = items_of(words, kind);
     let mut at = at;
-    let mut i = 0;
-    while i < n {
-        at = put_item(output, at, m, kind, i as u8);
-        i += 1;
+    let mut item = 0;
+    while item < items {
+        at = put_item(output, at, words, kind, item as u8);
+        item += 1;
     }
     at
 }
 
-fn put_completes(output: &mut [u8], at: usize, m: &[u32]) -> usize
-    requires { ⌜ WellFormed (modelIn (now m)) ⌝ }
-    ensures { λ r. ⌜ WroteRules (now (output .entry)) at (completesOf (modelIn (now (m .entry)))) (now (output .exit)) r ⌝ }
+fn put_completes(output: &mut [u8], at: usize, words: &[u32]) -> usize
+    requires { ⌜ WellFormed (modelIn (now words)) ⌝ }
+    ensures { λ r. ⌜ WroteRules (now (output .entry)) at (completesOf (modelIn (now (words .entry)))) (now (output .exit)) r ⌝ }
 {
-    let n = model_words::threads(m);
+    let threads = model_words::threads(words);
     let mut at = at;
-    let mut i = 0;
-    while i < n {
-        at = translate_complete::put_complete(output, at, m, i as u8);
-        i += 1;
+    let mut thread = 0;
+    while thread < threads {
+        at = translate_complete::put_complete(output, at, words, thread as u8);
+        thread += 1;
     }
     at
 }
 
 // All rules, by kind.
-fn put_rules(output: &mut [u8], at: usize, m: &[u32]) -> usize
-    requires { ⌜ WellFormed (modelIn (now m)) ⌝ }
-    ensures { λ r. ⌜ WroteRules (now (output .entry)) at (rulesOf (modelIn (now (m .entry)))) (now (output .exit)) r ⌝ }
+fn put_rules(output: &mut [u8], at: usize, words: &[u32]) -> usize
+    requires { ⌜ WellFormed (modelIn (now words)) ⌝ }
+    ensures { λ r. ⌜ WroteRules (now (output .entry)) at (rulesOf (modelIn (now (words .entry)))) (now (output .exit)) r ⌝ }
 {
     let mut at = at;
-    let mut i: usize = 0;
-    while i < KINDS {
-        let kind = rule_kind(i);
-        i += 1;
+    let mut number: usize = 0;
+    while number < KINDS {
+        let kind = rule_kind(number);
+        number += 1;
         if kind == COMPLETE {
-            at = put_completes(output, at, m);
+            at = put_completes(output, at, words);
         } else {
-            at = put_group(output, at, m, kind);
+            at = put_group(output, at, words, kind);
         }
     }
     at
 }
 
 // The whole table from the slice's start, as far as the slice goes: the start records, then the rules.
-fn put_table(output: &mut [u8], m: &[u32]) -> usize
-    requires { ⌜ WellFormed (modelIn (now m)) ⌝ }
-    ensures { λ r. ⌜ Wrote (now (output .entry)) 0 (tableBytes (modelIn (now (m .entry)))) (now (output .exit)) r ⌝ }
+fn put_table(output: &mut [u8], words: &[u32]) -> usize
+    requires { ⌜ WellFormed (modelIn (now words)) ⌝ }
+    ensures { λ r. ⌜ Wrote (now (output .entry)) 0 (tableBytes (modelIn (now (words .entry)))) (now (output .exit)) r ⌝ }
 {
-    let at = translate_starts::put_initial_values(output, 0, m);
-    put_rules(output, at, m)
+    let at = translate_starts::put_initial_values(output, 0, words);
+    put_rules(output, at, words)
 }
 
 // The table's length: the same walk over one byte of its own, past which it counts and does not write.
-fn table_length(m: &[u32]) -> usize
-    requires { ⌜ WellFormed (modelIn (now m)) ⌝ }
-    ensures { λ r. ⌜ r ≡ length (tableBytes (modelIn (now (m .entry)))) ⌝ }
+fn table_length(words: &[u32]) -> usize
+    requires { ⌜ WellFormed (modelIn (now words)) ⌝ }
+    ensures { λ r. ⌜ r ≡ length (tableBytes (modelIn (now (words .entry)))) ⌝ }
 {
     let mut none = [0u8; 1];
-    put_table(&mut none, m)
+    put_table(&mut none, words)
 }
 
 // A model read into a list that has room for it.
-fn read_into(model: &[u8], m: &mut [u32]) -> Refusal
-    requires { ⌜ modelWords ≤ length (now m) ⌝ }
-    ensures { λ r. ⌜ readAs r (now (m .exit)) ≡ readModel (now (model .entry)) ⌝ }
+fn read_into(model: &[u8], words: &mut [u32]) -> Refusal
+    requires { ⌜ modelWords ≤ length (now words) ⌝ }
+    ensures { λ r. ⌜ readAs r (now (words .exit)) ≡ readModel (now (model .entry)) ⌝ }
 {
-    model_reader::read_model_into(model, m)
+    model_reader::read_model_into(model, words)
 }
 
 // The table of an accepted model, at the beginning of the output, where it fits; else the output is as it was. With room for any table
@@ -165,25 +165,25 @@ fn read_into(model: &[u8], m: &mut [u32]) -> Refusal
 pub fn translate(model: &[u8], output: &mut [u8]) -> Translation
     ensures { λ r. ⌜ Translates (now (model .entry)) (now (output .entry)) r (now (output .exit)) ⌝ }
 {
-    let mut m = [0u32; MODEL_WORDS];
-    let refusal = read_into(model, &mut m);
-    let c = refusal.cause;
-    if !records::is_none(c) {
+    let mut words = [0u32; MODEL_WORDS];
+    let refusal = read_into(model, &mut words);
+    let cause = refusal.cause;
+    if !records::is_none(cause) {
         return Translation {
             refusal: refusal,
             bytes: 0,
         };
     }
     if LONGEST_MADE_TABLE <= output.len() {
-        let made = put_table(output, &m);
+        let made = put_table(output, &words);
         let accepted = records::no_refusal();
         return Translation {
             refusal: accepted,
             bytes: made,
         };
     }
-    let n = table_length(&m);
-    if output.len() < n {
+    let length = table_length(&words);
+    if output.len() < length {
         let end = model.len();
         let told = records::in_model(Cause::ShortOutput, end, end);
         return Translation {
@@ -191,10 +191,10 @@ pub fn translate(model: &[u8], output: &mut [u8]) -> Translation
             bytes: 0,
         };
     }
-    put_table(output, &m);
+    put_table(output, &words);
     let accepted = records::no_refusal();
     Translation {
         refusal: accepted,
-        bytes: n,
+        bytes: length,
     }
 }

@@ -1,7 +1,7 @@
 use Rattle.model_semantics.specs.declared.State.{State}
 use Rattle.records.specs.Run.{Tally}
 use mathlib.Core.Path.{ap}
-use Rattle.model_reader.specs.Laws.{read-new}
+use Rattle.model_reader.specs.Lent.{read-new}
 use Rattle.futonkestrel_models.specs.Laws.{after-refused, after-short, after-shown}
 use borrow.Author.Tests.{not-true, not-false}
 use borrow.Author.Needs.{needs}

@@ -1,6 +1,6 @@
 use Rattle.numbers.specs.declared.Duration.{Duration}
 use mathlib.Core.Path.{ap}
-use Rattle.model_reader.specs.Laws.{read-new}
+use Rattle.model_reader.specs.Lent.{read-new}
 use Rattle.futonkestrel_models.specs.Laws.{model-unread, model-run}
 use borrow.Author.Tests.{not-true, not-false}
 use borrow.Author.Needs.{needs}

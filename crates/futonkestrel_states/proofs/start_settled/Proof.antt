@@ -1,5 +1,5 @@
 use mathlib.Core.Path.{_∙_, ap}
-use Rattle.model_settling.specs.Words.{wordsOfState}
+use Rattle.state_settling.specs.Words.{wordsOfState}
 use borrow.Author.Needs.{needs}
 use Rattle.futonkestrel_states.proofs.start_settled.Statement.{statement}
 use Rattle.futonkestrel_states.proofs.start_settled.Tie as tie

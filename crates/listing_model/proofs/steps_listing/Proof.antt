@@ -1,5 +1,5 @@
 use borrow.Author.Needs.{needs}
-use Rattle.model_reader.specs.Laws.{whole-read}
+use Rattle.model_reader.specs.Lent.{whole-read}
 use Rattle.listing_model.specs.Steps.{steps-run, steps-refused}
 use Rattle.listing_model.proofs.steps_listing.Statement.{statement}
 use Rattle.listing_model.proofs.steps_listing.Tie as tie

@@ -7,7 +7,7 @@ use Rattle.numbers.specs.ListLaws.{any-zero}
 use Rattle.model_format.specs.Laws.{search-on}
 use Rattle.model_words.specs.Words.{behaviorIn}
 use Rattle.model_causes.specs.Readings.{hasTarget}
-use Rattle.model_causes.specs.Laws.{target-told, among-some, among-none}
+use Rattle.model_causes.specs.Searches.{target-told, among-some, among-none}
 use borrow.Author.Needs.{needs}
 use Rattle.model_causes.proofs.is_assigned.Statement.{statement}
 use Rattle.model_causes.proofs.is_assigned.Tie as tie
@@ -31,7 +31,7 @@ same-target-requires : tie.Need-same-target-requires Inv-loop μ-loop
 same-target-requires c κs = search needs
 
 returns : tie.Need-returns Inv-loop μ-loop
-returns c = among-some _ _ _ _ _ (c .before .before .before .before .before .before .before .args .a) (c .before .before .before .before .before .usize-of-u8 .ensures .0) _ _ (c .before .before .before .loop-test .taken) (c .before .before .assignment-at .ensures) (c .before .same-target .ensures) (c .if1 .taken)
+returns c = among-some _ _ _ _ _ (c .before .before .before .before .before .before .before .args .assignment) (c .before .before .before .before .before .usize-of-u8 .ensures .0) _ _ (c .before .before .before .loop-test .taken) (c .before .before .assignment-at .ensures) (c .before .same-target .ensures) (c .if1 .taken)
 
 add-j : tie.Need-add-j Inv-loop μ-loop
 add-j c = search needs
@@ -40,10 +40,10 @@ loop-less : tie.Need-loop-less Inv-loop μ-loop
 loop-less c = search needs
 
 loop-again : tie.Need-loop-again Inv-loop μ-loop
-loop-again c = (omega (arith, c .before .before .before .loop-test .taken), search-on _ 0 _ (c .before .before .before .before .loop .inv .1) (target-told _ _ _ (c .before .before .before .before .before .before .before .args .a) _ _ _ (c .before .before .assignment-at .ensures) (c .before .same-target .ensures) (c .if1 .left)))
+loop-again c = (omega (arith, c .before .before .before .loop-test .taken), search-on _ 0 _ (c .before .before .before .before .loop .inv .1) (target-told _ _ _ (c .before .before .before .before .before .before .before .args .assignment) _ _ _ (c .before .before .assignment-at .ensures) (c .before .same-target .ensures) (c .if1 .left)))
 
 returns-2 : tie.Need-returns-2 Inv-loop μ-loop
-returns-2 c = among-none _ _ _ _ _ (c .before .before .before .before .args .a) (c .before .before .usize-of-u8 .ensures .0) (c .before .loop .inv .0) (c .loop-test .left) (c .before .loop .inv .1)
+returns-2 c = among-none _ _ _ _ _ (c .before .before .before .before .args .assignment) (c .before .before .usize-of-u8 .ensures .0) (c .before .loop .inv .0) (c .loop-test .left) (c .before .loop .inv .1)
 
 pub is-assigned-spec : {M : Type 1} → statement M
 is-assigned-spec =

@@ -6,7 +6,7 @@ use Rattle.numbers.specs.Lists.{anyBelow}
 use Rattle.numbers.specs.ListLaws.{any-zero}
 use Rattle.model_format.specs.Laws.{search-on}
 use Rattle.model_faults.specs.Laws.{connectsTo, connects-not}
-use Rattle.model_causes.specs.Laws.{connected-some, connected-none}
+use Rattle.model_causes.specs.Searches.{connected-some, connected-none}
 use Rattle.model_words.specs.Words.{timingIn}
 use borrow.Author.Needs.{needs}
 use Rattle.model_causes.proofs.is_connected.Statement.{statement}

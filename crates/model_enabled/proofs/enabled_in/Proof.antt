@@ -12,7 +12,7 @@ most-events-requires : tie.Need-most-events-requires
 most-events-requires c κs = search needs
 
 mul-if1 : tie.Need-mul-if1
-mul-if1 c = let x = most-fits (timingIn (c .before .before .before .before .before .args .m .now)) (stateIn (c .before .before .before .before .before .args .s .now)) (c .most-events .ensures) in search needs
+mul-if1 c = let x = most-fits (timingIn (c .before .before .before .before .before .args .model .now)) (stateIn (c .before .before .before .before .before .args .state .now)) (c .most-events .ensures) in search needs
 
 put-events-requires : tie.Need-put-events-requires
 put-events-requires c κs = search needs
@@ -24,19 +24,19 @@ same-length : tie.Need-same-length
 same-length c = search needs
 
 returns : tie.Need-returns
-returns c = told-at-once (timingIn (c .before .before .before .before .before .before .before .before .before .before .before .args .m .now)) (stateIn (c .before .before .before .before .before .before .before .before .before .before .before .args .s .now)) (c .before .before .before .before .before .before .before .before .before .before .before .args .output .now) (c .before .before .before .before .before .before .before .may-tick .ensures) (c .before .before .before .before .before .before .most-events .ensures) (c .before .before .before .before .before .if1 .taken) (c .listed .ensures) (c .before .before .before .put-events .ensures)
+returns c = told-at-once (timingIn (c .before .before .before .before .before .before .before .before .before .before .before .args .model .now)) (stateIn (c .before .before .before .before .before .before .before .before .before .before .before .args .state .now)) (c .before .before .before .before .before .before .before .before .before .before .before .args .output .now) (c .before .before .before .before .before .before .before .may-tick .ensures) (c .before .before .before .before .before .before .most-events .ensures) (c .before .before .before .before .before .if1 .taken) (c .listed .ensures) (c .before .before .before .put-events .ensures)
 
 count-events-requires : tie.Need-count-events-requires
 count-events-requires c κs = search needs
 
 mul-if2 : tie.Need-mul-if2
-mul-if2 c = let x = count-fits (timingIn (c .before .before .before .before .before .before .before .args .m .now)) (stateIn (c .before .before .before .before .before .before .before .args .s .now)) (c .count-events .ensures) in search needs
+mul-if2 c = let x = count-fits (timingIn (c .before .before .before .before .before .before .before .args .model .now)) (stateIn (c .before .before .before .before .before .before .before .args .state .now)) (c .count-events .ensures) in search needs
 
 short-requires : tie.Need-short-requires
 short-requires c κs = search needs
 
 returns-2 : tie.Need-returns-2
-returns-2 c = told-no-room (timingIn (c .before .before .before .before .before .before .before .before .before .args .m .now)) (stateIn (c .before .before .before .before .before .before .before .before .before .args .s .now)) (c .before .before .before .before .before .before .before .before .before .args .output .now) (c .before .before .before .before .before .may-tick .ensures) (c .before .before .count-events .ensures) (c .before .if2 .taken) (c .short .ensures)
+returns-2 c = told-no-room (timingIn (c .before .before .before .before .before .before .before .before .before .args .model .now)) (stateIn (c .before .before .before .before .before .before .before .before .before .args .state .now)) (c .before .before .before .before .before .before .before .before .before .args .output .now) (c .before .before .before .before .before .may-tick .ensures) (c .before .before .count-events .ensures) (c .before .if2 .taken) (c .short .ensures)
 
 put-events-requires-2 : tie.Need-put-events-requires-2
 put-events-requires-2 c κs = search needs
@@ -48,7 +48,7 @@ same-length-2 : tie.Need-same-length-2
 same-length-2 c = search needs
 
 returns-3 : tie.Need-returns-3
-returns-3 c = told-listed (timingIn (c .before .before .before .before .before .before .before .before .before .before .before .before .before .args .m .now)) (stateIn (c .before .before .before .before .before .before .before .before .before .before .before .before .before .args .s .now)) (c .before .before .before .before .before .before .before .before .before .before .before .before .before .args .output .now) (c .before .before .before .before .before .before .before .before .before .may-tick .ensures) (c .before .before .before .before .before .before .count-events .ensures) (c .before .before .before .before .before .if2 .left) (c .listed2 .ensures) (c .before .before .before .put-events2 .ensures)
+returns-3 c = told-listed (timingIn (c .before .before .before .before .before .before .before .before .before .before .before .before .before .args .model .now)) (stateIn (c .before .before .before .before .before .before .before .before .before .before .before .before .before .args .state .now)) (c .before .before .before .before .before .before .before .before .before .before .before .before .before .args .output .now) (c .before .before .before .before .before .before .before .before .before .may-tick .ensures) (c .before .before .before .before .before .before .count-events .ensures) (c .before .before .before .before .before .if2 .left) (c .listed2 .ensures) (c .before .before .before .put-events2 .ensures)
 
 pub enabled-in-spec : {M : Type 1} → statement M
 enabled-in-spec =

@@ -36,7 +36,7 @@ same-length : tie.Need-same-length
 same-length c = search needs
 
 returns-2 : tie.Need-returns-2
-returns-2 c = event-on (c .before .before .before .before .before .before .before .before .before .before .before .before .before .args .n) (timingIn (c .before .before .before .before .before .before .before .before .before .before .before .before .before .args .m .now)) (stateIn (c .before .before .before .before .before .before .before .before .before .before .before .before .before .args .s .now)) (c .before .before .before .before .before .before .before .before .before .before .before .before .before .args .kind) (c .before .before .before .before .before .before .before .before .before .before .before .before .before .args .i) (c .before .before .before .before .before .before .before .before .before .may-take .ensures) (c .before .before .before .before .before .before .before .before .if1 .left) (c .before .before .before .before .before .before .before .thread-at .ensures) (c .before .before .before .before .before .before .length-in .ensures) (c .before .before .before .before .before .length-in2 .ensures) (c .before .before .before .u32-of-u8 .ensures .0) (c .before .before .put-offer .ensures)
+returns-2 c = event-on (c .before .before .before .before .before .before .before .before .before .before .before .before .before .args .n) (timingIn (c .before .before .before .before .before .before .before .before .before .before .before .before .before .args .model .now)) (stateIn (c .before .before .before .before .before .before .before .before .before .before .before .before .before .args .state .now)) (c .before .before .before .before .before .before .before .before .before .before .before .before .before .args .kind) (c .before .before .before .before .before .before .before .before .before .before .before .before .before .args .i) (c .before .before .before .before .before .before .before .before .before .may-take .ensures) (c .before .before .before .before .before .before .before .before .if1 .left) (c .before .before .before .before .before .before .before .thread-at .ensures) (c .before .before .before .before .before .before .length-in .ensures) (c .before .before .before .before .before .length-in2 .ensures) (c .before .before .before .u32-of-u8 .ensures .0) (c .before .before .put-offer .ensures)
 
 pub put-event-spec : {M : Type 1} → statement M
 put-event-spec =

@@ -21,7 +21,7 @@ add-put-kind : tie.Need-add-put-kind Inv-loop μ-loop
 add-put-kind c = search needs
 
 put-kind-requires : tie.Need-put-kind-requires Inv-loop μ-loop
-put-kind-requires c κs = (search needs, kinds-within (timingIn (c .before .before .before .before .before .before .args .m .now)) (stateIn (c .before .before .before .before .before .before .args .s .now)) _ (c .before .loop-test .taken) (c .before .before .loop .inv .1))
+put-kind-requires c κs = (search needs, kinds-within (timingIn (c .before .before .before .before .before .before .args .model .now)) (stateIn (c .before .before .before .before .before .before .args .state .now)) _ (c .before .loop-test .taken) (c .before .before .loop .inv .1))
 
 add-k : tie.Need-add-k Inv-loop μ-loop
 add-k c = search needs
@@ -36,7 +36,7 @@ same-length : tie.Need-same-length Inv-loop μ-loop
 same-length c = c .before .loop .inv .1 .same
 
 returns : tie.Need-returns Inv-loop μ-loop
-returns c = kinds-over (timingIn (c .before .before .before .before .before .args .m .now)) (stateIn (c .before .before .before .before .before .args .s .now)) _ (c .before .loop .inv .0) (c .loop-test .left) (c .before .loop .inv .1)
+returns c = kinds-over (timingIn (c .before .before .before .before .before .args .model .now)) (stateIn (c .before .before .before .before .before .args .state .now)) _ (c .before .loop .inv .0) (c .loop-test .left) (c .before .loop .inv .1)
 
 pub put-events-spec : {M : Type 1} → statement M
 put-events-spec =

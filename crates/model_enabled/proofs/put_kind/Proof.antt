@@ -21,7 +21,7 @@ loop-holds : tie.Need-loop-holds Inv-loop μ-loop
 loop-holds c = (search needs, loop-start _)
 
 put-event-requires : tie.Need-put-event-requires Inv-loop μ-loop
-put-event-requires c κs = ids-within (timingIn (c .before .before .before .before .before .before .before .args .m .now)) (stateIn (c .before .before .before .before .before .before .before .args .s .now)) (c .before .before .before .before .before .before .before .args .kind) _ (c .before .before .before .before .before .before .before .pre .1) (let e = c .before .before .before .items-of .ensures in let l = c .before .loop-test .taken in omega arith) (c .before .before .loop .inv .1)
+put-event-requires c κs = ids-within (timingIn (c .before .before .before .before .before .before .before .args .model .now)) (stateIn (c .before .before .before .before .before .before .before .args .state .now)) (c .before .before .before .before .before .before .before .args .kind) _ (c .before .before .before .before .before .before .before .pre .1) (let e = c .before .before .before .items-of .ensures in let l = c .before .loop-test .taken in omega arith) (c .before .before .loop .inv .1)
 
 add-i : tie.Need-add-i Inv-loop μ-loop
 add-i c = search needs
@@ -36,7 +36,7 @@ same-length : tie.Need-same-length Inv-loop μ-loop
 same-length c = c .before .loop .inv .1 .same
 
 returns : tie.Need-returns Inv-loop μ-loop
-returns c = kind-over (timingIn (c .before .before .before .before .before .before .args .m .now)) (stateIn (c .before .before .before .before .before .before .args .s .now)) (c .before .before .before .before .before .before .args .kind) _ _ (c .before .before .before .before .before .before .pre .0) (c .before .before .items-of .ensures) (c .before .loop .inv .0) (c .loop-test .left) (c .before .loop .inv .1)
+returns c = kind-over (timingIn (c .before .before .before .before .before .before .args .model .now)) (stateIn (c .before .before .before .before .before .before .args .state .now)) (c .before .before .before .before .before .before .args .kind) _ _ (c .before .before .before .before .before .before .pre .0) (c .before .before .items-of .ensures) (c .before .loop .inv .0) (c .loop-test .left) (c .before .loop .inv .1)
 
 pub put-kind-spec : {M : Type 1} → statement M
 put-kind-spec =

@@ -2,7 +2,8 @@ use Prim.Native.Nat.{ℕ}
 use native.Mathlib.Omega.{arith}
 use lib.ListN.{length-replicate}
 use Rattle.model_words.specs.Words.{modelWords}
-use Rattle.model_reader.specs.Laws.{zeros-empty, read-refusal}
+use Rattle.model_reader.specs.Lent.{zeros-empty}
+use Rattle.model_reader.specs.Walk.{read-refusal}
 use borrow.Author.Needs.{needs}
 use Rattle.model_reader.proofs.judge_model.Statement.{statement}
 use Rattle.model_reader.proofs.judge_model.Tie as tie

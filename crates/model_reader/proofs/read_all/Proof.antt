@@ -1,4 +1,4 @@
-use Rattle.model_reader.specs.Laws.{read-whole, read-emptied}
+use Rattle.model_reader.specs.Walk.{read-whole, read-emptied}
 use borrow.Author.Needs.{needs}
 use Rattle.model_reader.proofs.read_all.Statement.{statement}
 use Rattle.model_reader.proofs.read_all.Tie as tie

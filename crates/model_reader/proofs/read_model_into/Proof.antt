@@ -2,7 +2,7 @@ use mathlib.Core.Path.{sym}
 use native.Mathlib.Omega.{arith}
 use lib.Seq.{length-take-le}
 use Rattle.model_words.specs.Words.{modelWords}
-use Rattle.model_reader.specs.Laws.{into-short, into-whole}
+use Rattle.model_reader.specs.Lent.{into-short, into-whole}
 use borrow.Author.Needs.{needs}
 use Rattle.model_reader.proofs.read_model_into.Statement.{statement}
 use Rattle.model_reader.proofs.read_model_into.Tie as tie

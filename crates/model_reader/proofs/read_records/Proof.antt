@@ -6,7 +6,8 @@ use borrow.Author.Tests.{not-true, not-false}
 use Rattle.model_format.specs.Reading.{readModel}
 use Rattle.model_words.specs.Words.{modelWords}
 use Rattle.model_causes.specs.Readings.{readingIn}
-use Rattle.model_reader.specs.Laws.{readAt, read-begin, read-on, read-refused, read-none, read-all, end-within}
+use Rattle.model_reader.specs.Places.{end-within}
+use Rattle.model_reader.specs.Walk.{readAt, read-begin, read-on, read-refused, read-none, read-all}
 use borrow.Author.Needs.{needs}
 use Rattle.model_reader.proofs.read_records.Statement.{statement}
 use Rattle.model_reader.proofs.read_records.Tie as tie

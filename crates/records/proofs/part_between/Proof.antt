@@ -19,7 +19,7 @@ part-result-end : tie.Need-part-result-end
 part-result-end c = search needs
 
 returns : tie.Need-returns
-returns c = drawn-in (c .before .before .before .before .args .s .now) _ _ _ _ (c .before .before .smaller .ensures) (c .before .smaller2 .ensures)
+returns c = drawn-in (c .before .before .before .before .args .bytes .now) _ _ _ _ (c .before .before .smaller .ensures) (c .before .smaller2 .ensures)
 
 pub part-between-spec : {M : Type 1} → statement M
 part-between-spec =

@@ -2,7 +2,7 @@ use borrow.Author.Needs.{needs}
 use mathlib.Core.Path.{refl, _∙_}
 use borrow.Author.Tests.{not-true, not-false}
 use Rattle.table_format.specs.Format.{headOf}
-use Rattle.table_format.specs.Laws.{is-head}
+use Rattle.table_format.specs.Decoded.{is-head}
 use Rattle.table_enabled.specs.Walk.{looks-other, looks-head-disabled, looks-head}
 use Rattle.table_enabled.proofs.look_record.Statement.{statement}
 use Rattle.table_enabled.proofs.look_record.Tie as tie

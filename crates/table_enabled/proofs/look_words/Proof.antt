@@ -13,10 +13,10 @@ use Rattle.table_enabled.proofs.look_words.Statement.{statement}
 use Rattle.table_enabled.proofs.look_words.Tie as tie
 
 abbrev Inv-loop : tie.InvT-loop
-Inv-loop table words bits output₀ seen₀ i₀ output seen i = (seen .count ≤ i) × (i ≤ length words) × Going (values bits) (listed table words) (listed table (drop i words)) (record { count = 0; busy = false }) output₀ seen output
+Inv-loop table words bits output₀ seen₀ at₀ output seen at = (seen .count ≤ at) × (at ≤ length words) × Going (values bits) (listed table words) (listed table (drop at words)) (record { count = 0; busy = false }) output₀ seen output
 
 abbrev μ-loop : tie.MeasureT-loop
-μ-loop table words bits output₀ seen₀ i₀ output seen i = length words - i
+μ-loop table words bits output₀ seen₀ at₀ output seen at = length words - at
 
 loop-holds : tie.Need-loop-holds Inv-loop μ-loop
 loop-holds c = (omega arith, omega arith, going-begin _ _ _ _)
@@ -36,8 +36,8 @@ shared-slice-read-guard c = search needs
 may-hold-requires : tie.Need-may-hold-requires Inv-loop μ-loop
 may-hold-requires c κs = search needs
 
-add-i : tie.Need-add-i Inv-loop μ-loop
-add-i c = search needs
+add-at : tie.Need-add-at Inv-loop μ-loop
+add-at c = search needs
 
 loop-less : tie.Need-loop-less Inv-loop μ-loop
 loop-less c = search needs
@@ -54,8 +54,8 @@ shared-slice-read-look-listed c = search needs
 look-listed-requires : tie.Need-look-listed-requires Inv-loop μ-loop
 look-listed-requires c κs = let l = c .before .before .before .before .before .loop-test .taken in let m = c .before .before .before .before .before .before .loop .inv .0 in omega arith
 
-add-i-2 : tie.Need-add-i-2 Inv-loop μ-loop
-add-i-2 c = search needs
+add-at-2 : tie.Need-add-at-2 Inv-loop μ-loop
+add-at-2 c = search needs
 
 loop-less-2 : tie.Need-loop-less-2 Inv-loop μ-loop
 loop-less-2 c = search needs
@@ -81,13 +81,13 @@ look-words-spec =
     mul-guard
     shared-slice-read-guard
     may-hold-requires
-    add-i
+    add-at
     loop-less
     loop-again
     mul-look-listed
     shared-slice-read-look-listed
     look-listed-requires
-    add-i-2
+    add-at-2
     loop-less-2
     loop-again-2
     same-length

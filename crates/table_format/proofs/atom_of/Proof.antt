@@ -1,5 +1,5 @@
 use borrow.Author.Needs.{needs}
-use Rattle.table_format.specs.Laws.{atom-law}
+use Rattle.table_format.specs.Decoded.{atom-fields}
 use Rattle.table_format.proofs.atom_of.Statement.{statement}
 use Rattle.table_format.proofs.atom_of.Tie as tie
 
@@ -13,7 +13,7 @@ operand-at-requires : tie.Need-operand-at-requires
 operand-at-requires c κs = search needs
 
 returns : tie.Need-returns
-returns c = atom-law (c .before .before .before .before .args .x .now) _ _ _ (c .before .before .byte-at .ensures) (c .before .u16-at .ensures) (c .operand-at .ensures)
+returns c = atom-fields (c .before .before .before .before .args .part .now) _ _ _ (c .before .before .byte-at .ensures) (c .before .u16-at .ensures) (c .operand-at .ensures)
 
 pub atom-of-spec : {M : Type 1} → statement M
 atom-of-spec = tie.close (tie.spec byte-at-requires u16-at-requires operand-at-requires returns)

@@ -1,5 +1,5 @@
 use borrow.Author.Needs.{needs}
-use Rattle.table_format.specs.Laws.{head-law}
+use Rattle.table_format.specs.Decoded.{head-fields}
 use Rattle.table_format.proofs.head_of.Statement.{statement}
 use Rattle.table_format.proofs.head_of.Tie as tie
 
@@ -16,7 +16,7 @@ u32-at-requires-2 : tie.Need-u32-at-requires-2
 u32-at-requires-2 c κs = search needs
 
 returns : tie.Need-returns
-returns c = head-law (c .before .before .before .before .before .args .x .now) _ _ _ _ (c .before .before .before .byte-at .ensures) (c .before .before .byte-at2 .ensures) (c .before .u32-at .ensures) (c .u32-at2 .ensures)
+returns c = head-fields (c .before .before .before .before .before .args .part .now) _ _ _ _ (c .before .before .before .byte-at .ensures) (c .before .before .byte-at2 .ensures) (c .before .u32-at .ensures) (c .u32-at2 .ensures)
 
 pub head-of-spec : {M : Type 1} → statement M
 head-of-spec =

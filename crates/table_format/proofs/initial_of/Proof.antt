@@ -1,5 +1,5 @@
 use borrow.Author.Needs.{needs}
-use Rattle.table_format.specs.Laws.{initial-law}
+use Rattle.table_format.specs.Decoded.{initial-fields}
 use Rattle.table_format.proofs.initial_of.Statement.{statement}
 use Rattle.table_format.proofs.initial_of.Tie as tie
 
@@ -10,7 +10,7 @@ value-at-requires : tie.Need-value-at-requires
 value-at-requires c κs = search needs
 
 returns : tie.Need-returns
-returns c = initial-law (c .before .before .before .args .x .now) _ _ (c .before .u16-at .ensures) (c .value-at .ensures)
+returns c = initial-fields (c .before .before .before .args .part .now) _ _ (c .before .u16-at .ensures) (c .value-at .ensures)
 
 pub initial-of-spec : {M : Type 1} → statement M
 initial-of-spec = tie.close (tie.spec u16-at-requires value-at-requires returns)

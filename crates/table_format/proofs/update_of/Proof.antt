@@ -1,5 +1,5 @@
 use borrow.Author.Needs.{needs}
-use Rattle.table_format.specs.Laws.{update-law}
+use Rattle.table_format.specs.Decoded.{update-fields}
 use Rattle.table_format.proofs.update_of.Statement.{statement}
 use Rattle.table_format.proofs.update_of.Tie as tie
 
@@ -23,7 +23,7 @@ operand-at-requires-2 c κs = search needs
 
 returns : tie.Need-returns
 returns c =
-    update-law (c .before .before .before .before .before .before .before .args .x .now) _ _ _ _ _ _ (c .before .before .before .before .before .u16-at .ensures) (c .before .before .before .before .byte-at .ensures) (c .before .before .before .u16-at2 .ensures) (c .before .before .byte-at2 .ensures)
+    update-fields (c .before .before .before .before .before .before .before .args .part .now) _ _ _ _ _ _ (c .before .before .before .before .before .u16-at .ensures) (c .before .before .before .before .byte-at .ensures) (c .before .before .before .u16-at2 .ensures) (c .before .before .byte-at2 .ensures)
     (c .before .operand-at .ensures) (c .operand-at2 .ensures)
 
 pub update-of-spec : {M : Type 1} → statement M

@@ -1,6 +1,6 @@
 use mathlib.Core.Path.{_∙_}
 use borrow.Author.Needs.{needs}
-use Rattle.table_format.specs.Laws.{is-initial}
+use Rattle.table_format.specs.Decoded.{is-initial}
 use Rattle.table_machine.specs.Running.{initial-none, initial-one}
 use Rattle.table_machine.proofs.begin_with.Statement.{statement}
 use Rattle.table_machine.proofs.begin_with.Tie as tie

@@ -5,15 +5,17 @@ use lib.ListN.{length}
 use borrow.Author.Needs.{needs}
 use Rattle.table_format.specs.Format.{records}
 use Rattle.table_reader.specs.Reading.{countRules}
-use Rattle.table_reader.specs.Laws.{left, step-place, count-fits, count-on, count-end}
+use Rattle.table_reader.specs.Steps.{step-place}
+use Rattle.table_reader.specs.Walked.{left}
+use Rattle.table_reader.specs.Counted.{count-fits, count-on, count-end}
 use Rattle.table_reader.proofs.count_rules.Statement.{statement}
 use Rattle.table_reader.proofs.count_rules.Tie as tie
 
 abbrev Inv-loop : tie.InvT-loop
-Inv-loop table n₀ at₀ n at = (at ≤ length table) × (n ≤ at) × (n + countRules (left table at) ≡ countRules (records table))
+Inv-loop table count₀ at₀ count at = (at ≤ length table) × (count ≤ at) × (count + countRules (left table at) ≡ countRules (records table))
 
 abbrev μ-loop : tie.MeasureT-loop
-μ-loop table n₀ at₀ n at = length table - at
+μ-loop table count₀ at₀ count at = length table - at
 
 loop-holds : tie.Need-loop-holds Inv-loop μ-loop
 loop-holds c = (search needs, search needs, omega arith)
@@ -24,8 +26,8 @@ step-at-requires c κs = search needs
 rules-in-requires : tie.Need-rules-in-requires Inv-loop μ-loop
 rules-in-requires c κs = search needs
 
-add-n : tie.Need-add-n Inv-loop μ-loop
-add-n c =
+add-count : tie.Need-add-count Inv-loop μ-loop
+add-count c =
     let p = step-place (c .before .before .before .before .before .args .table .now) _ _ (c .before .before .loop-test .taken) (c .before .step-at .ensures) in
     let m = count-fits (c .before .before .before .before .before .args .table .now) _ _ _ (c .before .before .loop-test .taken) (c .before .step-at .ensures) (c .rules-in .ensures) in
     record { fits = omega arith }
@@ -53,7 +55,7 @@ count-rules-spec =
     loop-holds
     step-at-requires
     rules-in-requires
-    add-n
+    add-count
     loop-less
     loop-again
     returns)

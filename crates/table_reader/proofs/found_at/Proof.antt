@@ -1,7 +1,7 @@
 use mathlib.Core.Path.{_∙_, ap}
 use borrow.Author.Needs.{needs}
 use Rattle.table_format.specs.Format.{recordOf}
-use Rattle.table_reader.specs.Laws.{found-within, found-past}
+use Rattle.table_reader.specs.Steps.{found-within, found-past}
 use Rattle.table_reader.proofs.found_at.Statement.{statement}
 use Rattle.table_reader.proofs.found_at.Tie as tie
 

@@ -1,6 +1,6 @@
 use native.Mathlib.Omega.{arith}
 use borrow.Author.Needs.{needs}
-use Rattle.table_reader.specs.Laws.{place-within, part-within, part-past}
+use Rattle.table_reader.specs.Steps.{place-within, part-within, part-past}
 use Rattle.table_reader.proofs.part_at.Statement.{statement}
 use Rattle.table_reader.proofs.part_at.Tie as tie
 

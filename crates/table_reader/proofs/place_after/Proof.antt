@@ -2,7 +2,7 @@ use Prim.Native.Nat.{_^_}
 use native.Mathlib.Omega.{arith}
 use borrow.Author.Needs.{needs}
 use Rattle.table_reader.specs.Reading.{placeAfter}
-use Rattle.table_reader.specs.Laws.{place-fits}
+use Rattle.table_reader.specs.Steps.{place-fits}
 use Rattle.table_reader.proofs.place_after.Statement.{statement}
 use Rattle.table_reader.proofs.place_after.Tie as tie
 

@@ -1,6 +1,6 @@
 use mathlib.Core.Path.{_∙_}
 use borrow.Author.Needs.{needs}
-use Rattle.table_format.specs.Laws.{is-head}
+use Rattle.table_format.specs.Decoded.{is-head}
 use Rattle.table_search.specs.Enabled.{found-head, found-same}
 use Rattle.table_search.proofs.found_after.Statement.{statement}
 use Rattle.table_search.proofs.found_after.Tie as tie

@@ -1,9 +1,8 @@
 use Prim.Native.Nat.{_-_, _≤_}
 use native.Mathlib.Omega.{arith}
 use lib.ListN.{length, drop}
-use borrow.Author.Tests.{not-true}
 use Rattle.table_semantics.specs.Runs.{values}
-use Rattle.table_ticks.specs.QuietListed.{QuietBy, quiet-begin, quiet-next, quiet-over, stops-guarded}
+use Rattle.table_ticks.specs.QuietListed.{QuietBy, quiet-begin, quiet-next, quiet-over}
 use borrow.Author.Needs.{needs}
 use Rattle.table_ticks.proofs.quiet_listed.Statement.{statement}
 use Rattle.table_ticks.proofs.quiet_listed.Tie as tie
@@ -29,18 +28,6 @@ mul-guard c = search needs
 shared-slice-read-guard : tie.Need-shared-slice-read-guard Inv-loop μ-loop
 shared-slice-read-guard c = search needs
 
-may-hold-requires : tie.Need-may-hold-requires Inv-loop μ-loop
-may-hold-requires c κs = search needs
-
-add-i : tie.Need-add-i Inv-loop μ-loop
-add-i c = search needs
-
-loop-less : tie.Need-loop-less Inv-loop μ-loop
-loop-less c = search needs
-
-loop-again : tie.Need-loop-again Inv-loop μ-loop
-loop-again c = ((let l = c .before .before .before .loop-test .taken in omega arith), quiet-next (c .before .before .before .before .before .before .before .before .args .table .now) _ _ _ _ _ (c .before .before .before .loop-test .taken) _ (stops-guarded (c .before .before .before .before .before .before .before .before .args .table .now) _ _ _ _ _ (c .before .may-hold .ensures) (not-true _ (c .if1 .taken))) (c .before .before .before .before .loop .inv .1))
-
 mul-ticks-to-listed : tie.Need-mul-ticks-to-listed Inv-loop μ-loop
 mul-ticks-to-listed c = search needs
 
@@ -50,14 +37,14 @@ shared-slice-read-ticks-to-listed c = search needs
 ticks-to-listed-requires : tie.Need-ticks-to-listed-requires Inv-loop μ-loop
 ticks-to-listed-requires c κs = search needs
 
-add-i-2 : tie.Need-add-i-2 Inv-loop μ-loop
-add-i-2 c = search needs
+add-i : tie.Need-add-i Inv-loop μ-loop
+add-i c = search needs
 
-loop-less-2 : tie.Need-loop-less-2 Inv-loop μ-loop
-loop-less-2 c = search needs
+loop-less : tie.Need-loop-less Inv-loop μ-loop
+loop-less c = search needs
 
-loop-again-2 : tie.Need-loop-again-2 Inv-loop μ-loop
-loop-again-2 c = ((let l = c .before .before .before .before .before .loop-test .taken in omega arith), quiet-next (c .before .before .before .before .before .before .before .before .before .before .args .table .now) _ _ _ _ _ (c .before .before .before .before .before .loop-test .taken) _ (c .ticks-to-listed .ensures) (c .before .before .before .before .before .before .loop .inv .1))
+loop-again : tie.Need-loop-again Inv-loop μ-loop
+loop-again c = ((let l = c .before .before .before .loop-test .taken in omega arith), quiet-next (c .before .before .before .before .before .before .before .before .args .table .now) _ _ _ _ _ (c .before .before .before .loop-test .taken) _ (c .ticks-to-listed .ensures) (c .before .before .before .before .loop .inv .1))
 
 returns : tie.Need-returns Inv-loop μ-loop
 returns c = quiet-over (c .before .before .before .before .before .args .table .now) _ _ _ _ _ (c .loop-test .left) (c .before .loop .inv .1)
@@ -73,14 +60,10 @@ quiet-listed-spec =
     add-guard
     mul-guard
     shared-slice-read-guard
-    may-hold-requires
-    add-i
-    loop-less
-    loop-again
     mul-ticks-to-listed
     shared-slice-read-ticks-to-listed
     ticks-to-listed-requires
-    add-i-2
-    loop-less-2
-    loop-again-2
+    add-i
+    loop-less
+    loop-again
     returns)

@@ -1,6 +1,6 @@
 use mathlib.Core.Path.{_∙_}
 use borrow.Author.Needs.{needs}
-use Rattle.table_format.specs.Laws.{is-head}
+use Rattle.table_format.specs.Decoded.{is-head}
 use Rattle.table_ticks.specs.Ticking.{record-never, record-first}
 use Rattle.table_ticks.proofs.ticks_to_record.Statement.{statement}
 use Rattle.table_ticks.proofs.ticks_to_record.Tie as tie

@@ -2,7 +2,7 @@ use Prim.Native.Nat.{_-_, _≤_}
 use native.Mathlib.Omega.{arith}
 use lib.ListN.{length}
 use borrow.Author.Needs.{needs}
-use Rattle.table_reader.specs.Laws.{step-place}
+use Rattle.table_reader.specs.Steps.{step-place}
 use Rattle.test_forms.proofs.walk.Statement.{statement}
 use Rattle.test_forms.proofs.walk.Tie as tie
 

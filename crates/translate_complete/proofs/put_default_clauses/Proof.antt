@@ -14,7 +14,7 @@ same-length : tie.Need-same-length
 same-length c = search needs
 
 returns : tie.Need-returns
-returns c = default-clauses _ (c .before .before .before .before .before .before .before .before .before .before .good .0 .0) (behaviorIn (c .before .before .before .before .before .before .before .before .before .before .args .m .now)) (c .before .before .before .before .before .before .put-running .ensures) (c .before .before .put-otherwise .ensures)
+returns c = default-clauses _ (c .before .before .before .before .before .before .before .before .before .before .good .0 .0) (behaviorIn (c .before .before .before .before .before .before .before .before .before .before .args .model .now)) (c .before .before .before .before .before .before .put-running .ensures) (c .before .before .put-otherwise .ensures)
 
 pub put-default-clauses-spec : {M : Type 1} → statement M
 put-default-clauses-spec =

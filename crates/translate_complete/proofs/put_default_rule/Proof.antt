@@ -17,7 +17,7 @@ same-length : tie.Need-same-length
 same-length c = search needs
 
 returns : tie.Need-returns
-returns c = default-rule (modelIn (c .before .before .before .before .before .before .before .before .before .before .before .before .before .before .args .m .now)) _ (c .before .before .before .before .before .before .before .before .before .before .before .before .before .before .good .0 .0) (c .before .before .before .before .before .before .before .before .before .before .put-rule .ensures) (c .before .before .before .before .before .before .put-default-clauses .ensures) (c .before .before .put-default-updates .ensures)
+returns c = default-rule (modelIn (c .before .before .before .before .before .before .before .before .before .before .before .before .before .before .args .model .now)) _ (c .before .before .before .before .before .before .before .before .before .before .before .before .before .before .good .0 .0) (c .before .before .before .before .before .before .before .before .before .before .put-rule .ensures) (c .before .before .before .before .before .before .put-default-clauses .ensures) (c .before .before .put-default-updates .ensures)
 
 pub put-default-rule-spec : {M : Type 1} → statement M
 put-default-rule-spec =

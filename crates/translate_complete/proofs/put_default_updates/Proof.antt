@@ -1,5 +1,5 @@
 use Rattle.model_words.specs.Words.{timingIn, behaviorIn}
-use Rattle.translate_complete.specs.Named.{none-named}
+use Rattle.translate_guards.specs.NamedLaws.{none-named}
 use Rattle.translate_complete.specs.Complete.{default-updates}
 use borrow.Author.Needs.{needs}
 use Rattle.translate_complete.proofs.put_default_updates.Statement.{statement}
@@ -15,7 +15,7 @@ same-length : tie.Need-same-length
 same-length c = search needs
 
 returns : tie.Need-returns
-returns c = default-updates _ (c .before .before .before .before .before .before .before .before .before .before .good .0 .0) (timingIn (c .before .before .before .before .before .before .before .before .before .before .args .m .now)) (behaviorIn (c .before .before .before .before .before .before .before .before .before .before .args .m .now)) 0 (c .before .before .before .before .before .before .put-ends .ensures) (c .before .before .put-sends .ensures)
+returns c = default-updates _ (c .before .before .before .before .before .before .before .before .before .before .good .0 .0) (timingIn (c .before .before .before .before .before .before .before .before .before .before .args .model .now)) (behaviorIn (c .before .before .before .before .before .before .before .before .before .before .args .model .now)) 0 (c .before .before .before .before .before .before .put-ends .ensures) (c .before .before .put-sends .ensures)
 
 pub put-default-updates-spec : {M : Type 1} → statement M
 put-default-updates-spec =

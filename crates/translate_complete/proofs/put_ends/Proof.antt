@@ -29,7 +29,7 @@ same-length : tie.Need-same-length
 same-length c = search needs
 
 returns : tie.Need-returns
-returns c = ends-written _ _ _ (c .before .before .before .before .before .before .before .before .before .before .before .before .state-var .ensures) (c .before .before .before .end-var .ensures) (c .before .before .before .before .before .before .before .before .before .before .before .before .before .before .before .before .good .0 .0) (timingIn (c .before .before .before .before .before .before .before .before .before .before .before .before .before .before .before .before .args .m .now)) (c .before .before .before .before .before .before .before .before .before .before .before .put-set .ensures) (c .before .before .before .before .before .before .before .put-set2 .ensures) (c .before .before .put-set3 .ensures)
+returns c = ends-written _ _ _ (c .before .before .before .before .before .before .before .before .before .before .before .before .state-var .ensures) (c .before .before .before .end-var .ensures) (c .before .before .before .before .before .before .before .before .before .before .before .before .before .before .before .before .good .0 .0) (timingIn (c .before .before .before .before .before .before .before .before .before .before .before .before .before .before .before .before .args .model .now)) (c .before .before .before .before .before .before .before .before .before .before .before .put-set .ensures) (c .before .before .before .before .before .before .before .put-set2 .ensures) (c .before .before .put-set3 .ensures)
 
 pub put-ends-spec : {M : Type 1} → statement M
 put-ends-spec =

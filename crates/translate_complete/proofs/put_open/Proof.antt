@@ -26,7 +26,7 @@ same-length : tie.Need-same-length
 same-length c = search needs
 
 returns : tie.Need-returns
-returns c = open-written (behaviorIn (c .before .before .before .before .before .before .before .before .before .before .before .before .before .before .before .before .before .args .m .now)) _ _ _ _ (c .before .before .before .before .before .before .before .before .before .before .before .before .before .before .transition-at .ensures) (c .before .before .before .before .before .before .before .before .behavior-var .ensures) (c .before .before .before .before .before .before .before .before .before .before .before .before .before .before .before .before .before .good .0 .0) (c .before .before .before .before .before .before .before .before .before .before .before .before .put-running .ensures) (c .before .before .before .before .before .before .put-equals .ensures) (c .before .before .put-guard .ensures)
+returns c = open-written (behaviorIn (c .before .before .before .before .before .before .before .before .before .before .before .before .before .before .before .before .before .args .model .now)) _ _ _ _ (c .before .before .before .before .before .before .before .before .before .before .before .before .before .before .transition-at .ensures) (c .before .before .before .before .before .before .before .before .behavior-var .ensures) (c .before .before .before .before .before .before .before .before .before .before .before .before .before .before .before .before .before .good .0 .0) (c .before .before .before .before .before .before .before .before .before .before .before .before .put-running .ensures) (c .before .before .before .before .before .before .put-equals .ensures) (c .before .before .put-guard .ensures)
 
 pub put-open-spec : {M : Type 1} → statement M
 put-open-spec =

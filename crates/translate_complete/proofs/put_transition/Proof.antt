@@ -14,10 +14,10 @@ same-length : tie.Need-same-length
 same-length c = search needs
 
 returns : tie.Need-returns
-returns c = rule-written (modelIn (c .before .before .before .before .before .before .before .before .before .args .m .now)) _ _ _ (c .before .before .before .before .before .before .transition-at .ensures) (c .before .before .before .before .if1 .taken) (c .before .before .put-transition-rule .ensures)
+returns c = rule-written (modelIn (c .before .before .before .before .before .before .before .before .before .args .model .now)) _ _ _ (c .before .before .before .before .before .before .transition-at .ensures) (c .before .before .before .before .if1 .taken) (c .before .before .put-transition-rule .ensures)
 
 returns-2 : tie.Need-returns-2
-returns-2 c = rule-none (modelIn (c .before .before .before .before .before .args .m .now)) _ _ _ (c .before .before .transition-at .ensures) (c .if1 .left) (search needs)
+returns-2 c = rule-none (modelIn (c .before .before .before .before .before .args .model .now)) _ _ _ (c .before .before .transition-at .ensures) (c .if1 .left) (search needs)
 
 pub put-transition-spec : {M : Type 1} → statement M
 put-transition-spec =

@@ -20,7 +20,7 @@ same-length : tie.Need-same-length
 same-length c = search needs
 
 returns : tie.Need-returns
-returns c = transition-rule (modelIn (c .before .before .before .before .before .before .before .before .before .before .before .before .before .before .before .before .before .before .args .m .now)) _ (c .before .before .before .before .before .before .before .before .before .before .before .before .before .before .before .before .before .before .good .0 .0) (c .before .before .before .before .before .before .before .before .before .before .before .before .before .before .put-rule .ensures) _ (c .before .before .before .before .before .before .before .before .before .before .put-open .ensures) (c .before .before .before .before .before .before .put-earlier .ensures) (c .before .before .put-transition-updates .ensures)
+returns c = transition-rule (modelIn (c .before .before .before .before .before .before .before .before .before .before .before .before .before .before .before .before .before .before .args .model .now)) _ (c .before .before .before .before .before .before .before .before .before .before .before .before .before .before .before .before .before .before .good .0 .0) (c .before .before .before .before .before .before .before .before .before .before .before .before .before .before .put-rule .ensures) _ (c .before .before .before .before .before .before .before .before .before .before .put-open .ensures) (c .before .before .before .before .before .before .put-earlier .ensures) (c .before .before .put-transition-updates .ensures)
 
 pub put-transition-rule-spec : {M : Type 1} → statement M
 put-transition-rule-spec =

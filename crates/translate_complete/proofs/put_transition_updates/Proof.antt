@@ -1,5 +1,5 @@
 use Rattle.model_words.specs.Words.{modelIn}
-use Rattle.translate_complete.specs.Named.{assigned-named}
+use Rattle.translate_guards.specs.NamedLaws.{assigned-named}
 use Rattle.translate_complete.specs.Complete.{updates-written}
 use borrow.Author.Needs.{needs}
 use Rattle.translate_complete.proofs.put_transition_updates.Statement.{statement}
@@ -8,8 +8,8 @@ use Rattle.translate_complete.proofs.put_transition_updates.Tie as tie
 transition-at-requires : tie.Need-transition-at-requires
 transition-at-requires c κs = search needs
 
-cast-n : tie.Need-cast-n
-cast-n c = search needs
+cast-count : tie.Need-cast-count
+cast-count c = search needs
 
 put-ends-requires : tie.Need-put-ends-requires
 put-ends-requires c κs = search needs
@@ -33,14 +33,14 @@ same-length : tie.Need-same-length
 same-length c = search needs
 
 returns : tie.Need-returns
-returns c = updates-written (modelIn (c .before .before .before .before .before .before .before .before .before .before .before .before .before .before .before .before .before .before .before .before .before .before .args .m .now)) _ _ _ _ (c .before .before .before .before .before .before .before .before .before .before .before .before .before .before .before .before .before .before .before .transition-at .ensures) (c .before .before .before .before .before .before .before .before .before .before .before .before .behavior-var .ensures) (c .before .before .before .before .before .before .before .before .before .before .before .before .before .before .before .before .before .before .before .before .before .before .good .0 .0) (c .before .before .before .before .before .before .before .before .before .before .before .before .before .before .before .before .put-ends .ensures) (c .before .before .before .before .before .before .before .before .before .before .put-set .ensures) (c .before .before .before .before .before .before .put-assignments .ensures) (c .before .before .put-sends .ensures)
+returns c = updates-written (modelIn (c .before .before .before .before .before .before .before .before .before .before .before .before .before .before .before .before .before .before .before .before .before .before .args .model .now)) _ _ _ _ (c .before .before .before .before .before .before .before .before .before .before .before .before .before .before .before .before .before .before .before .transition-at .ensures) (c .before .before .before .before .before .before .before .before .before .before .before .before .behavior-var .ensures) (c .before .before .before .before .before .before .before .before .before .before .before .before .before .before .before .before .before .before .before .before .before .before .good .0 .0) (c .before .before .before .before .before .before .before .before .before .before .before .before .before .before .before .before .put-ends .ensures) (c .before .before .before .before .before .before .before .before .before .before .put-set .ensures) (c .before .before .before .before .before .before .put-assignments .ensures) (c .before .before .put-sends .ensures)
 
 pub put-transition-updates-spec : {M : Type 1} → statement M
 put-transition-updates-spec =
     tie.close
     (tie.spec
     transition-at-requires
-    cast-n
+    cast-count
     put-ends-requires
     behavior-var-requires
     cast-put-set

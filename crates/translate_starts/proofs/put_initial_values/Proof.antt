@@ -20,7 +20,7 @@ same-length : tie.Need-same-length
 same-length c = search needs
 
 returns : tie.Need-returns
-returns c = initial-wrote (modelIn (c .before .before .before .before .before .before .before .before .before .before .args .m .now)) _ (c .before .before .before .before .before .before .start-in .ensures) (c .before .before .put-starts .ensures)
+returns c = initial-wrote (modelIn (c .before .before .before .before .before .before .before .before .before .before .args .model .now)) _ (c .before .before .before .before .before .before .start-in .ensures) (c .before .before .put-starts .ensures)
 
 pub put-initial-values-spec : {M : Type 1} → statement M
 put-initial-values-spec =

@@ -7,7 +7,7 @@ same-requires : tie.Need-same-requires
 same-requires c κs = search needs
 
 returns : tie.Need-returns
-returns c = start-left (c .before .before .before .args .j) (c .before .before .before .args .value) _ (c .before .same .ensures) (c .if1 .taken) (search needs)
+returns c = start-left (c .before .before .before .args .variable) (c .before .before .before .args .value) _ (c .before .same .ensures) (c .if1 .taken) (search needs)
 
 put-initial-requires : tie.Need-put-initial-requires
 put-initial-requires c κs = search needs

@@ -13,10 +13,10 @@ use Rattle.translate_starts.proofs.put_starts.Statement.{statement}
 use Rattle.translate_starts.proofs.put_starts.Tie as tie
 
 abbrev Inv-loop : tie.InvT-loop
-Inv-loop d₀ at m s at₀ j₀ d p j = (j ≤ variables) × WroteInitial d₀ at (startsIn (timingIn m) (stateIn s) j) d p
+Inv-loop output₀ from model state at₀ variable₀ output at variable = (variable ≤ variables) × WroteInitial output₀ from (startsIn (timingIn model) (stateIn state) variable) output at
 
 abbrev μ-loop : tie.MeasureT-loop
-μ-loop d₀ at m s at₀ j₀ d p j = variables - j
+μ-loop output₀ from model state at₀ variable₀ output at variable = variables - variable
 
 loop-holds : tie.Need-loop-holds Inv-loop μ-loop
 loop-holds c = (omega arith, loop-begins joins-initial _ (search needs))
@@ -30,26 +30,26 @@ shown-requires c κs = search needs
 put-start-requires : tie.Need-put-start-requires Inv-loop μ-loop
 put-start-requires c κs = search needs
 
-add-j : tie.Need-add-j Inv-loop μ-loop
-add-j c = search needs
+add-variable : tie.Need-add-variable Inv-loop μ-loop
+add-variable c = search needs
 
 loop-less : tie.Need-loop-less Inv-loop μ-loop
 loop-less c = search needs
 
 loop-again : tie.Need-loop-again Inv-loop μ-loop
-loop-again c = (omega arith, loop-next joins-initial _ _ (c .before .before .before .before .before .before .before .before .before .before .before .before .good .0 .0) (c .before .before .before .before .before .before .before .before .loop .inv .1) (start-same _ (c .before .before .before .before .shown .result) (standsFor (timingIn (c .before .before .before .before .before .before .before .before .before .before .before .before .args .m .now)) (stateIn (c .before .before .before .before .before .before .before .before .before .before .before .before .args .s .now)) _) (record { bits = c .before .before .before .before .shown .ensures }) (c .before .before .put-start .ensures)))
+loop-again c = (omega arith, loop-next joins-initial _ _ (c .before .before .before .before .before .before .before .before .before .before .before .before .good .0 .0) (c .before .before .before .before .before .before .before .before .loop .inv .1) (start-same _ (c .before .before .before .before .shown .result) (standsFor (timingIn (c .before .before .before .before .before .before .before .before .before .before .before .before .args .model .now)) (stateIn (c .before .before .before .before .before .before .before .before .before .before .before .before .args .state .now)) _) (record { bits = c .before .before .before .before .shown .ensures }) (c .before .before .put-start .ensures)))
 
-mul-j : tie.Need-mul-j Inv-loop μ-loop
-mul-j c = search needs
+mul-variable : tie.Need-mul-variable Inv-loop μ-loop
+mul-variable c = search needs
 
-add-j-2 : tie.Need-add-j-2 Inv-loop μ-loop
-add-j-2 c = search needs
+add-variable-2 : tie.Need-add-variable-2 Inv-loop μ-loop
+add-variable-2 c = search needs
 
 loop-less-2 : tie.Need-loop-less-2 Inv-loop μ-loop
 loop-less-2 c = search needs
 
 loop-again-2 : tie.Need-loop-again-2 Inv-loop μ-loop
-loop-again-2 c = (omega arith, starts-skip (timingIn (c .before .before .before .before .before .before .before .args .m .now)) (stateIn (c .before .before .before .before .before .before .before .args .s .now)) _ _ (c .before .is-shown .ensures) (c .if1 .left) (c .before .before .before .loop .inv .1))
+loop-again-2 c = (omega arith, starts-skip (timingIn (c .before .before .before .before .before .before .before .args .model .now)) (stateIn (c .before .before .before .before .before .before .before .args .state .now)) _ _ (c .before .is-shown .ensures) (c .if1 .left) (c .before .before .before .loop .inv .1))
 
 same-length : tie.Need-same-length Inv-loop μ-loop
 same-length c = keeps-length (c .before .loop .inv .1)
@@ -67,11 +67,11 @@ put-starts-spec =
     is-shown-requires
     shown-requires
     put-start-requires
-    add-j
+    add-variable
     loop-less
     loop-again
-    mul-j
-    add-j-2
+    mul-variable
+    add-variable-2
     loop-less-2
     loop-again-2
     same-length

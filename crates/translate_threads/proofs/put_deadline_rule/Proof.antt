@@ -1,5 +1,5 @@
 use Rattle.table_writer.specs.Lists.{joins-clauses, joins-updates}
-use Rattle.translate_connections.specs.Named.{wrote-more}
+use Rattle.translate_waits.specs.Named.{wrote-more}
 use Rattle.translate_threads.specs.Bodies.{wrote-body}
 use borrow.Author.Needs.{needs}
 use Rattle.translate_threads.proofs.put_deadline_rule.Statement.{statement}

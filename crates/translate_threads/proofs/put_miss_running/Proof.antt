@@ -1,7 +1,7 @@
 use Rattle.model_words.specs.Words.{timingIn}
 use Rattle.translation.specs.Rules.{missUpdates, jobEnds}
 use Rattle.table_writer.specs.Lists.{joins-clauses, joins-updates, wrote-then}
-use Rattle.translate_connections.specs.Named.{clause-named, wrote-more}
+use Rattle.translate_waits.specs.Named.{clause-named, wrote-more}
 use Rattle.translate_threads.specs.Bodies.{wrote-body}
 use borrow.Author.Needs.{needs}
 use Rattle.translate_threads.proofs.put_miss_running.Statement.{statement}

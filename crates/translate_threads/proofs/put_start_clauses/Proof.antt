@@ -1,5 +1,5 @@
 use Rattle.table_writer.specs.Lists.{joins-clauses}
-use Rattle.translate_connections.specs.Named.{clause-named, wrote-more}
+use Rattle.translate_waits.specs.Named.{clause-named, wrote-more}
 use borrow.Author.Needs.{needs}
 use Rattle.translate_threads.proofs.put_start_clauses.Statement.{statement}
 use Rattle.translate_threads.proofs.put_start_clauses.Tie as tie

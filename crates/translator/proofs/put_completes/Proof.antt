@@ -1,5 +1,6 @@
 use Prim.Native.Nat.{_-_, _≤_}
 use native.Mathlib.Omega.{arith}
+use Rattle.records.specs.Events.{completeKind}
 use Rattle.model_words.specs.Words.{modelIn}
 use Rattle.translator.specs.Groups.{Looping, loop-start, loop-on, loop-over}
 use Rattle.translation.specs.Parts.{stamped}
@@ -9,7 +10,7 @@ use Rattle.translator.proofs.put_completes.Statement.{statement}
 use Rattle.translator.proofs.put_completes.Tie as tie
 
 abbrev Inv-loop : tie.InvT-loop
-Inv-loop d₀ at m n at₀ i₀ d p i = (i ≤ n) × Looping (λ k. stamped 5 k (completeRules (modelIn m) k)) d₀ at d p i
+Inv-loop d₀ at m n at₀ i₀ d p i = (i ≤ n) × Looping (λ k. stamped completeKind k (completeRules (modelIn m) k)) d₀ at d p i
 
 abbrev μ-loop : tie.MeasureT-loop
 μ-loop d₀ at m n at₀ i₀ d p i = n - i
@@ -26,8 +27,8 @@ cast-put-complete c = let k = c .before .before .before .before .before .before 
 put-complete-requires : tie.Need-put-complete-requires Inv-loop μ-loop
 put-complete-requires c κs = c .before .before .before .before .before .before .pre
 
-add-i : tie.Need-add-i Inv-loop μ-loop
-add-i c = search needs
+add-thread : tie.Need-add-thread Inv-loop μ-loop
+add-thread c = search needs
 
 loop-less : tie.Need-loop-less Inv-loop μ-loop
 loop-less c = search needs
@@ -51,7 +52,7 @@ put-completes-spec =
     loop-holds
     cast-put-complete
     put-complete-requires
-    add-i
+    add-thread
     loop-less
     loop-again
     same-length

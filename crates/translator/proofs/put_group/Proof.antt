@@ -21,13 +21,13 @@ loop-holds : tie.Need-loop-holds Inv-loop μ-loop
 loop-holds c = (search needs, loop-start _ (search needs) (search needs))
 
 cast-put-item : tie.Need-cast-put-item Inv-loop μ-loop
-cast-put-item c = let k = items-few (timingIn (c .before .before .before .before .before .before .args .m .now)) (c .before .before .before .before .before .before .args .kind) (c .before .before .before .before .before .before .pre) in let e = c .before .before .before .items-of .ensures in let l = c .before .loop-test .taken in search needs
+cast-put-item c = let k = items-few (timingIn (c .before .before .before .before .before .before .args .words .now)) (c .before .before .before .before .before .before .args .kind) (c .before .before .before .before .before .before .pre) in let e = c .before .before .before .items-of .ensures in let l = c .before .loop-test .taken in search needs
 
 put-item-requires : tie.Need-put-item-requires Inv-loop μ-loop
 put-item-requires c κs = c .before .before .before .before .before .before .pre
 
-add-i : tie.Need-add-i Inv-loop μ-loop
-add-i c = search needs
+add-item : tie.Need-add-item Inv-loop μ-loop
+add-item c = search needs
 
 loop-less : tie.Need-loop-less Inv-loop μ-loop
 loop-less c = search needs
@@ -51,7 +51,7 @@ put-group-spec =
     loop-holds
     cast-put-item
     put-item-requires
-    add-i
+    add-item
     loop-less
     loop-again
     same-length

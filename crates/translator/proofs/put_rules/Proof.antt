@@ -20,8 +20,8 @@ loop-holds c = (search needs, loop-start _ (search needs) (search needs))
 rule-kind-requires : tie.Need-rule-kind-requires Inv-loop μ-loop
 rule-kind-requires c κs = search needs
 
-add-i : tie.Need-add-i Inv-loop μ-loop
-add-i c = search needs
+add-number : tie.Need-add-number Inv-loop μ-loop
+add-number c = search needs
 
 put-completes-requires : tie.Need-put-completes-requires Inv-loop μ-loop
 put-completes-requires c κs = c .before .before .before .before .before .before .before .pre
@@ -30,7 +30,7 @@ loop-less : tie.Need-loop-less Inv-loop μ-loop
 loop-less c = search needs
 
 loop-again : tie.Need-loop-again Inv-loop μ-loop
-loop-again c = (search needs, loop-on _ (c .before .before .before .before .before .before .before .loop .inv .1) (complete-kind (modelIn (c .before .before .before .before .before .before .before .before .before .before .args .m .now)) _ (c .before .before .before .before .before .rule-kind .ensures) (c .before .before .before .before .if1 .taken) (c .before .before .put-completes .ensures)))
+loop-again c = (search needs, loop-on _ (c .before .before .before .before .before .before .before .loop .inv .1) (complete-kind (modelIn (c .before .before .before .before .before .before .before .before .before .before .args .words .now)) _ (c .before .before .before .before .before .rule-kind .ensures) (c .before .before .before .before .if1 .taken) (c .before .before .put-completes .ensures)))
 
 put-group-requires : tie.Need-put-group-requires Inv-loop μ-loop
 put-group-requires c κs = c .before .before .before .before .before .before .before .pre .timing
@@ -39,13 +39,13 @@ loop-less-2 : tie.Need-loop-less-2 Inv-loop μ-loop
 loop-less-2 c = search needs
 
 loop-again-2 : tie.Need-loop-again-2 Inv-loop μ-loop
-loop-again-2 c = (search needs, loop-on _ (c .before .before .before .before .before .before .before .loop .inv .1) (other-kind (modelIn (c .before .before .before .before .before .before .before .before .before .before .args .m .now)) _ (c .before .before .before .before .before .rule-kind .ensures) (c .before .before .before .before .if1 .left) (c .before .before .put-group .ensures)))
+loop-again-2 c = (search needs, loop-on _ (c .before .before .before .before .before .before .before .loop .inv .1) (other-kind (modelIn (c .before .before .before .before .before .before .before .before .before .before .args .words .now)) _ (c .before .before .before .before .before .rule-kind .ensures) (c .before .before .before .before .if1 .left) (c .before .before .put-group .ensures)))
 
 same-length : tie.Need-same-length Inv-loop μ-loop
 same-length c = c .before .loop .inv .1 .same
 
 returns : tie.Need-returns Inv-loop μ-loop
-returns c = rw (← all-rules (modelIn (c .before .before .before .before .args .m .now))) (loop-over _ (c .before .loop .inv .1) 10 (let h = c .before .loop .inv .0 in let k = c .loop-test .left in omega arith))
+returns c = rw (← all-rules (modelIn (c .before .before .before .before .args .words .now))) (loop-over _ (c .before .loop .inv .1) 10 (let h = c .before .loop .inv .0 in let k = c .loop-test .left in omega arith))
 
 pub put-rules-spec : {M : Type 1} → statement M
 put-rules-spec =
@@ -55,7 +55,7 @@ put-rules-spec =
     μ-loop
     loop-holds
     rule-kind-requires
-    add-i
+    add-number
     put-completes-requires
     loop-less
     loop-again

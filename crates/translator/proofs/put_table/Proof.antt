@@ -14,7 +14,7 @@ same-length : tie.Need-same-length
 same-length c = search needs
 
 returns : tie.Need-returns
-returns c = table-wrote (modelIn (c .before .before .before .before .before .before .before .before .before .before .args .m .now)) (c .before .before .before .before .before .before .before .before .before .before .good .0 .0) (c .before .before .before .before .before .before .put-initial-values .ensures) (c .before .before .put-rules .ensures)
+returns c = table-wrote (modelIn (c .before .before .before .before .before .before .before .before .before .before .args .words .now)) (c .before .before .before .before .before .before .before .before .before .before .good .0 .0) (c .before .before .before .before .before .before .put-initial-values .ensures) (c .before .before .put-rules .ensures)
 
 pub put-table-spec : {M : Type 1} → statement M
 put-table-spec =

@@ -1,4 +1,4 @@
-use Rattle.model_reader.specs.Laws.{whole-read}
+use Rattle.model_reader.specs.Lent.{whole-read}
 use borrow.Author.Needs.{needs}
 use Rattle.translator.proofs.read_into.Statement.{statement}
 use Rattle.translator.proofs.read_into.Tie as tie

@@ -11,7 +11,7 @@ put-table-requires : tie.Need-put-table-requires
 put-table-requires c κs = c .before .before .pre
 
 returns : tie.Need-returns
-returns c = length-told (modelIn (c .before .before .before .before .args .m .now)) (c .before .before .before .before .pre) (c .before .put-table .ensures)
+returns c = length-told (modelIn (c .before .before .before .before .args .words .now)) (c .before .before .before .before .pre) (c .before .put-table .ensures)
 
 pub table-length-spec : {M : Type 1} → statement M
 table-length-spec =

@@ -29,8 +29,8 @@ array-read-put-word c = search needs
 put-word-requires : tie.Need-put-word-requires Inv-loop μ-loop
 put-word-requires c κs = search needs
 
-add-t : tie.Need-add-t Inv-loop μ-loop
-add-t c = search needs
+add-thread : tie.Need-add-thread Inv-loop μ-loop
+add-thread c = search needs
 
 loop-less : tie.Need-loop-less Inv-loop μ-loop
 loop-less c = search needs
@@ -55,7 +55,7 @@ put-spent-words-spec =
     mul-put-word
     array-read-put-word
     put-word-requires
-    add-t
+    add-thread
     loop-less
     loop-again
     same-length

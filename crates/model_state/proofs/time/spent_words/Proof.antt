@@ -28,8 +28,8 @@ mul-kept c = search needs
 array-write-kept : tie.Need-array-write-kept Inv-loop μ-loop
 array-write-kept c = omega (arith, c .before .before .loop .inv .1 .size, c .before .loop-test .taken)
 
-add-t : tie.Need-add-t Inv-loop μ-loop
-add-t c = search needs
+add-thread : tie.Need-add-thread Inv-loop μ-loop
+add-thread c = search needs
 
 loop-less : tie.Need-loop-less Inv-loop μ-loop
 loop-less c = search needs
@@ -51,7 +51,7 @@ spent-words-spec =
     word-at-requires
     mul-kept
     array-write-kept
-    add-t
+    add-thread
     loop-less
     loop-again
     returns)

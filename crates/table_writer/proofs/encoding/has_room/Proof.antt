@@ -10,7 +10,7 @@ sub-result : tie.Need-sub-result
 sub-result c = search needs
 
 returns : tie.Need-returns
-returns c = λ e. let h = leb-true (c .before .args .m) (c .before .args .n - c .before .args .at) e in let l = c .if1 .taken in omega (arith, h, l)
+returns c = λ e. let h = leb-true (c .before .args .size) (c .before .args .end - c .before .args .at) e in let l = c .if1 .taken in omega (arith, h, l)
 
 returns-2 : tie.Need-returns-2
 returns-2 c = λ e. absurd (false≢true e)

@@ -21,7 +21,7 @@ same-length c = search needs
 
 returns : tie.Need-returns
 unfolding recordTo
-returns c = stored _ (c .before .before .before .before .before .before .before .args .at) (c .before .before .before .before .before .has-room .ensures (c .before .before .before .before .if1 .taken)) (let h : length (c .before .before .before .before .before .before .before .args .d .now) ≤ farthest = search needs in h) (c .before .before .store-atom .ensures)
+returns c = stored _ (c .before .before .before .before .before .before .before .args .at) (c .before .before .before .before .before .has-room .ensures (c .before .before .before .before .if1 .taken)) (let h : length (c .before .before .before .before .before .before .before .args .output .now) ≤ farthest = search needs in h) (c .before .before .store-atom .ensures)
 
 put-byte-requires : tie.Need-put-byte-requires
 put-byte-requires c κs = search needs
@@ -40,7 +40,7 @@ same-length-2 c = search needs
 
 returns-2 : tie.Need-returns-2
 unfolding recordTo
-returns-2 c = let h : length (c .before .before .before .before .before .before .before .before .before .before .before .before .before .before .before .before .before .before .before .before .args .d .now) ≤ farthest = search needs in and-then _ _ h (and-then _ _ h (and-then _ _ h (c .before .before .before .before .before .before .before .before .before .before .before .before .before .before .put-byte .ensures) (c .before .before .before .before .before .before .before .before .before .before .put-byte2 .ensures)) (c .before .before .before .before .before .before .put-u16 .ensures)) (c .before .before .put-operand .ensures)
+returns-2 c = let h : length (c .before .before .before .before .before .before .before .before .before .before .before .before .before .before .before .before .before .before .before .before .args .output .now) ≤ farthest = search needs in and-then _ _ h (and-then _ _ h (and-then _ _ h (c .before .before .before .before .before .before .before .before .before .before .before .before .before .before .put-byte .ensures) (c .before .before .before .before .before .before .before .before .before .before .put-byte2 .ensures)) (c .before .before .before .before .before .before .put-u16 .ensures)) (c .before .before .put-operand .ensures)
 
 pub put-atom-spec : {M : Type 1} → statement M
 put-atom-spec =

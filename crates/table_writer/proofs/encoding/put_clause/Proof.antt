@@ -15,7 +15,7 @@ same-length c = search needs
 returns : tie.Need-returns
 unfolding recordTo
 returns c =
-    let h : length (c .before .before .before .before .before .args .d .now) ≤ farthest = search needs in
+    let h : length (c .before .before .before .before .before .args .output .now) ≤ farthest = search needs in
     c .before .before .put-byte .ensures
 
 pub put-clause-spec : {M : Type 1} → statement M

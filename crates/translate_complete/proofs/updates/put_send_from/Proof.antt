@@ -5,8 +5,8 @@ use borrow.Author.Needs.{needs}
 use Rattle.translate_complete.proofs.updates.put_send_from.Statement.{statement}
 use Rattle.translate_complete.proofs.updates.put_send_from.Tie as tie
 
-is-sent-requires : tie.Need-is-sent-requires
-is-sent-requires c κs = search needs
+is-from-requires : tie.Need-is-from-requires
+is-from-requires c κs = search needs
 
 put-send-requires : tie.Need-put-send-requires
 put-send-requires c κs = c .before .before .before .before .before .pre
@@ -15,16 +15,16 @@ same-length : tie.Need-same-length
 same-length c = search needs
 
 returns : tie.Need-returns
-returns c = sent-over (timingIn (c .before .before .before .before .before .before .before .before .args .m .now)) _ _ (sentExpression (behaviorIn (c .before .before .before .before .before .before .before .before .args .m .now)) (c .before .before .before .before .before .before .before .before .args .k) (c .before .before .before .before .before .before .before .before .args .n)) _ (c .before .before .before .before .before .is-sent .ensures) (c .before .before .before .before .if1 .taken) (c .before .before .put-send .ensures)
+returns c = sent-over (timingIn (c .before .before .before .before .before .before .before .before .args .model .now)) _ _ (sentExpression (behaviorIn (c .before .before .before .before .before .before .before .before .args .model .now)) (c .before .before .before .before .before .before .before .before .args .transition) (c .before .before .before .before .before .before .before .before .args .count)) _ (c .before .before .before .before .before .is-from .ensures) (c .before .before .before .before .if1 .taken) (c .before .before .put-send .ensures)
 
 returns-2 : tie.Need-returns-2
-returns-2 c = sent-not (timingIn (c .before .before .before .before .args .m .now)) _ _ (sentExpression (behaviorIn (c .before .before .before .before .args .m .now)) (c .before .before .before .before .args .k) (c .before .before .before .before .args .n)) _ (c .before .is-sent .ensures) (c .if1 .left) (search needs)
+returns-2 c = sent-not (timingIn (c .before .before .before .before .args .model .now)) _ _ (sentExpression (behaviorIn (c .before .before .before .before .args .model .now)) (c .before .before .before .before .args .transition) (c .before .before .before .before .args .count)) _ (c .before .is-from .ensures) (c .if1 .left) (search needs)
 
 pub put-send-from-spec : {M : Type 1} → statement M
 put-send-from-spec =
     tie.close
     (tie.spec
-    is-sent-requires
+    is-from-requires
     put-send-requires
     same-length
     returns

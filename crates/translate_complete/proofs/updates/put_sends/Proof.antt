@@ -27,20 +27,20 @@ loop-holds c = (omega arith, loop-begins joins-updates _ (search needs))
 put-send-from-requires : tie.Need-put-send-from-requires Inv-loop μ-loop
 put-send-from-requires c κs = (c .before .before .before .before .before .before .pre .0, (c .before .before .before .before .before .before .pre .1, (let e = c .before .before .before .connections .ensures in let l = c .before .loop-test .taken in omega arith)))
 
-add-c : tie.Need-add-c Inv-loop μ-loop
-add-c c = search needs
+add-connection : tie.Need-add-connection Inv-loop μ-loop
+add-connection c = search needs
 
 loop-less : tie.Need-loop-less Inv-loop μ-loop
 loop-less c = search needs
 
 loop-again : tie.Need-loop-again Inv-loop μ-loop
-loop-again c = (omega arith, loop-next joins-updates _ (whereSent (timingIn (c .before .before .before .before .before .before .before .before .before .args .m .now)) immediate _ (sentExpression (behaviorIn (c .before .before .before .before .before .before .before .before .before .args .m .now)) (c .before .before .before .before .before .before .before .before .before .args .k) (c .before .before .before .before .before .before .before .before .before .args .n))) (c .before .before .before .before .before .before .before .before .before .good .0 .0) (c .before .before .before .before .before .loop .inv .1) (c .before .before .put-send-from .ensures))
+loop-again c = (omega arith, loop-next joins-updates _ (whereSent (timingIn (c .before .before .before .before .before .before .before .before .before .args .model .now)) immediate _ (sentExpression (behaviorIn (c .before .before .before .before .before .before .before .before .before .args .model .now)) (c .before .before .before .before .before .before .before .before .before .args .transition) (c .before .before .before .before .before .before .before .before .before .args .count))) (c .before .before .before .before .before .before .before .before .before .good .0 .0) (c .before .before .before .before .before .loop .inv .1) (c .before .before .put-send-from .ensures))
 
 same-length : tie.Need-same-length Inv-loop μ-loop
 same-length c = keeps-length (c .before .loop .inv .1)
 
 returns : tie.Need-returns Inv-loop μ-loop
-returns c = sends-end (timingIn (c .before .before .before .before .before .args .m .now)) _ (sentExpression (behaviorIn (c .before .before .before .before .before .args .m .now)) (c .before .before .before .before .before .args .k) (c .before .before .before .before .before .args .n)) _ _ (c .before .before .connections .ensures) (c .before .loop .inv .0) (c .loop-test .left) (c .before .loop .inv .1)
+returns c = sends-end (timingIn (c .before .before .before .before .before .args .model .now)) _ (sentExpression (behaviorIn (c .before .before .before .before .before .args .model .now)) (c .before .before .before .before .before .args .transition) (c .before .before .before .before .before .args .count)) _ _ (c .before .before .connections .ensures) (c .before .loop .inv .0) (c .loop-test .left) (c .before .loop .inv .1)
 
 pub put-sends-spec : {M : Type 1} → statement M
 put-sends-spec =
@@ -51,7 +51,7 @@ put-sends-spec =
     connections-requires
     loop-holds
     put-send-from-requires
-    add-c
+    add-connection
     loop-less
     loop-again
     same-length

@@ -1,5 +1,6 @@
 use Rattle.model_words.specs.Words.{timingIn}
-use Rattle.translate_connections.specs.Items.{few-connections, dispatch-fed, dispatch-free}
+use Rattle.translate_waits.specs.Waits.{few-connections}
+use Rattle.translate_connections.specs.Items.{dispatch-fed, dispatch-free}
 use borrow.Author.Needs.{needs}
 use Rattle.translate_connections.proofs.ports.put_dispatch_port.Statement.{statement}
 use Rattle.translate_connections.proofs.ports.put_dispatch_port.Tie as tie

@@ -1,5 +1,6 @@
 use Rattle.model_words.specs.Words.{timingIn}
-use Rattle.translate_connections.specs.Items.{few-connections, start-fed, start-free}
+use Rattle.translate_waits.specs.Waits.{few-connections}
+use Rattle.translate_connections.specs.Items.{start-fed, start-free}
 use borrow.Author.Needs.{needs}
 use Rattle.translate_connections.proofs.ports.put_start_port.Statement.{statement}
 use Rattle.translate_connections.proofs.ports.put_start_port.Tie as tie

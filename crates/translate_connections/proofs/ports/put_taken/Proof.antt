@@ -1,5 +1,5 @@
 use mathlib.Core.Path.{refl}
-use Rattle.translate_connections.specs.Named.{same-variable, update-named}
+use Rattle.translate_waits.specs.Named.{same-variable, update-named}
 use borrow.Author.Needs.{needs}
 use Rattle.translate_connections.proofs.ports.put_taken.Statement.{statement}
 use Rattle.translate_connections.proofs.ports.put_taken.Tie as tie

@@ -7,8 +7,9 @@ use Rattle.table_writer.specs.Lists.{joins-updates, loop-begins, loop-next, loo
 use Rattle.table_writer.specs.WroteRules.{WroteUpdates}
 use Rattle.table_writer.specs.Written.{keeps-length}
 use Rattle.translation.specs.Rules.{oldOutput, whereSent}
-use Rattle.translate_connections.specs.Named.{where-passed, where-failed}
-use Rattle.translate_connections.specs.Items.{few-connections, source-small, target-small, sent-over}
+use Rattle.translate_waits.specs.Named.{where-passed, where-failed}
+use Rattle.translate_waits.specs.Waits.{few-connections}
+use Rattle.translate_connections.specs.Items.{source-small, target-small, sent-over}
 use borrow.Author.Needs.{needs}
 use Rattle.translate_connections.proofs.sends.put_sends.Statement.{statement}
 use Rattle.translate_connections.proofs.sends.put_sends.Tie as tie

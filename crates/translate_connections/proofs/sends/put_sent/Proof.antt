@@ -19,7 +19,7 @@ same-length : tie.Need-same-length
 same-length c = search needs
 
 returns : tie.Need-returns
-returns c = sent-from _ (c .before .before .before .before .before .before .before .before .args .x) (c .before .before .before .before .before .before .flag-var .ensures) (c .before .before .before .before .before .buffer-var .ensures) (c .before .before .before .before .output-var .ensures) (c .before .before .put-copy-when .ensures)
+returns c = sent-from _ (c .before .before .before .before .before .before .before .before .args .own) (c .before .before .before .before .before .before .flag-var .ensures) (c .before .before .before .before .before .buffer-var .ensures) (c .before .before .before .before .output-var .ensures) (c .before .before .put-copy-when .ensures)
 
 pub put-sent-spec : {M : Type 1} → statement M
 put-sent-spec =

@@ -1,6 +1,6 @@
 use mathlib.Core.Path.{refl}
 use Rattle.table_writer.specs.Lists.{joins-updates}
-use Rattle.translate_connections.specs.Named.{same-variable, update-named, wrote-more}
+use Rattle.translate_waits.specs.Named.{same-variable, update-named, wrote-more}
 use borrow.Author.Needs.{needs}
 use Rattle.translate_threads.proofs.parts.put_missed.Statement.{statement}
 use Rattle.translate_threads.proofs.parts.put_missed.Tie as tie

@@ -1,5 +1,5 @@
 use mathlib.Core.Path.{refl}
-use Rattle.translate_connections.specs.Named.{update-named}
+use Rattle.translate_waits.specs.Named.{update-named}
 use borrow.Author.Needs.{needs}
 use Rattle.translate_threads.proofs.parts.put_state.Statement.{statement}
 use Rattle.translate_threads.proofs.parts.put_state.Tie as tie

@@ -1,4 +1,4 @@
-use Rattle.translate_connections.specs.Named.{clause-named}
+use Rattle.translate_waits.specs.Named.{clause-named}
 use borrow.Author.Needs.{needs}
 use Rattle.translate_threads.proofs.parts.put_state_is.Statement.{statement}
 use Rattle.translate_threads.proofs.parts.put_state_is.Tie as tie

@@ -1,0 +1,4 @@
+pub mod Replaced
+pub mod Kept
+pub mod Changed
+pub mod Stored

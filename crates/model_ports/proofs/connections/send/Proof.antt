@@ -1,0 +1,67 @@
+use native.Mathlib.Omega.{arith}
+use Prim.Native.Nat.{ℕ, _≤_, _-_}
+use mathlib.Core.Path.{_≡_, refl}
+use lib.ListN.{length}
+use Rattle.model_state.specs.Words.{stateIn}
+use Rattle.model_words.specs.Words.{timingIn}
+use Rattle.model_ports.specs.Sends.{sentBelow, sent-none, sent-next, sent-all}
+use borrow.Author.Needs.{needs}
+use Rattle.model_ports.proofs.connections.send.Statement.{statement}
+use Rattle.model_ports.proofs.connections.send.Tie as tie
+
+abbrev Inv-loop : tie.InvT-loop
+Inv-loop m s₀ kind t n c₀ s c = (c ≤ n) × (length s ≡ length s₀) × (stateIn s ≡ sentBelow (timingIn m) (stateIn s₀) kind t c)
+
+abbrev μ-loop : tie.MeasureT-loop
+μ-loop m s₀ kind t n c₀ s c = n - c
+
+connections-requires : tie.Need-connections-requires Inv-loop μ-loop
+connections-requires c κs = search needs
+
+within-requires : tie.Need-within-requires Inv-loop μ-loop
+within-requires c κs = search needs
+
+loop-holds : tie.Need-loop-holds Inv-loop μ-loop
+loop-holds c = (omega arith, refl, sent-none _ _ _ _)
+
+connection-at-requires : tie.Need-connection-at-requires Inv-loop μ-loop
+connection-at-requires c κs = search needs
+
+carries-requires : tie.Need-carries-requires Inv-loop μ-loop
+carries-requires c κs = search needs
+
+send-one-requires : tie.Need-send-one-requires Inv-loop μ-loop
+send-one-requires c κs = search needs
+
+add-c : tie.Need-add-c Inv-loop μ-loop
+add-c c = search needs
+
+loop-less : tie.Need-loop-less Inv-loop μ-loop
+loop-less c = search needs
+
+loop-again : tie.Need-loop-again Inv-loop μ-loop
+loop-again c = (omega arith, search needs, sent-next _ _ _ _ _ (rw (c .before .before .before .before .before .before .before .before .before .before .connections .ensures) at (c .before .before .before .before .before .before .before .before .before .within .ensures)) _ _ (c .before .before .before .before .before .before .before .before .loop .inv .2) _ _ _ (c .before .before .before .before .before .before .connection-at .ensures) (c .before .before .before .before .carries .ensures) (c .before .before .send-one .ensures))
+
+same-length : tie.Need-same-length Inv-loop μ-loop
+same-length c = search needs
+
+returns : tie.Need-returns Inv-loop μ-loop
+returns c = sent-all _ _ _ _ _ (rw (c .before .before .before .connections .ensures) at (c .before .before .within .ensures)) _ _ (c .before .loop .inv .2) (c .before .loop .inv .0) (c .loop-test .left)
+
+pub send-spec : {M : Type 1} → statement M
+send-spec =
+    tie.close
+    (tie.spec
+    Inv-loop
+    μ-loop
+    connections-requires
+    within-requires
+    loop-holds
+    connection-at-requires
+    carries-requires
+    send-one-requires
+    add-c
+    loop-less
+    loop-again
+    same-length
+    returns)

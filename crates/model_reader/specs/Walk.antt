@@ -1,0 +1,85 @@
+-- Reading a model record by record: what is read from a place on.
+use mathlib.Core.Path.{_≡_, refl, sym, _∙_, ap}
+use mathlib.Core.Bool.{Bool, true, false, cond}
+use mathlib.Core.List.{List}
+use Prim.Native.Nat.{ℕ, _-_, _<_, _≤_}
+use lib.ListN.{length, take, drop, getD}
+use borrow.Author.Tests.{eq-eqb, ne-eqb}
+use Rattle.records.specs.declared.Notation.the-variants as notations
+use Rattle.records.specs.declared.Cause.{Cause}
+use Rattle.records.specs.declared.Cause.the-variants.{WrongKind}
+use Rattle.records.specs.declared.Refusal.{Refusal}
+use Rattle.records.specs.Format.{parts}
+use Rattle.records.specs.Walk.{part-size, parts-at, parts-end}
+use Rattle.records.specs.Refusals.{numberOf, isNone, inModel, noRefusal}
+use Rattle.model_format.specs.declared.Model.{Model}
+use Rattle.model_format.specs.declared.ModelRead.{ModelRead}
+use Rattle.model_format.specs.declared.Reading.{Reading}
+use Rattle.model_format.specs.Format.{recordOf, rankOf}
+use Rattle.model_format.specs.Model.{emptyModel}
+use Rattle.model_format.specs.Reading.{nextReading, readFrom, readModel}
+use Rattle.model_words.specs.Words.{modelIn}
+use Rattle.model_causes.specs.Readings.{readingIn}
+use Rattle.model_reader.specs.Reads.{readAs}
+use Rattle.model_takes.specs.Took.{taken, Took}
+use Rattle.model_takes.specs.Taken.{took-as}
+use Rattle.model_reader.specs.Places.{endAt, recordAt, record-slice}
+use Rattle.model_reader.specs.Ranks.{rank-of-part}
+
+abbrev pub readAt : List ℕ → ℕ → Reading → ModelRead
+readAt s p a = readFrom a p (parts notations.Model (drop p s))
+
+abbrev pub refusedAt : Cause → ℕ → ℕ → ModelRead
+refusedAt c p q = record { refusal = inModel c p q; model = emptyModel }
+
+-- the same where a list that stands for a refused model is not yet clear again
+abbrev pub readWith : Refusal → List ℕ → ModelRead
+readWith r l = record { refusal = r; model = cond (isNone (r .cause)) (modelIn l) emptyModel }
+
+pub read-begin : (s l : List ℕ) → modelIn l ≡ emptyModel → readAt s 0 (readingIn 0 l) ≡ readModel s
+unfolding readModel
+read-begin s l e = ap (λ (m : Model). readFrom (record { last = 0; model = m }) 0 (parts notations.Model s)) e
+
+module _ (s : List ℕ) (p q last : ℕ) (l : List ℕ) (c : Cause) (l′ : List ℕ) (h : p < length s) (e : q ≡ endAt s p) (t : Took last l (recordOf (take (q - p) (drop p s))) c l′) where
+  took-at : Took last l (recordAt s p) c l′
+  took-at = took-as last l _ _ c l′ t (record-slice s p q e)
+
+  pub read-on : (k : ℕ) → k ≡ getD (take (q - p) (drop p s)) 0 0 → isNone c ≡ true → readAt s q (readingIn k l′) ≡ readAt s p (readingIn last l)
+  unfolding readFrom taken
+  read-on k i n =
+      let g = took-at .0 in
+      let f : k ≡ rankOf (recordAt s p) = rank-of-part (readingIn last l) _ k i (rw (← t .0) n) ∙ ap rankOf (record-slice s p q e) in
+      let b : readingIn k l′ ≡ nextReading (readingIn last l) (recordAt s p) = rw f (ap (λ (m : Model). record { last = rankOf (recordAt s p); model = m }) (took-at .1 ∙ rw n)) in
+      rw (e, parts-at notations.Model s p _ h refl, ← g, n, part-size notations.Model s p _ h refl, b)
+
+  pub read-refused : (y : Refusal) → isNone c ≡ false → y ≡ inModel c p q → readWith y l′ ≡ readAt s p (readingIn last l)
+  unfolding readFrom
+  read-refused y n i =
+      let g = took-at .0 in
+      let z : refusedAt c p q ≡ readAt s p (readingIn last l) = rw (e, parts-at notations.Model s p _ h refl, ← g, n, part-size notations.Model s p _ h refl) in
+      ap (λ (w : Refusal). readWith w l′) i ∙ ap (λ (b : Bool). record { refusal = inModel c p q; model = cond b (modelIn l′) emptyModel }) n ∙ z
+
+module _ (s : List ℕ) (p last : ℕ) (l : List ℕ) (h : length s ≤ p) where
+  pub read-none : (y : Refusal) → last ≡ 0 → y ≡ inModel WrongKind p p → readWith y l ≡ readAt s p (readingIn last l)
+  unfolding readFrom numberOf
+  read-none y e i =
+      let z : refusedAt WrongKind p p ≡ readAt s p (readingIn last l) = rw (parts-end notations.Model s p h, eq-eqb last 0 e) in
+      ap (λ (w : Refusal). readWith w l) i ∙ z
+
+  pub read-all : (y : Refusal) → (last ≡ 0 → ⊥) → y ≡ noRefusal → readWith y l ≡ readAt s p (readingIn last l)
+  unfolding readFrom numberOf
+  read-all y e i =
+      let z : record { refusal = noRefusal; model = modelIn l } ≡ readAt s p (readingIn last l) = rw (parts-end notations.Model s p h, ne-eqb last 0 e) in
+      ap (λ (w : Refusal). readWith w l) i ∙ z
+
+-- a reading as it is handed back: with the model, with a list that is clear again, or alone
+module _ (s l : List ℕ) (r : Refusal) (e : readWith r l ≡ readModel s) where
+  pub read-whole : (b : Bool) → b ≡ isNone (r .cause) → b ≡ true → readAs r l ≡ readModel s
+  read-whole b f h = ap (λ (k : Bool). record { refusal = r; model = cond k (modelIn l) emptyModel }) (sym h ∙ f) ∙ e
+
+  pub read-emptied : (b : Bool) (l′ : List ℕ) → b ≡ isNone (r .cause) → b ≡ false → modelIn l′ ≡ emptyModel → readAs r l′ ≡ readModel s
+  read-emptied b l′ f h g =
+      ap (λ (m : Model). record { refusal = r; model = m }) g ∙ ap (λ (k : Bool). record { refusal = r; model = cond k (modelIn l) emptyModel }) (sym h ∙ f) ∙ e
+
+  pub read-refusal : r ≡ readModel s .refusal
+  read-refusal = ap (λ (x : ModelRead). x .refusal) e

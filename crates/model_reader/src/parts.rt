@@ -1,0 +1,73 @@
+// The record of a part of the bytes, taken into a model.
+
+use model_format::assignment_of;
+use model_format::atom_of;
+use model_format::connection_of;
+use model_format::head_of;
+use model_format::local_of;
+use model_format::switch_of;
+use model_format::thread_of;
+use model_format::transition_of;
+use model_takes::take_assignment;
+use model_takes::take_atom;
+use model_takes::take_connection;
+use model_takes::take_head;
+use model_takes::take_input;
+use model_takes::take_local;
+use model_takes::take_output;
+use model_takes::take_switch;
+use model_takes::take_thread;
+use model_takes::take_transition;
+use numbers::byte_at;
+use records::Cause;
+use records::MODEL_ATOM;
+use records::MODEL_CONNECTION;
+use records::MODEL_HEAD;
+use records::MODEL_INPUT;
+use records::MODEL_LOCAL;
+use records::MODEL_OUTPUT;
+use records::MODEL_SWITCH;
+use records::MODEL_THREAD;
+use records::MODEL_TRANSITION;
+use records::Notation;
+ghost use Prim.Native.Nat.{_≤_};
+ghost use lib.ListN.{length};
+ghost use Rattle.model_format.specs.Format as format;
+ghost use Rattle.model_words.specs.Words as words;
+ghost use Rattle.model_takes.specs.Took.{Took};
+
+// A part that has the whole of its body.
+fn take_whole(model: &mut [u32], last: u8, kind: u8, part: &[u8]) -> Cause
+    requires { ⌜ words.modelWords ≤ length (now model) ⌝ }
+    ensures { λ cause. ⌜ Took last (now (model .entry)) (format.recordOfWhole kind (now (part .entry))) cause (now (model .exit)) ⌝ }
+{
+    match kind {
+        MODEL_HEAD => take_head(model, last, head_of(part)),
+        MODEL_THREAD => take_thread(model, last, thread_of(part)),
+        MODEL_INPUT => take_input(model, last, byte_at(part, 1)),
+        MODEL_OUTPUT => take_output(model, last, byte_at(part, 1)),
+        MODEL_LOCAL => take_local(model, last, local_of(part)),
+        MODEL_CONNECTION => take_connection(model, last, connection_of(part)),
+        MODEL_SWITCH => take_switch(model, last, switch_of(part)),
+        MODEL_TRANSITION => take_transition(model, last, transition_of(part)),
+        MODEL_ATOM => take_atom(model, last, atom_of(part)),
+        _ => take_assignment(model, last, assignment_of(part)),
+    }
+}
+
+// Adds the record of a part to the model, or tells why it is refused.
+pub fn take_part(model: &mut [u32], last: u8, part: &[u8]) -> Cause
+    requires { ⌜ words.modelWords ≤ length (now model) ⌝ }
+    ensures { λ cause. ⌜ Took last (now (model .entry)) (format.recordOf (now (part .entry))) cause (now (model .exit)) ⌝ }
+{
+    let kind = byte_at(part, 0);
+    let notation = Notation::Model;
+    let size = records::record_size(notation, kind);
+    if size == 0 {
+        return Cause::WrongKind;
+    }
+    if part.len() < size {
+        return Cause::CutRecord;
+    }
+    take_whole(model, last, kind, part)
+}

@@ -1,0 +1,3 @@
+pub mod Took
+pub mod Taken
+pub mod Rooms

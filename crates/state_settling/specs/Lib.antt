@@ -1,0 +1,4 @@
+pub mod Words
+pub mod Passes
+pub mod Settled
+pub mod SameState

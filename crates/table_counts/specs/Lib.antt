@@ -1,0 +1,3 @@
+pub mod Bounds
+pub mod Loops
+pub mod Noted

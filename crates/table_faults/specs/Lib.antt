@@ -1,0 +1,2 @@
+pub mod FieldTests
+pub mod ReadingOn

@@ -1,0 +1,4 @@
+pub mod Adds
+pub mod Order
+pub mod Inserted
+pub mod OneMore

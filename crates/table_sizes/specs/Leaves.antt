@@ -1,0 +1,92 @@
+-- What one item adds, as the code tells it.
+use mathlib.Core.Path.{_≡_, refl, sym, _∙_, ap}
+use mathlib.Core.Bool.{Bool, true, false, not}
+use Prim.Native.Nat.{ℕ, _+_, _*_, _≤_}
+use native.Mathlib.Omega.{arith}
+use lib.Dec.{eqb}
+use borrow.Author.Tests.{eq-eqb, ne-eqb}
+use Rattle.numbers.specs.Values.{natural, sameValue}
+use Rattle.model_format.specs.declared.Thread.{Thread}
+use Rattle.model_format.specs.declared.Local.{Local}
+use Rattle.model_format.specs.declared.Connection.{Connection}
+use Rattle.model_format.specs.declared.Timing.{Timing}
+use Rattle.model_format.specs.Model.{threadAt, localAt, connectionAt, inMode, immediate, delayed}
+use Rattle.translation.specs.Shown.{bit}
+use Rattle.translation_sizes.specs.declared.Counts.{Counts}
+use Rattle.translation_sizes.specs.Counts.{counts, nothing, countBelow, sizeBy}
+use Rattle.translation_sizes.specs.CountLaws.{updates-each}
+use Rattle.translation_sizes.specs.Items.{threadCounts, inputCounts, connectionCounts, switchCounts, headStarts, threadStarts, connectionStarts, localStarts}
+
+module _ (m : Timing) {r : Counts} where
+  pub thread-told : (t : ℕ) → r ≡ counts 11 32 32 25 → r ≡ threadCounts m t
+  unfolding threadCounts
+  thread-told t e = e
+
+  pub inputs-told : (n : ℕ) → n ≡ m .inputs → r ≡ counts 0 0 0 n → r ≡ countBelow (m .inputs) (inputCounts m)
+  unfolding inputCounts
+  inputs-told n h e = e ∙ (ap (counts 0 0 0) h ∙ sym (updates-each (m .inputs)))
+
+  pub switch-told : (q a f : ℕ) → a ≡ m .threads → f ≡ m .connections → r ≡ counts 4 10 11 (7 + a + 2 * f) → r ≡ switchCounts m q
+  unfolding switchCounts
+  switch-told q a f h k e = e ∙ ap (counts 4 10 11) (omega arith)
+
+  -- x is connection c
+  module _ (c : ℕ) {x : Connection} (e : x ≡ connectionAt m c) where
+    pub immediate-told : x .kind ≡ immediate → r ≡ counts 0 2 9 2 → r ≡ connectionCounts m c
+    unfolding connectionCounts
+    immediate-told h k = k ∙ rw (← e, h)
+
+    pub delayed-told : x .kind ≡ delayed → r ≡ counts 0 1 4 2 → r ≡ connectionCounts m c
+    unfolding connectionCounts
+    delayed-told h k = k ∙ rw (← e, h)
+
+    pub none-told : (x .kind ≡ immediate → ⊥) → (x .kind ≡ delayed → ⊥) → r ≡ nothing → r ≡ connectionCounts m c
+    unfolding connectionCounts
+    none-told h l k = k ∙ rw (← e, ne-eqb (x .kind) immediate h, ne-eqb (x .kind) delayed l)
+
+-- ---- start records
+pub bit-few : (b : Bool) → bit b ≤ 1
+bit-few true = omega arith
+bit-few false = omega arith
+
+module _ (m : Timing) {i : ℕ} (h : i ≡ m .initial) where
+  pub head-told : {n : ℕ} → n ≡ bit (not (eqb i 0)) → 2 + n ≡ headStarts m
+  unfolding headStarts
+  head-told e = rw (← h, ← e)
+
+  pub thread-begun : (t : ℕ) {x : Thread} {p : Bool} {a n : ℕ} → x ≡ threadAt m t → p ≡ inMode (x .modes) i → a ≡ bit p → n ≡ bit (not (eqb (x .first) 0)) → a + n ≡ threadStarts m t
+  unfolding threadStarts
+  thread-begun t e q k l = rw (← e, ← h, ← q, ← k, ← l)
+
+  pub connection-begun : (c : ℕ) {x : Connection} {p : Bool} {a : ℕ} → x ≡ connectionAt m c → p ≡ inMode (x .modes) i → a ≡ bit p → a ≡ connectionStarts m c
+  unfolding connectionStarts
+  connection-begun c e q k = k ∙ rw (← e, ← h, ← q)
+
+module _ (m : Timing) (v : ℕ) {x : Local} {p : Bool} (e : x ≡ localAt m v) (h : p ≡ sameValue (x .start) (natural 0)) where
+  pub local-blank : p ≡ true → 0 ≡ localStarts m v
+  unfolding localStarts
+  local-blank k = rw (← e, ← h, k)
+
+  pub local-begun : p ≡ false → 1 ≡ localStarts m v
+  unfolding localStarts
+  local-begun k = rw (← e, ← h, k)
+
+-- few each
+module _ (m : Timing) where
+  pub thread-few : (t : ℕ) → threadStarts m t ≤ 2
+  unfolding threadStarts
+  thread-few t = omega (arith, bit-few (inMode (threadAt m t .modes) (m .initial)), bit-few (not (eqb (threadAt m t .first) 0)))
+
+  pub connection-few : (c : ℕ) → connectionStarts m c ≤ 2
+  unfolding connectionStarts
+  connection-few c = omega (arith, bit-few (inMode (connectionAt m c .modes) (m .initial)))
+
+  pub local-few : (v : ℕ) → localStarts m v ≤ 2
+  unfolding localStarts
+  local-few v = omega (arith, bit-few (not (sameValue (localAt m v .start) (natural 0))))
+
+-- ---- n bytes
+pub size-told : {n : ℕ} (starts : ℕ) (x : Counts) → n ≡ 7 * starts + 11 * x .rules + x .clauses + 9 * x .atoms + 17 * x .updates →
+    record { bytes = n; rules = x .rules; clauses = x .clauses; atoms = x .atoms; updates = x .updates } ≡ sizeBy starts x
+unfolding sizeBy
+size-told starts x e = rw e

@@ -1,0 +1,112 @@
+// Start records: variables that are not 0 at the start.
+
+use model_format::in_mode;
+use model_words::connection_at;
+use model_words::connections;
+use model_words::initial;
+use model_words::local_at;
+use model_words::locals;
+use model_words::thread_at;
+use model_words::threads;
+use numbers::Value;
+ghost use mathlib.Core.Path.{_≡_};
+ghost use Prim.Native.Nat.{_≤_};
+ghost use Rattle.model_format.specs.WellFormed.{GoodTiming};
+ghost use Rattle.model_words.specs.Words.{timingIn};
+ghost use Rattle.table_format.specs.Sums.{sumBelow};
+ghost use Rattle.translation.specs.Shown.{bit};
+ghost use Rattle.translation_sizes.specs.Items as items;
+
+fn bit_of(b: bool) -> usize
+    ensures { λ r. ⌜ (r ≡ bit b) × (r ≤ 1) ⌝ }
+{
+    if b { 1 } else { 0 }
+}
+
+fn head_starts(model: &[u32]) -> usize
+    ensures { λ r. ⌜ r ≡ items.headStarts (timingIn (now (model .entry))) ⌝ }
+{
+    let mode = initial(model);
+    2 + bit_of(mode != 0)
+}
+
+fn thread_starts(model: &[u32], t: usize) -> usize
+    ensures { λ r. ⌜ r ≡ items.threadStarts (timingIn (now (model .entry))) t ⌝ }
+{
+    let thread = thread_at(model, t);
+    let mode = initial(model);
+    bit_of(in_mode(thread.modes, mode)) + bit_of(thread.first != 0)
+}
+
+fn threads_starts(model: &[u32]) -> usize
+    requires { ⌜ GoodTiming (timingIn (now model)) ⌝ }
+    ensures { λ r. ⌜ r ≡ sumBelow (timingIn (now (model .entry)) .threads) (items.threadStarts (timingIn (now (model .entry)))) ⌝ }
+{
+    let n = threads(model);
+    let mut sum: usize = 0;
+    let mut t: usize = 0;
+    while t < n {
+        sum += thread_starts(model, t);
+        t += 1;
+    }
+    sum
+}
+
+fn connection_starts(model: &[u32], c: usize) -> usize
+    ensures { λ r. ⌜ r ≡ items.connectionStarts (timingIn (now (model .entry))) c ⌝ }
+{
+    let connection = connection_at(model, c);
+    let mode = initial(model);
+    bit_of(in_mode(connection.modes, mode))
+}
+
+fn connections_starts(model: &[u32]) -> usize
+    requires { ⌜ GoodTiming (timingIn (now model)) ⌝ }
+    ensures { λ r. ⌜ r ≡ sumBelow (timingIn (now (model .entry)) .connections) (items.connectionStarts (timingIn (now (model .entry)))) ⌝ }
+{
+    let n = connections(model);
+    let mut sum: usize = 0;
+    let mut c: usize = 0;
+    while c < n {
+        sum += connection_starts(model, c);
+        c += 1;
+    }
+    sum
+}
+
+fn local_starts(model: &[u32], v: usize) -> usize
+    ensures { λ r. ⌜ r ≡ items.localStarts (timingIn (now (model .entry))) v ⌝ }
+{
+    let local = local_at(model, v);
+    let start = local.start;
+    let zero = Value(0);
+    if numbers::same(start, zero) {
+        return 0;
+    }
+    1
+}
+
+fn locals_starts(model: &[u32]) -> usize
+    requires { ⌜ GoodTiming (timingIn (now model)) ⌝ }
+    ensures { λ r. ⌜ r ≡ sumBelow (timingIn (now (model .entry)) .locals) (items.localStarts (timingIn (now (model .entry)))) ⌝ }
+{
+    let n = locals(model);
+    let mut sum: usize = 0;
+    let mut v: usize = 0;
+    while v < n {
+        sum += local_starts(model, v);
+        v += 1;
+    }
+    sum
+}
+
+pub fn item_starts(model: &[u32]) -> usize
+    requires { ⌜ GoodTiming (timingIn (now model)) ⌝ }
+    ensures { λ r. ⌜ r ≡ items.itemStarts (timingIn (now (model .entry))) ⌝ }
+{
+    let head = head_starts(model);
+    let threads = threads_starts(model);
+    let connections = connections_starts(model);
+    let locals = locals_starts(model);
+    head + threads + connections + locals
+}

@@ -1,0 +1,4 @@
+pub mod Named
+pub mod NamedLaws
+pub mod Operands
+pub mod Guards

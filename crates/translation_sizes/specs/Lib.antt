@@ -1,0 +1,11 @@
+pub mod Sizes
+pub mod Foretold
+pub mod Counts
+pub mod CountLaws
+pub mod TableCounts
+pub mod Items
+pub mod GroupCounts
+pub mod Ports
+pub mod Starts
+pub mod Total
+pub mod Foretelling
