@@ -1,3 +1,6 @@
+pub mod Quiet
+pub mod QuietLaws
+pub mod CalmLaws
 pub mod Answers
 pub mod AnswerLaws
 pub mod Passing

@@ -5,7 +5,7 @@ use lib.Dec.{eqb}
 use Rattle.model_semantics.specs.declared.State.{State}
 use Rattle.model_semantics.specs.State.{codeOf, spentOf, withSpent}
 use Rattle.model_semantics.specs.Tests.{execution}
-use Rattle.model_quiet.specs.Quiet.{moreBy, spentBy, withSpents}
+use Rattle.model_time.specs.Quiet.{moreBy, spentBy, withSpents}
 
 -- Spent of thread t, q ticks later
 unfoldable pub spend : State → ℕ → ℕ → State

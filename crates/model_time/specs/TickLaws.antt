@@ -13,8 +13,8 @@ use Rattle.model_semantics.specs.State.{nowOf, withNow}
 use Rattle.model_semantics.specs.Tests.{isBusy}
 use Rattle.model_semantics.specs.Effects.{tick}
 use Rattle.model_semantics.specs.Machine.{refuse, accept, ticks}
-use Rattle.model_quiet.specs.Quiet.{later, Quiet}
-use Rattle.model_quiet.specs.QuietLaws.{later-none, later-next}
+use Rattle.model_time.specs.Quiet.{later, Quiet}
+use Rattle.model_time.specs.QuietLaws.{later-none, later-next}
 
 -- ---- TICK n from s₀, of which k ticks are left at x
 module _ (m : Timing) (s₀ x : State) where

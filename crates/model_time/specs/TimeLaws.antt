@@ -21,7 +21,7 @@ use Rattle.model_semantics.specs.State.{codeOf, spentOf, withNow, withSpent}
 use Rattle.model_semantics.specs.Tests.{execution}
 use Rattle.model_semantics.specs.Machine.{refuse, accept}
 use Rattle.model_tests.specs.Rooms.{fold-room}
-use Rattle.model_quiet.specs.Quiet.{moreBy, spending, spentBy, withSpents, later}
+use Rattle.model_time.specs.Quiet.{moreBy, spending, spentBy, withSpents, later}
 use Rattle.model_state.specs.Words.{nowPlace, clockIn, stateIn}
 use Rattle.model_time.specs.Answers.{Answers}
 use Rattle.model_time.specs.Passing.{spend, spentBelow}

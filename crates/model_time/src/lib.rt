@@ -1,9 +1,12 @@
 // Ticks that pass at once, and TICK, all of its ticks or none.
 
+mod calm;
+mod quiet;
+
+use crate::calm::least;
+use crate::calm::more_by;
+use crate::quiet::quiet_ticks;
 use model_format::MAX_THREADS;
-use model_quiet::least;
-use model_quiet::more_by;
-use model_quiet::quiet_ticks;
 use model_semantics::EXECUTION;
 use model_state::code_of;
 use model_state::now_of;
@@ -28,7 +31,7 @@ ghost use Rattle.model_semantics.specs.State.{nowOf};
 ghost use Rattle.model_state.specs.Parts.{BesideTime, SpentWords};
 ghost use Rattle.model_state.specs.Words.{stateIn, clockWords, nowPlace};
 ghost use Rattle.model_words.specs.Words.{timingIn};
-ghost use Rattle.model_quiet.specs.Quiet as quiet;
+ghost use Rattle.model_time.specs.Quiet as quiet;
 ghost use Rattle.model_time.specs.Answers.{Answers};
 ghost use Rattle.model_time.specs.Passing as passing;
 

@@ -1,8 +1,8 @@
-use Rattle.model_quiet.specs.QuietLaws.{more-sum, more-full}
+use Rattle.model_time.specs.QuietLaws.{more-sum, more-full}
 use native.Mathlib.Omega.{arith}
 use borrow.Author.Needs.{needs}
-use Rattle.model_quiet.proofs.calm.more_by.Statement.{statement}
-use Rattle.model_quiet.proofs.calm.more_by.Tie as tie
+use Rattle.model_time.proofs.calm.more_by.Statement.{statement}
+use Rattle.model_time.proofs.calm.more_by.Tie as tie
 
 sub-if1 : tie.Need-sub-if1
 sub-if1 c = search needs

@@ -16,7 +16,7 @@ ghost use mathlib.Core.Path.{_≡_};
 ghost use Prim.Native.Nat.{_<_, _≤_};
 ghost use Rattle.model_state.specs.Words.{stateIn};
 ghost use Rattle.model_words.specs.Words.{timingIn};
-ghost use Rattle.model_quiet.specs.Quiet as quiet;
+ghost use Rattle.model_time.specs.Quiet as quiet;
 
 // For how many of n ticks no thread has an event.
 fn all_calm(model: &[u32], state: &[u32], n: u32) -> u32

@@ -14,7 +14,7 @@ ghost use mathlib.Core.Bool.{false};
 ghost use Prim.Native.Nat.{ℕ, _+_, _<_, _≤_, min};
 ghost use lib.Dec.{eqb};
 ghost use Rattle.numbers.specs.Multiples.{isMultiple};
-ghost use Rattle.model_quiet.specs.Quiet as quiet;
+ghost use Rattle.model_time.specs.Quiet as quiet;
 
 // The last number of 32 bits.
 const LAST_NUMBER: u32 = numbers::LAST_U32;

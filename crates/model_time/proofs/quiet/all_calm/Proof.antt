@@ -3,12 +3,12 @@ use Prim.Native.Nat.{ℕ, _≤_, _<_, _-_}
 use mathlib.Core.Path.{_≡_, refl, _∙_}
 use Rattle.model_state.specs.Words.{stateIn}
 use Rattle.model_words.specs.Words.{timingIn}
-use Rattle.model_quiet.specs.CalmLaws.{calm-more, calm-as}
-use Rattle.model_quiet.specs.QuietLaws.{calm-end}
-use Rattle.model_quiet.specs.Quiet.{CalmBelow}
+use Rattle.model_time.specs.CalmLaws.{calm-more, calm-as}
+use Rattle.model_time.specs.QuietLaws.{calm-end}
+use Rattle.model_time.specs.Quiet.{CalmBelow}
 use borrow.Author.Needs.{needs}
-use Rattle.model_quiet.proofs.quiet.all_calm.Statement.{statement}
-use Rattle.model_quiet.proofs.quiet.all_calm.Tie as tie
+use Rattle.model_time.proofs.quiet.all_calm.Statement.{statement}
+use Rattle.model_time.proofs.quiet.all_calm.Tie as tie
 
 abbrev Inv-loop : tie.InvT-loop
 Inv-loop m s n count k q₀ t₀ q t = (t ≤ count) × (q ≤ n) × CalmBelow (timingIn m) k (stateIn s .threads) t q

@@ -1,8 +1,8 @@
-use Rattle.model_quiet.specs.QuietLaws.{due-past, due-ahead}
+use Rattle.model_time.specs.QuietLaws.{due-past, due-ahead}
 use native.Mathlib.Omega.{arith}
 use borrow.Author.Needs.{needs}
-use Rattle.model_quiet.proofs.calm.to_due.Statement.{statement}
-use Rattle.model_quiet.proofs.calm.to_due.Tie as tie
+use Rattle.model_time.proofs.calm.to_due.Statement.{statement}
+use Rattle.model_time.proofs.calm.to_due.Tie as tie
 
 add-due : tie.Need-add-due
 add-due c = search needs

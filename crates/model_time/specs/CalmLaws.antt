@@ -14,8 +14,8 @@ use Rattle.model_semantics.specs.declared.Threads.{Threads}
 use Rattle.model_semantics.specs.declared.State.{State}
 use Rattle.model_tests.specs.declared.Job.{Job}
 use Rattle.model_tests.specs.Parts.{jobOf}
-use Rattle.model_quiet.specs.Quiet.{Calm, CalmBelow, SwitchesCalm}
-use Rattle.model_quiet.specs.QuietLaws.{switches-none, switches-enter, switches-leave}
+use Rattle.model_time.specs.Quiet.{Calm, CalmBelow, SwitchesCalm}
+use Rattle.model_time.specs.QuietLaws.{switches-none, switches-enter, switches-leave}
 
 -- ---- the threads: r is what t leaves of q ticks
 pub calm-more : (m : Timing) (k : Clock) (y : Threads) (t q r : ℕ) (x : Thread) (j : Job) → CalmBelow m k y t q → r ≤ q → x ≡ threadAt m t → j ≡ jobOf y t → Calm k x j r →

@@ -1,8 +1,8 @@
-use Rattle.model_quiet.specs.QuietLaws.{not-done}
+use Rattle.model_time.specs.QuietLaws.{not-done}
 use native.Mathlib.Omega.{arith}
 use borrow.Author.Needs.{needs}
-use Rattle.model_quiet.proofs.calm.to_done.Statement.{statement}
-use Rattle.model_quiet.proofs.calm.to_done.Tie as tie
+use Rattle.model_time.proofs.calm.to_done.Statement.{statement}
+use Rattle.model_time.proofs.calm.to_done.Tie as tie
 
 returns : tie.Need-returns
 returns c = (omega arith, λ i l. absurd (omega arith))

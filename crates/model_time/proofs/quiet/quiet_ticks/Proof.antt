@@ -1,8 +1,8 @@
 use native.Mathlib.Omega.{arith}
-use Rattle.model_quiet.specs.QuietLaws.{quiet-one, quiet-all}
+use Rattle.model_time.specs.QuietLaws.{quiet-one, quiet-all}
 use borrow.Author.Needs.{needs}
-use Rattle.model_quiet.proofs.quiet.quiet_ticks.Statement.{statement}
-use Rattle.model_quiet.proofs.quiet.quiet_ticks.Tie as tie
+use Rattle.model_time.proofs.quiet.quiet_ticks.Statement.{statement}
+use Rattle.model_time.proofs.quiet.quiet_ticks.Tie as tie
 
 returns : tie.Need-returns
 returns c = (omega arith, (omega arith, quiet-one _ _))

@@ -30,7 +30,7 @@ use Rattle.model_semantics.specs.Tests.{execution, canEnter, canLeave, threadBu
 use Rattle.model_semantics.specs.Effects.{tick}
 use Rattle.model_tests.specs.Jobs.{mayAct}
 use Rattle.model_tests.specs.JobLaws.{and-false, calm, other-switch}
-use Rattle.model_quiet.specs.Quiet.{moreBy, spentBy, withSpents, later, clockAfter, Calm, CalmBelow, SwitchesCalm, Quiet}
+use Rattle.model_time.specs.Quiet.{moreBy, spentBy, withSpents, later, clockAfter, Calm, CalmBelow, SwitchesCalm, Quiet}
 
 -- ---- one more, i times
 pub more-at-most : (i n : ℕ) → moreBy i n ≤ n + i

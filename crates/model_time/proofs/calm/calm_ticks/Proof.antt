@@ -1,8 +1,8 @@
-use Rattle.model_quiet.specs.QuietLaws.{calm-none, calm-idle, calm-between, calm-ready, calm-running, calm-completed, calm-other}
+use Rattle.model_time.specs.QuietLaws.{calm-none, calm-idle, calm-between, calm-ready, calm-running, calm-completed, calm-other}
 use native.Mathlib.Omega.{arith}
 use borrow.Author.Needs.{needs}
-use Rattle.model_quiet.proofs.calm.calm_ticks.Statement.{statement}
-use Rattle.model_quiet.proofs.calm.calm_ticks.Tie as tie
+use Rattle.model_time.proofs.calm.calm_ticks.Statement.{statement}
+use Rattle.model_time.proofs.calm.calm_ticks.Tie as tie
 
 to-multiple-requires : tie.Need-to-multiple-requires
 to-multiple-requires c κs = search needs

@@ -1,8 +1,8 @@
-use Rattle.model_quiet.specs.QuietLaws.{rest-within, never-multiple, no-multiple}
+use Rattle.model_time.specs.QuietLaws.{rest-within, never-multiple, no-multiple}
 use native.Mathlib.Omega.{arith}
 use borrow.Author.Needs.{needs}
-use Rattle.model_quiet.proofs.calm.to_multiple.Statement.{statement}
-use Rattle.model_quiet.proofs.calm.to_multiple.Tie as tie
+use Rattle.model_time.proofs.calm.to_multiple.Statement.{statement}
+use Rattle.model_time.proofs.calm.to_multiple.Tie as tie
 
 returns : tie.Need-returns
 returns c = (omega arith, never-multiple _ _ _ (c .if1 .taken))

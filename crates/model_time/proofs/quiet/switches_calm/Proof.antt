@@ -1,8 +1,8 @@
 use native.Mathlib.Omega.{arith}
-use Rattle.model_quiet.specs.CalmLaws.{switches-off, switches-in, switches-out}
+use Rattle.model_time.specs.CalmLaws.{switches-off, switches-in, switches-out}
 use borrow.Author.Needs.{needs}
-use Rattle.model_quiet.proofs.quiet.switches_calm.Statement.{statement}
-use Rattle.model_quiet.proofs.quiet.switches_calm.Tie as tie
+use Rattle.model_time.proofs.quiet.switches_calm.Statement.{statement}
+use Rattle.model_time.proofs.quiet.switches_calm.Tie as tie
 
 clock-of-requires : tie.Need-clock-of-requires
 clock-of-requires c κs = search needs

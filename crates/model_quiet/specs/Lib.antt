@@ -1,3 +1,0 @@
-pub mod Quiet
-pub mod QuietLaws
-pub mod CalmLaws
