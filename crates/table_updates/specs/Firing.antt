@@ -16,7 +16,7 @@ use Rattle.table_semantics.specs.Runs.{values, variablesOf, steppedTo}
 use Rattle.table_format.specs.Variables.{variables}
 use Rattle.table_rules.specs.At.{ruleAt}
 use Rattle.table_semantics.specs.MachineLaws as laws
-use Rattle.table_updates.specs.Applied.{writesFrom, targetNumbers, Fired, headAllows}
+use Rattle.table_updates.specs.Applied.{writesFrom, Fired, headAllows}
 
 -- ---- the one enabled rule: a is whether it allows the event's length, w what its updates have come to
 module _ (t : List ℕ) (s : Variables) (e : Event) (p : ℕ) (h : RuleHead) (a : Bool) (g : a ≡ headAllows e h) where
@@ -25,7 +25,7 @@ module _ (t : List ℕ) (s : Variables) (e : Event) (p : ℕ) (h : RuleHead) (a 
   fire-outside z = laws.fire-outside s e (ruleAt t p h) (sym g ∙ z)
 
   module _ (z : a ≡ true) (v : List ℕ) (f : s ≡ variablesOf v) (c : ℕ) (v′ : List ℕ)
-      (r : Fired (writesFrom (e .amount) (values v) t p) v c v′ variables variables targetNumbers) where
+      (r : Fired (writesFrom (e .amount) (values v) t p) v c v′ variables variables) where
     pub fire-twice : c ≡ 1 → steppedTo InconsistentUpdates v′ ≡ fire s e (ruleAt t p h ∷ [])
     unfolding allowsLength headAllows
     fire-twice y =
@@ -35,7 +35,7 @@ module _ (t : List ℕ) (s : Variables) (e : Event) (p : ℕ) (h : RuleHead) (a 
     pub fire-takes : (c ≡ 1 → ⊥) → accept (values v′) ≡ fire s e (ruleAt t p h ∷ [])
     unfolding allowsLength headAllows
     fire-takes y =
-        let n : c ≡ 2 → ⊥ = λ x. r .wide x (omega arith) (omega arith) (omega arith) in
+        let n : c ≡ 2 → ⊥ = λ x. r .wide x (omega arith) (omega arith) in
         let k = r .small in
         let o : c ≡ 0 = none c k y n in
         ap accept (r .taken o ∙ rw f) ∙ laws.fire-takes s e (ruleAt t p h) (sym g ∙ z) (rw f (sym (r .twice n) ∙ ne-eqb c 1 y))

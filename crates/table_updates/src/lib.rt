@@ -12,17 +12,18 @@ use table_format::NO_VARIABLE;
 use table_format::RuleHead;
 use table_format::VARIABLES;
 ghost use mathlib.Core.Path.{_≡_};
-ghost use mathlib.Core.Bool.{true, false};
+ghost use mathlib.Core.Bool.{true, false, _&&_};
 ghost use mathlib.Core.List.{[], _∷_};
 ghost use Prim.Native.Nat.{_<_};
-ghost use lib.ListN.{getD, set, length};
+ghost use lib.Dec.{eqb};
+ghost use lib.ListN.{getD, set, length, replicate};
 ghost use Rattle.table_format.specs.Variables.{variables};
 ghost use Rattle.table_format.specs.Format.{updateOf};
 ghost use Rattle.table_semantics.specs.Rules as rules;
 ghost use Rattle.table_semantics.specs.Machine as machine;
 ghost use Rattle.table_semantics.specs.Runs.{values, variablesOf, steppedTo};
 ghost use Rattle.table_rules.specs.At.{ruleAt};
-ghost use Rattle.table_updates.specs.Applied.{Unmarked, writesFrom, markedBelow, pending, Gathers, Collected, fewUpdates, targetNumbers, Fired, headAllows};
+ghost use Rattle.table_updates.specs.Applied.{writesFrom, WritesTo, pending, Gathers, Collected, fewUpdates, Fired, headAllows};
 
 // ---- updates
 // Whether the update that a part holds applies.
@@ -54,11 +55,46 @@ fn new_value(n: u32, bits: &[u32], part: &[u8]) -> Value
     numbers::combine(op, a, b)
 }
 
+fn target_of(part: &[u8]) -> usize
+    ensures { λ r. ⌜ r ≡ updateOf (now (part .entry)) .target ⌝ }
+{
+    numbers::usize_of_u16(numbers::u16_at(part, 4))
+}
+
+fn writes_to(bits: &[u32], part: &[u8], target: usize) -> bool
+    ensures { λ r. ⌜ r ≡ (rules.applies (values (now (bits .entry))) (updateOf (now (part .entry))) && eqb (updateOf (now (part .entry)) .target) target) ⌝ }
+{
+    applies(bits, part) & (target_of(part) == target)
+}
+
+// Whether an update of the rule writes this target, from this place on.
+fn is_written(table: &[u8], from: usize, bits: &[u32], target: usize) -> bool
+    ensures { λ r. ⌜ WritesTo (values (now (bits .entry))) (now (table .entry)) from target r ⌝ }
+{
+    let mut at: usize = from;
+    while at < table.len() {
+        let k = table[at];
+        if k == TABLE_RULE {
+            return false;
+        }
+        if k == TABLE_UPDATE {
+            if table.len() - at < UPDATE_SIZE {
+                return false;
+            }
+            if writes_to(bits, &table[at..at + UPDATE_SIZE], target) {
+                return true;
+            }
+            at += UPDATE_SIZE;
+            continue;
+        }
+        let w = Notation::Table;
+        at += records::part_length_at(w, table, at);
+    }
+    false
+}
+
 // How many updates of a rule there is room for at first.
 const FEW: usize = 64;
-
-// How many numbers a target can have.
-const TARGETS: usize = 65536;
 
 // Marks a target; tells whether it was marked before.
 fn mark(m: &mut [bool], j: usize) -> bool
@@ -85,8 +121,11 @@ fn tell(answer: u8, held: usize) -> Gathered
     }
 }
 
-// Where an update applies, its target is marked, and held with the new value; one past the last variable is not held.
+// Where an update applies, its target is marked, and held with the new value. A target past the last variable has no mark and is not held: the
+// updates from `next` on are searched for it. Tables that reading accepts have none.
 fn gather_update(
+    table: &[u8],
+    next: usize,
     n: u32,
     bits: &[u32],
     held: usize,
@@ -95,20 +134,21 @@ fn gather_update(
     marks: &mut [bool],
     part: &[u8],
 ) -> Gathered
-    ensures { λ r. ⌜ Gathers (rules.writes n (values (now (bits .entry))) (updateOf (now (part .entry)) ∷ [])) (r .answer) (r .held) held (now (targets .entry)) (now (targets .exit)) (now (news .entry)) (now (news .exit)) (now (marks .entry)) (now (marks .exit)) ⌝ }
+    requires { ⌜ length (now marks) ≡ variables ⌝ }
+    ensures { λ r. ⌜ Gathers (rules.writes n (values (now (bits .entry))) (updateOf (now (part .entry)) ∷ [])) (writesFrom n (values (now (bits .entry))) (now (table .entry)) next) (r .answer) (r .held) held (now (targets .entry)) (now (targets .exit)) (now (news .entry)) (now (news .exit)) (now (marks .entry)) (now (marks .exit)) ⌝ }
 {
     if !applies(bits, part) {
         return tell(0, held);
     }
-    let j = numbers::usize_of_u16(numbers::u16_at(part, 4));
-    if marks.len() <= j {
-        return tell(2, held);
+    let j = target_of(part);
+    if VARIABLES <= j {
+        if is_written(table, next, bits, j) {
+            return tell(1, held);
+        }
+        return tell(0, held);
     }
     if mark(marks, j) {
         return tell(1, held);
-    }
-    if VARIABLES <= j {
-        return tell(0, held);
     }
     if targets.len() <= held {
         return tell(2, held);
@@ -131,8 +171,8 @@ fn gather_updates(
     news: &mut [u32],
     marks: &mut [bool],
 ) -> Gathered
-    requires { ⌜ Unmarked (now marks) × (markedBelow variables (now marks) ≡ 0) ⌝ }
-    ensures { λ r. ⌜ (length (now (marks .exit)) ≡ length (now (marks .entry))) × Collected (writesFrom n (values (now (bits .entry))) (now (table .entry)) from) (values (now (bits .entry))) (r .answer) (r .held) (now (targets .exit)) (now (news .exit)) (length (now (targets .entry))) (length (now (news .entry))) (length (now (marks .entry))) ⌝ }
+    requires { ⌜ now marks ≡ replicate variables false ⌝ }
+    ensures { λ r. ⌜ (length (now (marks .exit)) ≡ length (now (marks .entry))) × Collected (writesFrom n (values (now (bits .entry))) (now (table .entry)) from) (values (now (bits .entry))) (r .answer) (r .held) (now (targets .exit)) (now (news .exit)) (length (now (targets .entry))) (length (now (news .entry))) ⌝ }
 {
     let mut held: usize = 0;
     let mut at: usize = from;
@@ -145,21 +185,24 @@ fn gather_updates(
             if table.len() - at < UPDATE_SIZE {
                 return tell(0, held);
             }
+            let next = at + UPDATE_SIZE;
             let one = gather_update(
+                table,
+                next,
                 n,
                 bits,
                 held,
                 targets,
                 news,
                 marks,
-                &table[at..at + UPDATE_SIZE],
+                &table[at..next],
             );
             let answer = one.answer;
             held = one.held;
             if answer != 0 {
                 return one;
             }
-            at += UPDATE_SIZE;
+            at = next;
             continue;
         }
         let w = Notation::Table;
@@ -203,8 +246,8 @@ fn fire_within(
     news: &mut [u32],
     marks: &mut [bool],
 ) -> u8
-    requires { ⌜ Unmarked (now marks) × (markedBelow variables (now marks) ≡ 0) ⌝ }
-    ensures { λ r. ⌜ Fired (writesFrom n (values (now (bits .entry))) (now (table .entry)) place) (now (bits .entry)) r (now (bits .exit)) (length (now (targets .entry))) (length (now (news .entry))) (length (now (marks .entry))) ⌝ }
+    requires { ⌜ now marks ≡ replicate variables false ⌝ }
+    ensures { λ r. ⌜ Fired (writesFrom n (values (now (bits .entry))) (now (table .entry)) place) (now (bits .entry)) r (now (bits .exit)) (length (now (targets .entry))) (length (now (news .entry))) ⌝ }
 {
     let all = gather_updates(table, place, n, bits, targets, news, marks);
     let answer = all.answer;
@@ -217,7 +260,7 @@ fn fire_within(
 
 // Most rules have few updates.
 fn fire_few(table: &[u8], place: usize, n: u32, bits: &mut [u32]) -> u8
-    ensures { λ r. ⌜ Fired (writesFrom n (values (now (bits .entry))) (now (table .entry)) place) (now (bits .entry)) r (now (bits .exit)) fewUpdates fewUpdates variables ⌝ }
+    ensures { λ r. ⌜ Fired (writesFrom n (values (now (bits .entry))) (now (table .entry)) place) (now (bits .entry)) r (now (bits .exit)) fewUpdates fewUpdates ⌝ }
 {
     let mut targets = [0; FEW];
     let mut news = [0; FEW];
@@ -225,18 +268,18 @@ fn fire_few(table: &[u8], place: usize, n: u32, bits: &mut [u32]) -> u8
     fire_within(table, place, n, bits, &mut targets, &mut news, &mut marks)
 }
 
-// As many as there are variables, and a mark for each number that a target can have, always do.
+// As many as there are variables always do.
 fn fire_many(table: &[u8], place: usize, n: u32, bits: &mut [u32]) -> u8
-    ensures { λ r. ⌜ Fired (writesFrom n (values (now (bits .entry))) (now (table .entry)) place) (now (bits .entry)) r (now (bits .exit)) variables variables targetNumbers ⌝ }
+    ensures { λ r. ⌜ Fired (writesFrom n (values (now (bits .entry))) (now (table .entry)) place) (now (bits .entry)) r (now (bits .exit)) variables variables ⌝ }
 {
     let mut targets = [0; VARIABLES];
     let mut news = [0; VARIABLES];
-    let mut marks = [false; TARGETS];
+    let mut marks = [false; VARIABLES];
     fire_within(table, place, n, bits, &mut targets, &mut news, &mut marks)
 }
 
 fn fire_updates(table: &[u8], place: usize, n: u32, bits: &mut [u32]) -> u8
-    ensures { λ r. ⌜ Fired (writesFrom n (values (now (bits .entry))) (now (table .entry)) place) (now (bits .entry)) r (now (bits .exit)) variables variables targetNumbers ⌝ }
+    ensures { λ r. ⌜ Fired (writesFrom n (values (now (bits .entry))) (now (table .entry)) place) (now (bits .entry)) r (now (bits .exit)) variables variables ⌝ }
 {
     let few = fire_few(table, place, n, bits);
     if few != 2 {

@@ -1,5 +1,4 @@
-use Rattle.table_format.specs.Variables.{variables}
-use Rattle.table_updates.specs.Applied.{none-marked, below-none}
+use mathlib.Core.Path.{refl}
 use borrow.Author.Needs.{needs}
 use Rattle.table_updates.proofs.fire_few.Statement.{statement}
 use Rattle.table_updates.proofs.fire_few.Tie as tie
@@ -14,7 +13,7 @@ slice-aggregate-fire-within-3 : tie.Need-slice-aggregate-fire-within-3
 slice-aggregate-fire-within-3 c = search needs
 
 fire-within-requires : tie.Need-fire-within-requires
-fire-within-requires c κs = (none-marked 288, below-none variables 288)
+fire-within-requires c κs = refl
 
 same-length : tie.Need-same-length
 same-length c = c .before .before .before .before .before .fire-within .ensures .size

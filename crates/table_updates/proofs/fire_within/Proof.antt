@@ -20,13 +20,13 @@ same-length-4 : tie.Need-same-length-4
 same-length-4 c = c .before .before .before .before .before .before .before .gather-updates .ensures .0
 
 returns : tie.Need-returns
-returns c = fired-not _ _ _ _ _ _ _ _ _ (c .before .before .before .before .before .before .before .gather-updates .ensures .1) (c .if1 .taken)
+returns c = fired-not _ _ _ _ _ _ _ _ (c .before .before .before .before .before .before .before .gather-updates .ensures .1) (c .if1 .taken)
 
 write-requires : tie.Need-write-requires
 write-requires c κs = search needs
 
 same-length-5 : tie.Need-same-length-5
-same-length-5 c = fired-all _ (c .before .before .before .before .before .before .before .before .before .before .before .before .before .before .before .before .before .before .before .before .before .before .before .args .bits .now) _ _ _ _ _ _ _ (c .before .before .before .before .before .before .before .before .before .before .before .before .before .gather-updates .ensures .1) (c .before .before .before .before .before .before .if1 .left) _ (c .before .before .write .ensures) .size
+same-length-5 c = fired-all _ (c .before .before .before .before .before .before .before .before .before .before .before .before .before .before .before .before .before .before .before .before .before .before .before .args .bits .now) _ _ _ _ _ _ (c .before .before .before .before .before .before .before .before .before .before .before .before .before .gather-updates .ensures .1) (c .before .before .before .before .before .before .if1 .left) _ (c .before .before .write .ensures) .size
 
 same-length-6 : tie.Need-same-length-6
 same-length-6 c = c .before .before .before .before .before .before .before .before .before .before .before .before .before .gather-updates .ensures .1 .targets
@@ -38,7 +38,7 @@ same-length-8 : tie.Need-same-length-8
 same-length-8 c = c .before .before .before .before .before .before .before .before .before .before .before .before .before .gather-updates .ensures .0
 
 returns-2 : tie.Need-returns-2
-returns-2 c = fired-all _ (c .before .before .before .before .before .before .before .before .before .before .before .before .before .before .before .before .before .before .before .before .before .before .before .args .bits .now) _ _ _ _ _ _ _ (c .before .before .before .before .before .before .before .before .before .before .before .before .before .gather-updates .ensures .1) (c .before .before .before .before .before .before .if1 .left) _ (c .before .before .write .ensures)
+returns-2 c = fired-all _ (c .before .before .before .before .before .before .before .before .before .before .before .before .before .before .before .before .before .before .before .before .before .before .before .args .bits .now) _ _ _ _ _ _ (c .before .before .before .before .before .before .before .before .before .before .before .before .before .gather-updates .ensures .1) (c .before .before .before .before .before .before .if1 .left) _ (c .before .before .write .ensures)
 
 pub fire-within-spec : {M : Type 1} → statement M
 fire-within-spec =
