@@ -22,6 +22,7 @@ ghost use Rattle.model_state.specs.Words.{stateWords, stateIn};
 ghost use Rattle.model_words.specs.Words.{modelWords, timingIn};
 ghost use Rattle.enabled.specs.Enabled.{modelOffers, modelMayTick};
 ghost use Rattle.enabled.specs.Told.{toldFrom, listFrom};
+ghost use Rattle.futonkestrel_sizes.specs.Sizes.{TellsSize};
 ghost use Rattle.futonkestrel.specs.Exports.{Exports};
 
 // ---- reading
@@ -48,6 +49,14 @@ pub extern "C" fn fk_translate(model: &[u8], output: &mut [u8], told: &mut [usiz
 {
     let t = translator::translate(model, output);
     futonkestrel_lending::tell_translation(told, t)
+}
+
+// How long the table of a model is, and how many records it has, before it is made.
+#[no_mangle]
+pub extern "C" fn fk_table_size(model: &[u8], told: &mut [usize]) -> u32
+    ensures { λ r. ⌜ TellsSize (now (model .entry)) (now (told .entry)) r (now (told .exit)) ⌝ }
+{
+    futonkestrel_sizes::table_size(model, told)
 }
 
 // ---- listings

@@ -3,3 +3,4 @@ pub mod Places
 pub mod Ranks
 pub mod Walk
 pub mod Lent
+pub mod Accepted

@@ -27,7 +27,7 @@ use Rattle.table_format.specs.Table.{tableOf}
 use Rattle.translation.specs.declared.Translation.{Translation}
 use Rattle.translation.specs.Rules.{rulesOf}
 use Rattle.translation.specs.Translate.{tableFrom, tableBytes, translated, outputAfter}
-use Rattle.translation.specs.WellFormed.{translation-back}
+use Rattle.translation_sizes.specs.MadeTable.{translation-back}
 use Rattle.simulation.specs.Compared.{Dispatched, noneYet, Alike, Lockstep, Demand3, Simulates}
 use Rattle.simulation.specs.Match.{Match}
 use Rattle.simulation.specs.Runs.{Agree, SameEnd, lockstep, same-run}

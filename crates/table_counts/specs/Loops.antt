@@ -3,7 +3,8 @@ use mathlib.Core.Path.{_≡_, sym, _∙_}
 use Prim.Native.Nat.{ℕ, _+_, _*_, _<_, _≤_}
 use native.Mathlib.Omega.{arith}
 use Rattle.numbers.specs.ListLaws.{fold-next, fold-zero}
-use Rattle.table_format.specs.Sums.{sumBelow, sum-most}
+use Rattle.translation_sizes.specs.Sums.{sumBelow}
+use Rattle.translation_sizes.specs.SumLaws.{sum-most}
 use Rattle.translation_sizes.specs.declared.Counts.{Counts}
 use Rattle.translation_sizes.specs.Counts.{nothing, _and_, countBelow}
 use Rattle.table_counts.specs.Bounds.{AtMost, itemMost, kindMost, most, Small, at-most, kind-most}

@@ -131,14 +131,3 @@ length-table t =
     let b = size-initial (t .initial) (rulesTo (t .rules)) in
     let c = size-rules (t .rules) in
     omega arith
-
--- ---- sizes of two lists
-pub clauses-size-append : (l r : List (List Atom)) → clausesSize (l ++ r) ≡ clausesSize l + clausesSize r
-unfolding clausesSize
-clauses-size-append [] r = omega arith
-clauses-size-append (c ∷ l) r = let e = clauses-size-append l r in omega arith
-
-pub rules-size-append : (l r : List Rule) → rulesSize (l ++ r) ≡ rulesSize l + rulesSize r
-unfolding rulesSize
-rules-size-append [] r = omega arith
-rules-size-append (x ∷ l) r = let e = rules-size-append l r in omega arith

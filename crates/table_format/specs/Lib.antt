@@ -11,4 +11,3 @@ pub mod RoundTrip
 pub mod BytesLaws
 pub mod Decoded
 pub mod RecordsAt
-pub mod Sums

@@ -13,7 +13,7 @@ use Rattle.model_format.specs.declared.Timing.{Timing}
 use Rattle.model_format.specs.Model.{threadAt, localAt, connectionAt, inMode, immediate, delayed}
 use Rattle.translation.specs.Shown.{bit}
 use Rattle.translation_sizes.specs.declared.Counts.{Counts}
-use Rattle.translation_sizes.specs.Counts.{counts, nothing, countBelow, sizeBy}
+use Rattle.translation_sizes.specs.Counts.{counts, nothing, countBelow, bytesBy, sizeBy}
 use Rattle.translation_sizes.specs.CountLaws.{updates-each}
 use Rattle.translation_sizes.specs.Items.{threadCounts, inputCounts, connectionCounts, switchCounts, headStarts, threadStarts, connectionStarts, localStarts}
 
@@ -45,10 +45,6 @@ module _ (m : Timing) {r : Counts} where
     none-told h l k = k ∙ rw (← e, ne-eqb (x .kind) immediate h, ne-eqb (x .kind) delayed l)
 
 -- ---- start records
-pub bit-few : (b : Bool) → bit b ≤ 1
-bit-few true = omega arith
-bit-few false = omega arith
-
 module _ (m : Timing) {i : ℕ} (h : i ≡ m .initial) where
   pub head-told : {n : ℕ} → n ≡ bit (not (eqb i 0)) → 2 + n ≡ headStarts m
   unfolding headStarts
@@ -71,22 +67,11 @@ module _ (m : Timing) (v : ℕ) {x : Local} {p : Bool} (e : x ≡ localAt m v) (
   unfolding localStarts
   local-begun k = rw (← e, ← h, k)
 
--- few each
-module _ (m : Timing) where
-  pub thread-few : (t : ℕ) → threadStarts m t ≤ 2
-  unfolding threadStarts
-  thread-few t = omega (arith, bit-few (inMode (threadAt m t .modes) (m .initial)), bit-few (not (eqb (threadAt m t .first) 0)))
-
-  pub connection-few : (c : ℕ) → connectionStarts m c ≤ 2
-  unfolding connectionStarts
-  connection-few c = omega (arith, bit-few (inMode (connectionAt m c .modes) (m .initial)))
-
-  pub local-few : (v : ℕ) → localStarts m v ≤ 2
-  unfolding localStarts
-  local-few v = omega (arith, bit-few (not (sameValue (localAt m v .start) (natural 0))))
+pub within-two : {n : ℕ} → n ≤ 1 → n ≤ 2
+within-two h = omega arith
 
 -- ---- n bytes
-pub size-told : {n : ℕ} (starts : ℕ) (x : Counts) → n ≡ 7 * starts + 11 * x .rules + x .clauses + 9 * x .atoms + 17 * x .updates →
+pub size-told : {n : ℕ} (starts : ℕ) (x : Counts) → n ≡ 7 * starts + bytesBy x →
     record { bytes = n; rules = x .rules; clauses = x .clauses; atoms = x .atoms; updates = x .updates } ≡ sizeBy starts x
 unfolding sizeBy
 size-told starts x e = rw e

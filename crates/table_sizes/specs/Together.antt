@@ -7,16 +7,18 @@ use mathlib.Core.Bool.{not}
 use Rattle.model_format.specs.declared.Timing.{Timing}
 use Rattle.model_format.specs.declared.Model.{Model}
 use Rattle.model_format.specs.WellFormed.{GoodTiming, WellFormed}
-use Rattle.table_format.specs.Sums.{sumBelow, sum-most}
+use Rattle.translation_sizes.specs.Sums.{sumBelow}
+use Rattle.translation_sizes.specs.SumLaws.{sum-most}
 use Rattle.translation.specs.Translate.{tableBytes}
 use Rattle.translation_sizes.specs.declared.TableSize.{TableSize}
 use Rattle.translation_sizes.specs.declared.Counts.{Counts}
 use Rattle.translation_sizes.specs.Sizes.{sizeOf}
 use Rattle.translation_sizes.specs.Counts.{_and_, countBelow, sizeBy}
 use Rattle.translation_sizes.specs.Items.{threadCounts, inputCounts, connectionCounts, switchCounts, transitionCounts, itemCounts, headStarts, threadStarts, connectionStarts, localStarts, itemStarts}
-use Rattle.translation_sizes.specs.Total.{size-total}
+use Rattle.translation_sizes.specs.Longest.{bit-few, thread-few, connection-few, local-few}
+use Rattle.translation_sizes.specs.MadeTable.{size-total}
+use Rattle.table_sizes.specs.Leaves.{within-two}
 use Rattle.table_counts.specs.Bounds.{AtMost, itemMost, kindMost, most, Small, at-most, and-most, threads-most, inputs-most, connections-most, switches-most, transitions-most}
-use Rattle.table_sizes.specs.Leaves.{bit-few, thread-few, connection-few, local-few}
 
 -- ---- all items, kind by kind
 module _ (m : Model) (w : WellFormed m) {t i c q k : Counts} (et : t ≡ countBelow (m .timing .threads) (threadCounts (m .timing))) (ei : i ≡ countBelow (m .timing .inputs) (inputCounts (m .timing)))
@@ -88,10 +90,10 @@ module _ (m : Timing) (g : GoodTiming m) {h t c v : ℕ} (eh : h ≡ headStarts 
   threads-few = let n = g .threads in rw et (begun-few (m .threads) (threadStarts m) (omega arith) (thread-few m))
 
   pub connections-few : c ≤ 2048
-  connections-few = let n = g .connections in rw ec (begun-few (m .connections) (connectionStarts m) (omega arith) (connection-few m))
+  connections-few = let n = g .connections in rw ec (begun-few (m .connections) (connectionStarts m) (omega arith) (λ c. within-two (connection-few m c)))
 
   pub locals-few : v ≤ 2048
-  locals-few = let n = g .locals in rw ev (begun-few (m .locals) (localStarts m) (omega arith) (local-few m))
+  locals-few = let n = g .locals in rw ev (begun-few (m .locals) (localStarts m) (omega arith) (λ v. within-two (local-few m v)))
 
   pub starts-told : h + t + c + v ≡ itemStarts m
   unfolding itemStarts

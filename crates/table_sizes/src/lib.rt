@@ -1,5 +1,4 @@
-// How long the table of a model is, and how many records it has, added up over the model's items: no table is made. The model is a lent list of
-// numbers.
+// How long the table of a model is, and how many records it has, added up over the model's items: no table is made.
 
 mod items;
 mod starts;
@@ -8,7 +7,8 @@ ghost use mathlib.Core.Path.{_≡_};
 ghost use Rattle.model_format.specs.WellFormed.{WellFormed};
 ghost use Rattle.model_words.specs.Words.{modelIn};
 ghost use Rattle.translation.specs.Translate.{tableBytes};
-ghost use Rattle.translation_sizes.specs.Sizes.{sizeOf};
+ghost use Rattle.translation_sizes.specs.Sizes.{sizeOf, noSize};
+ghost use Rattle.translation_sizes.specs.Foretold.{Foretells};
 ghost use Rattle.translation_sizes.specs.Counts.{sizeBy};
 ghost use Rattle.translation_sizes.specs.Items.{itemCounts};
 ghost use Prim.Native.Nat.{_*_, _≤_};
@@ -17,14 +17,18 @@ use items::connections_counts;
 use items::inputs_counts;
 use items::switches_counts;
 use items::threads_counts;
+use model_words::MODEL_WORDS;
 use records::CLAUSE_SIZE;
 use records::RULE_SIZE;
 use records::TABLE_ATOM_SIZE;
 use records::UPDATE_SIZE;
+use records::is_none;
+use records::no_refusal;
 use starts::item_starts;
 use table_counts::add;
 use table_counts::transitions_counts;
 use translation_sizes::Counts;
+use translation_sizes::Sized;
 use translation_sizes::TableSize;
 
 fn item_counts(model: &[u32]) -> Counts
@@ -63,7 +67,7 @@ fn size_by(starts: usize, x: Counts) -> TableSize
     }
 }
 
-// The size of the table of a model that reading accepts.
+// The size of the table of a model in a lent list of numbers, one that reading accepts.
 pub fn size_of(model: &[u32]) -> TableSize
     requires { ⌜ WellFormed (modelIn (now model)) ⌝ }
     ensures { λ r. ⌜ r ≡ sizeOf (tableBytes (modelIn (now (model .entry)))) ⌝ }
@@ -71,4 +75,38 @@ pub fn size_of(model: &[u32]) -> TableSize
     let starts = item_starts(model);
     let counts = item_counts(model);
     size_by(starts, counts)
+}
+
+fn no_size() -> TableSize
+    ensures { λ r. ⌜ r ≡ noSize ⌝ }
+{
+    TableSize {
+        bytes: 0,
+        rules: 0,
+        clauses: 0,
+        atoms: 0,
+        updates: 0,
+    }
+}
+
+// The size of the table of a model, before it is made: the refusal of reading the model, or the counts.
+pub fn foretell(model: &[u8]) -> Sized
+    ensures { λ r. ⌜ Foretells (now (model .entry)) r ⌝ }
+{
+    let mut words = [0u32; MODEL_WORDS];
+    let refusal = model_reader::read_model_into(model, &mut words);
+    let cause = refusal.cause;
+    if !is_none(cause) {
+        let none = no_size();
+        return Sized {
+            refusal: refusal,
+            size: none,
+        };
+    }
+    let size = size_of(&words);
+    let accepted = no_refusal();
+    Sized {
+        refusal: accepted,
+        size: size,
+    }
 }

@@ -13,7 +13,7 @@ ghost use mathlib.Core.Path.{_≡_};
 ghost use Prim.Native.Nat.{_≤_};
 ghost use Rattle.model_format.specs.WellFormed.{GoodTiming};
 ghost use Rattle.model_words.specs.Words.{timingIn};
-ghost use Rattle.table_format.specs.Sums.{sumBelow};
+ghost use Rattle.translation_sizes.specs.Sums.{sumBelow};
 ghost use Rattle.translation.specs.Shown.{bit};
 ghost use Rattle.translation_sizes.specs.Items as items;
 

@@ -5,5 +5,4 @@ pub mod Rules
 pub mod Translate
 pub mod GoodParts
 pub mod GoodRules
-pub mod WellFormed
-pub mod TableLength
+pub mod GoodStarts

@@ -47,11 +47,13 @@ unfoldable pub bodiesCounts : List Body → Counts
 bodiesCounts [] = nothing
 bodiesCounts (b ∷ l) = bodyCounts b and bodiesCounts l
 
--- ---- the size of a table by its start records and its other records: 7 bytes for a start, 11 for a rule, 1 for a clause, 9 for an atom, 17 for an
--- update
+-- ---- the size of a table by its start records, of 7 bytes, and its other records: 11 bytes for a rule, 1 for a clause, 9 for an atom, 17 for an update
+abbrev pub bytesBy : Counts → ℕ
+bytesBy x = 11 * x .rules + x .clauses + 9 * x .atoms + 17 * x .updates
+
 unfoldable pub sizeBy : ℕ → Counts → TableSize
 sizeBy starts x = record {
-  bytes = 7 * starts + 11 * x .rules + x .clauses + 9 * x .atoms + 17 * x .updates;
+  bytes = 7 * starts + bytesBy x;
   rules = x .rules;
   clauses = x .clauses;
   atoms = x .atoms;

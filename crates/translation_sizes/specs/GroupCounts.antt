@@ -13,7 +13,8 @@ use Rattle.model_format.specs.declared.Model.{Model}
 use Rattle.model_format.specs.Model.{inputOwner, connectionAt, switchAt, transitionAt, immediate, delayed, isKind, sourceThread, targetThread}
 use Rattle.table_format.specs.declared.Atom.{Atom}
 use Rattle.table_format.specs.declared.Update.{Update}
-use Rattle.table_format.specs.Sums.{length-join, sumBelow}
+use Rattle.translation_sizes.specs.Sums.{sumBelow}
+use Rattle.translation_sizes.specs.SumLaws.{length-join}
 use Rattle.translation.specs.Parts.{Expression, Body}
 use Rattle.translation.specs.Rules.{activateRules, deactivateRules, perInto, delayedClause, isImmediatePort, perInput, dispatchPort, dispatchRules, besideClause, comingClause, startPort, startRules, guardClauses, negatedGuard, perTransition, earlierClause, otherwiseClause, assignmentUpdates, oldOutput, sentExpression, sendUpdate, sendUpdates, transitionRule, defaultRule, completeRules, deadlineRules, missRules, requestRules, activeUpdates, flagUpdates, enterRules, leaveRules}
 use Rattle.translation_sizes.specs.declared.Counts.{Counts}

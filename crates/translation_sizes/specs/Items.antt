@@ -7,7 +7,7 @@ use Rattle.model_format.specs.declared.Timing.{Timing}
 use Rattle.model_format.specs.declared.Behavior.{Behavior}
 use Rattle.model_format.specs.declared.Model.{Model}
 use Rattle.model_format.specs.Model.{threadAt, localAt, connectionAt, transitionAt, inMode, immediate, delayed, isKind, sourceThread}
-use Rattle.table_format.specs.Sums.{sumBelow}
+use Rattle.translation_sizes.specs.Sums.{sumBelow}
 use Rattle.translation.specs.Shown.{bit}
 use Rattle.translation_sizes.specs.declared.Counts.{Counts}
 use Rattle.translation_sizes.specs.Counts.{counts, nothing, _and_, countBelow}

@@ -1,4 +1,6 @@
 pub mod Sizes
+pub mod Sums
+pub mod SumLaws
 pub mod Foretold
 pub mod Counts
 pub mod CountLaws
@@ -8,4 +10,6 @@ pub mod GroupCounts
 pub mod Ports
 pub mod Starts
 pub mod Total
+pub mod Longest
+pub mod MadeTable
 pub mod Foretelling

@@ -21,7 +21,8 @@ use Rattle.model_semantics.specs.State.{isActive, codeOf, dispatchTime, behavio
 use Rattle.model_semantics.specs.Effects.{activeIn, inBoth, liveIn}
 use Rattle.model_semantics.specs.Machine.{startState}
 use Rattle.table_format.specs.Variables.{variables, clockVars}
-use Rattle.table_format.specs.Sums.{length-join, sumBelow, sum-plus}
+use Rattle.translation_sizes.specs.Sums.{sumBelow}
+use Rattle.translation_sizes.specs.SumLaws.{length-join, sum-plus}
 use Rattle.translation.specs.Shown.{bit, inBlock, Block, clockNumber, blocksOf, shownIn, standsFor}
 use Rattle.translation.specs.ShownLaws.{in-block, out-block, Avoids, shown-none}
 use Rattle.translation.specs.Translate.{initialOf}

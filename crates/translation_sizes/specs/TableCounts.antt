@@ -18,7 +18,7 @@ use Rattle.table_format.specs.RoundTrip.{records-back, passes-fit, table-passes
 use Rattle.translation_sizes.specs.declared.TableSize.{TableSize}
 use Rattle.translation_sizes.specs.declared.Counts.{Counts}
 use Rattle.translation_sizes.specs.Sizes.{countOf, sizeOf}
-use Rattle.translation_sizes.specs.Counts.{counts, _and_, atomsIn, clausesCounts, updatesCounts, rulesCounts, sizeBy}
+use Rattle.translation_sizes.specs.Counts.{counts, _and_, atomsIn, clausesCounts, updatesCounts, rulesCounts, bytesBy, sizeBy}
 use Rattle.translation_sizes.specs.CountLaws.{same-counts, nothing-and}
 
 -- the records of each kind in a list
@@ -62,10 +62,13 @@ unfolding clausesSize atomsIn
 atoms-bytes [] = refl
 atoms-bytes (c ∷ l) = omega (arith, atoms-bytes l)
 
-rules-bytes : (l : List Rule) → rulesSize l ≡ 11 * rulesCounts l .rules + rulesCounts l .clauses + 9 * rulesCounts l .atoms + 17 * rulesCounts l .updates
+rules-bytes : (l : List Rule) → rulesSize l ≡ bytesBy (rulesCounts l)
 unfolding rulesSize rulesCounts
 rules-bytes [] = refl
 rules-bytes (x ∷ l) = omega (arith, rules-bytes l, atoms-bytes (x .clauses))
+
+pub table-bytes : (t : Table) → length (encode t) ≡ 7 * length (t .initial) + bytesBy (rulesCounts (t .rules))
+table-bytes t = omega (arith, length-table t, rules-bytes (t .rules))
 
 -- ---- together
 abbrev size : ℕ → Counts → TableSize
@@ -78,6 +81,4 @@ pub table-size : (t : Table) → WellFormedTable t → sizeOf (encode t) ≡ siz
 unfolding sizeOf sizeBy
 table-size t w =
     let l = initialTo (t .initial) (rulesTo (t .rules)) in
-    let bytes = length-table t in
-    let rules = rules-bytes (t .rules) in
-    same-size (omega arith) (ap listed (records-back l (passes-fit l begin (table-passes t w))) ∙ (listed-initial (t .initial) (rulesTo (t .rules)) ∙ listed-rules (t .rules)))
+    same-size (table-bytes t) (ap listed (records-back l (passes-fit l begin (table-passes t w))) ∙ (listed-initial (t .initial) (rulesTo (t .rules)) ∙ listed-rules (t .rules)))

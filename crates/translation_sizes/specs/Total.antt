@@ -15,17 +15,12 @@ use Rattle.table_format.specs.RuleKinds.{isOneOf}
 use Rattle.table_format.specs.Table.{Rule}
 use Rattle.translation.specs.Parts.{stamped, Group, rulesOfGroups}
 use Rattle.translation.specs.Rules.{isImmediatePort, activateRules, deactivateRules, dispatchRules, startRules, completeRules, deadlineRules, missRules, requestRules, enterRules, leaveRules, itemsOf, timingRules, rulesFor, groupsFor, groupsOf, rulesOf}
-use Rattle.translation.specs.Translate.{tableFrom, tableBytes}
-use Rattle.translation.specs.WellFormed.{table-well-formed}
 use Rattle.translation_sizes.specs.declared.Counts.{Counts}
-use Rattle.translation_sizes.specs.Sizes.{sizeOf}
-use Rattle.translation_sizes.specs.Counts.{counts, nothing, _and_, countBelow, rulesCounts, bodiesCounts, sizeBy}
+use Rattle.translation_sizes.specs.Counts.{counts, nothing, _and_, countBelow, rulesCounts, bodiesCounts}
 use Rattle.translation_sizes.specs.CountLaws.{same-counts, same-sums, and-assoc, nothing-and, count-plus, count-same, count-rows, both-tests, count-join, stamped-counts}
-use Rattle.translation_sizes.specs.TableCounts.{table-size}
-use Rattle.translation_sizes.specs.Items.{activateOwn, deactivateOwn, dispatchOwn, startOwn, defaultOwn, deadlineOwn, missOwn, threadCounts, connectionCounts, delayedCounts, immediateCounts, inputCounts, earlierCounts, sentAt, sentCounts, transitionOwn, otherwiseOwn, transitionCounts, requestOwn, enterOwn, leaveOwn, switchCounts, itemStarts, itemCounts}
+use Rattle.translation_sizes.specs.Items.{activateOwn, deactivateOwn, dispatchOwn, startOwn, defaultOwn, deadlineOwn, missOwn, threadCounts, connectionCounts, delayedCounts, immediateCounts, inputCounts, earlierCounts, sentAt, sentCounts, transitionOwn, otherwiseOwn, transitionCounts, requestOwn, enterOwn, leaveOwn, switchCounts, itemCounts}
 use Rattle.translation_sizes.specs.GroupCounts.{activate-counts, deactivate-counts, miss-counts, intoCounts, portCounts, sendCounts, dispatch-counts, start-counts, deadline-counts, request-counts, enter-counts, leave-counts, otherwiseCounts, ruleCounts, complete-counts}
 use Rattle.translation_sizes.specs.Ports.{ports-counted}
-use Rattle.translation_sizes.specs.Starts.{starts-total}
 
 -- ---- groups of rules
 rules-append : (l r : List Rule) → rulesCounts (l ++ r) ≡ rulesCounts l and rulesCounts r
@@ -210,8 +205,3 @@ module _ (m : Model) (w : WellFormed m) where
       )
       (reordered _ _ _ _ _ _ _ _ _ _ _ _ _ _ _ _ _ _ _ ∙
       same-sums (threads-total x g) (same-sums refl (same-sums (connection-parts x g) (same-sums (switches-total x g) transitions-total))))
-
-  -- ---- the table
-  pub size-total : sizeOf (tableBytes m) ≡ sizeBy (itemStarts (m .timing)) (itemCounts m)
-  unfolding tableFrom
-  size-total = table-size (tableFrom m) (table-well-formed m w) ∙ rw (starts-total m (w .timing), rules-total)

@@ -5,9 +5,7 @@ use mathlib.Core.List.{List, []}
 use Prim.Native.Nat.{ℕ, _+_, _≤_, _<_}
 use native.Mathlib.Omega.{arith}
 use borrow.Author.Tests.{lt-ltb, le-ltb, ltb-false}
-use lib.ListN.{getD, length, take}
-use mir.Syntax.{w8}
-use mir.Val.{Fits}
+use lib.ListN.{length, take}
 use lib.Seq.{sets-eq}
 use lib.Dec.{ltb}
 use Rattle.records.specs.declared.Cause.the-variants.{ShortOutput}
@@ -15,8 +13,7 @@ use Rattle.records.specs.Refusals.{numberOf, isNone, inModel, noRefusal}
 use Rattle.model_format.specs.declared.Model.{Model}
 use Rattle.model_format.specs.declared.ModelRead.{ModelRead}
 use Rattle.model_format.specs.Reading.{readModel}
-use Rattle.model_format.specs.WellFormed.{Bytes, WellFormed}
-use Rattle.model_format.specs.Accepted.{accepted-well-formed}
+use Rattle.model_format.specs.WellFormed.{Bytes}
 use Rattle.table_format.specs.Table.{rulesTo, initialTo}
 use Rattle.table_format.specs.BytesLaws.{initial-append}
 use Rattle.table_writer.specs.Written.{records-then}
@@ -26,7 +23,6 @@ use Rattle.table_writer.specs.WroteRules.{WroteRules, WroteInitial}
 use Rattle.translation.specs.declared.Translation.{Translation}
 use Rattle.translation.specs.Rules.{rulesOf}
 use Rattle.translation.specs.Translate.{initialOf, tableFrom, tableBytes, translated, outputAfter}
-use Rattle.translation.specs.TableLength.{longestMadeTable, table-most, table-short}
 use Rattle.simulation.specs.Simulation.{written-is, simulates}
 use Rattle.enabled_alike.specs.SameOffers.{offers}
 use Rattle.translator.specs.Translates.{Translates}
@@ -35,16 +31,6 @@ use Rattle.translator.specs.Translates.{Translates}
 pub table-wrote : {d e g : List ℕ} {at p q : ℕ} (m : Model) → Counted (length d) → WroteInitial d at (initialOf m) e p → WroteRules e p (rulesOf m) g q → Wrote d at (tableBytes m) g q
 unfolding tableFrom
 table-wrote m h w x = rw (initial-append (initialOf m) [] (rulesTo (rulesOf m))) (records-then (initialTo (initialOf m) []) (rulesTo (rulesOf m)) (omega arith) w x)
-
-pub length-told : {d e : List ℕ} {r : ℕ} (m : Model) → WellFormed m → Wrote d 0 (tableBytes m) e r → r ≡ length (tableBytes m)
-length-told m w x =
-    let e = x .place in
-    let s = table-short m w in
-    omega arith
-
--- a slice of bytes is a list of bytes
-pub bytes-known : (s : List ℕ) → ((i : ℕ) → Fits w8 (getD s i 0)) → Bytes s
-bytes-known s f i = f i .fits
 
 -- ---- r is what reading the model gave, b whether it was accepted
 module _ (model out : List ℕ) (r : ModelRead) (b : Bool) (e : r ≡ readModel model) (g : b ≡ isNone (r .refusal .cause)) where
@@ -70,9 +56,6 @@ module _ (model out : List ℕ) (r : ModelRead) (b : Bool) (e : r ≡ readModel 
 
 -- and where the model was accepted
 module _ (model out : List ℕ) (r : ModelRead) (b : Bool) (e : r ≡ readModel model) (g : b ≡ isNone (r .refusal .cause)) (bytes : Bytes model) where
-  pub model-good : b ≡ true → WellFormed (r .model)
-  model-good f = rw e (accepted-well-formed model bytes (rw (← e) (sym g ∙ f)))
-
   pub table-made : b ≡ true → (n : ℕ) → n ≡ length (tableBytes (r .model)) → n ≤ length out → (after : List ℕ) (q : ℕ) →
       Wrote out 0 (tableBytes (r .model)) after q → Translates model out (record { refusal = noRefusal; bytes = n }) after
   unfolding translated outputAfter numberOf
@@ -86,14 +69,6 @@ module _ (model out : List ℕ) (r : ModelRead) (b : Bool) (e : r ≡ readModel 
         simulated = λ s made. simulates model out (record { refusal = noRefusal; bytes = n }) after told output made bytes s;
         offered = λ s made. offers model out (record { refusal = noRefusal; bytes = n }) after told output made bytes s;
       }
-
-  -- an output with room for any table
-  pub table-made-at-once : b ≡ true → longestMadeTable ≤ length out → (after : List ℕ) (n : ℕ) → Wrote out 0 (tableBytes (r .model)) after n →
-      Translates model out (record { refusal = noRefusal; bytes = n }) after
-  table-made-at-once f l after n w =
-      let good = model-good f in
-      let k = length-told (r .model) good w in
-      table-made f n k (omega (arith, table-most (r .model) good)) after n w
 
 -- ---- what a caller has of it: the bytes that are told lie in the output, and are the table
 fits : (model : List ℕ) (n : ℕ) → isNone (translated model n .refusal .cause) ≡ true → translated model n .bytes ≤ n

@@ -31,9 +31,6 @@ use records::Refusal;
 use records::START;
 use translation::Translation;
 
-// No table is longer.
-const LONGEST_MADE_TABLE: usize = 394304;
-
 // The kinds of events that have rules, in the table's order.
 const KINDS: usize = 10;
 
@@ -143,15 +140,6 @@ fn put_table(output: &mut [u8], words: &[u32]) -> usize
     put_rules(output, at, words)
 }
 
-// The table's length: the same walk over one byte of its own, past which it counts and does not write.
-fn table_length(words: &[u32]) -> usize
-    requires { ⌜ WellFormed (modelIn (now words)) ⌝ }
-    ensures { λ r. ⌜ r ≡ length (tableBytes (modelIn (now (words .entry)))) ⌝ }
-{
-    let mut none = [0u8; 1];
-    put_table(&mut none, words)
-}
-
 // A model read into a list that has room for it.
 fn read_into(model: &[u8], words: &mut [u32]) -> Refusal
     requires { ⌜ modelWords ≤ length (now words) ⌝ }
@@ -160,8 +148,8 @@ fn read_into(model: &[u8], words: &mut [u32]) -> Refusal
     model_reader::read_model_into(model, words)
 }
 
-// The table of an accepted model, at the beginning of the output, where it fits; else the output is as it was. With room for any table
-// there is nothing to count first.
+// The table of an accepted model, at the beginning of the output, where it fits; else the output is as it was. How long it is, is known before
+// any of it is written.
 pub fn translate(model: &[u8], output: &mut [u8]) -> Translation
     ensures { λ r. ⌜ Translates (now (model .entry)) (now (output .entry)) r (now (output .exit)) ⌝ }
 {
@@ -174,15 +162,8 @@ pub fn translate(model: &[u8], output: &mut [u8]) -> Translation
             bytes: 0,
         };
     }
-    if LONGEST_MADE_TABLE <= output.len() {
-        let made = put_table(output, &words);
-        let accepted = records::no_refusal();
-        return Translation {
-            refusal: accepted,
-            bytes: made,
-        };
-    }
-    let length = table_length(&words);
+    let size = table_sizes::size_of(&words);
+    let length = size.bytes;
     if output.len() < length {
         let end = model.len();
         let told = records::in_model(Cause::ShortOutput, end, end);

@@ -1,7 +1,7 @@
 use Rattle.listing_writer.specs.PrintLaws.{hands-back}
 use Rattle.listing_rules.specs.Rules.{made-accepted}
 use Rattle.listing.specs.Parts.{rules-part}
-use Rattle.translator.specs.Tables.{bytes-known}
+use Rattle.model_reader.specs.Accepted.{bytes-known}
 use borrow.Author.Needs.{needs}
 use Rattle.listing_rules.proofs.rules_part.Statement.{statement}
 use Rattle.listing_rules.proofs.rules_part.Tie as tie

@@ -1,5 +1,7 @@
 use borrow.Author.Tests.{not-true, not-false}
-use Rattle.translator.specs.Tables.{bytes-known, model-refused, model-good, output-short, table-made, table-made-at-once}
+use Rattle.model_reader.specs.Accepted.{bytes-known, read-good}
+use Rattle.translation_sizes.specs.Foretelling.{size-bytes}
+use Rattle.translator.specs.Tables.{model-refused, output-short, table-made}
 use borrow.Author.Needs.{needs}
 use Rattle.translator.proofs.translate.Statement.{statement}
 use Rattle.translator.proofs.translate.Tie as tie
@@ -16,11 +18,23 @@ is-none-requires c κs = search needs
 returns : tie.Need-returns
 returns c = model-refused (c .before .before .before .before .before .before .before .args .model .now) (c .before .before .before .before .before .before .before .args .output .now) _ _ (c .before .before .before .read-into .ensures) (c .before .is-none .ensures) (not-true _ (c .if1 .taken))
 
+slice-aggregate-size-of : tie.Need-slice-aggregate-size-of
+slice-aggregate-size-of c = search needs
+
+size-of-requires : tie.Need-size-of-requires
+size-of-requires c κs = read-good (c .before .before .before .before .before .before .before .before .args .model .now) _ _ (c .before .before .before .before .read-into .ensures) (c .before .before .is-none .ensures) (bytes-known (c .before .before .before .before .before .before .before .before .args .model .now) (c .before .before .before .before .before .before .before .shared-slice-known .given)) (not-false _ (c .before .if1 .left))
+
+in-model-requires : tie.Need-in-model-requires
+in-model-requires c κs = search needs
+
+returns-2 : tie.Need-returns-2
+returns-2 c = rw (c .in-model .ensures) (output-short (c .before .before .before .before .before .before .before .before .before .before .before .args .model .now) (c .before .before .before .before .before .before .before .before .before .before .before .args .output .now) _ _ (c .before .before .before .before .before .before .before .read-into .ensures) (c .before .before .before .before .before .is-none .ensures) (not-false _ (c .before .before .before .before .if1 .left)) _ (size-bytes _ (c .before .before .size-of .ensures)) (c .before .if2 .taken))
+
 slice-aggregate-put-table : tie.Need-slice-aggregate-put-table
 slice-aggregate-put-table c = search needs
 
 put-table-requires : tie.Need-put-table-requires
-put-table-requires c κs = model-good (c .before .before .before .before .before .before .before .before .before .before .args .model .now) (c .before .before .before .before .before .before .before .before .before .before .args .output .now) _ _ (c .before .before .before .before .before .before .read-into .ensures) (c .before .before .before .before .is-none .ensures) (bytes-known (c .before .before .before .before .before .before .before .before .before .before .args .model .now) (c .before .before .before .before .before .before .before .before .before .shared-slice-known .given)) (not-false _ (c .before .before .before .if1 .left))
+put-table-requires c κs = read-good (c .before .before .before .before .before .before .before .before .before .before .before .before .args .model .now) _ _ (c .before .before .before .before .before .before .before .before .read-into .ensures) (c .before .before .before .before .before .before .is-none .ensures) (bytes-known (c .before .before .before .before .before .before .before .before .before .before .before .before .args .model .now) (c .before .before .before .before .before .before .before .before .before .before .before .shared-slice-known .given)) (not-false _ (c .before .before .before .before .before .if1 .left))
 
 no-refusal-requires : tie.Need-no-refusal-requires
 no-refusal-requires c κs = search needs
@@ -28,35 +42,8 @@ no-refusal-requires c κs = search needs
 same-length : tie.Need-same-length
 same-length c = search needs
 
-returns-2 : tie.Need-returns-2
-returns-2 c = rw (c .no-refusal .ensures) (table-made-at-once (c .before .before .before .before .before .before .before .before .before .before .before .before .before .before .args .model .now) (c .before .before .before .before .before .before .before .before .before .before .before .before .before .before .args .output .now) _ _ (c .before .before .before .before .before .before .before .before .before .before .read-into .ensures) (c .before .before .before .before .before .before .before .before .is-none .ensures) (bytes-known (c .before .before .before .before .before .before .before .before .before .before .before .before .before .before .args .model .now) (c .before .before .before .before .before .before .before .before .before .before .before .before .before .shared-slice-known .given)) (not-false _ (c .before .before .before .before .before .before .before .if1 .left)) (c .before .before .before .before .before .before .if2 .taken) _ _ (c .before .before .before .put-table .ensures))
-
-slice-aggregate-table-length : tie.Need-slice-aggregate-table-length
-slice-aggregate-table-length c = search needs
-
-table-length-requires : tie.Need-table-length-requires
-table-length-requires c κs = model-good (c .before .before .before .before .before .before .before .before .before .args .model .now) (c .before .before .before .before .before .before .before .before .before .args .output .now) _ _ (c .before .before .before .before .before .read-into .ensures) (c .before .before .before .is-none .ensures) (bytes-known (c .before .before .before .before .before .before .before .before .before .args .model .now) (c .before .before .before .before .before .before .before .before .shared-slice-known .given)) (not-false _ (c .before .before .if1 .left))
-
-in-model-requires : tie.Need-in-model-requires
-in-model-requires c κs = search needs
-
 returns-3 : tie.Need-returns-3
-returns-3 c = rw (c .in-model .ensures) (output-short (c .before .before .before .before .before .before .before .before .before .before .before .before .args .model .now) (c .before .before .before .before .before .before .before .before .before .before .before .before .args .output .now) _ _ (c .before .before .before .before .before .before .before .before .read-into .ensures) (c .before .before .before .before .before .before .is-none .ensures) (not-false _ (c .before .before .before .before .before .if1 .left)) _ (c .before .before .table-length .ensures) (c .before .if3 .taken))
-
-slice-aggregate-put-table-2 : tie.Need-slice-aggregate-put-table-2
-slice-aggregate-put-table-2 c = search needs
-
-put-table-requires-2 : tie.Need-put-table-requires-2
-put-table-requires-2 c κs = model-good (c .before .before .before .before .before .before .before .before .before .before .before .before .before .args .model .now) (c .before .before .before .before .before .before .before .before .before .before .before .before .before .args .output .now) _ _ (c .before .before .before .before .before .before .before .before .before .read-into .ensures) (c .before .before .before .before .before .before .before .is-none .ensures) (bytes-known (c .before .before .before .before .before .before .before .before .before .before .before .before .before .args .model .now) (c .before .before .before .before .before .before .before .before .before .before .before .before .shared-slice-known .given)) (not-false _ (c .before .before .before .before .before .before .if1 .left))
-
-no-refusal-requires-2 : tie.Need-no-refusal-requires-2
-no-refusal-requires-2 c κs = search needs
-
-same-length-2 : tie.Need-same-length-2
-same-length-2 c = search needs
-
-returns-4 : tie.Need-returns-4
-returns-4 c = rw (c .no-refusal2 .ensures) (table-made (c .before .before .before .before .before .before .before .before .before .before .before .before .before .before .before .before .before .args .model .now) (c .before .before .before .before .before .before .before .before .before .before .before .before .before .before .before .before .before .args .output .now) _ _ (c .before .before .before .before .before .before .before .before .before .before .before .before .before .read-into .ensures) (c .before .before .before .before .before .before .before .before .before .before .before .is-none .ensures) (bytes-known (c .before .before .before .before .before .before .before .before .before .before .before .before .before .before .before .before .before .args .model .now) (c .before .before .before .before .before .before .before .before .before .before .before .before .before .before .before .before .shared-slice-known .given)) (not-false _ (c .before .before .before .before .before .before .before .before .before .before .if1 .left)) _ (c .before .before .before .before .before .before .before .table-length .ensures) (c .before .before .before .before .before .before .if3 .left) _ _ (c .before .before .before .put-table2 .ensures))
+returns-3 c = rw (c .no-refusal .ensures) (table-made (c .before .before .before .before .before .before .before .before .before .before .before .before .before .before .before .before .args .model .now) (c .before .before .before .before .before .before .before .before .before .before .before .before .before .before .before .before .args .output .now) _ _ (c .before .before .before .before .before .before .before .before .before .before .before .before .read-into .ensures) (c .before .before .before .before .before .before .before .before .before .before .is-none .ensures) (bytes-known (c .before .before .before .before .before .before .before .before .before .before .before .before .before .before .before .before .args .model .now) (c .before .before .before .before .before .before .before .before .before .before .before .before .before .before .before .shared-slice-known .given)) (not-false _ (c .before .before .before .before .before .before .before .before .before .if1 .left)) _ (size-bytes _ (c .before .before .before .before .before .before .before .size-of .ensures)) (c .before .before .before .before .before .before .if2 .left) _ _ (c .before .before .before .put-table .ensures))
 
 pub translate-spec : {M : Type 1} → statement M
 translate-spec =
@@ -66,17 +53,12 @@ translate-spec =
     read-into-requires
     is-none-requires
     returns
+    slice-aggregate-size-of
+    size-of-requires
+    in-model-requires
+    returns-2
     slice-aggregate-put-table
     put-table-requires
     no-refusal-requires
     same-length
-    returns-2
-    slice-aggregate-table-length
-    table-length-requires
-    in-model-requires
-    returns-3
-    slice-aggregate-put-table-2
-    put-table-requires-2
-    no-refusal-requires-2
-    same-length-2
-    returns-4)
+    returns-3)

@@ -2,7 +2,8 @@ use Prim.Native.Nat.{_-_}
 use native.Mathlib.Omega.{arith}
 use Rattle.model_words.specs.Words.{timingIn}
 use Rattle.translation_sizes.specs.Items.{connectionStarts}
-use Rattle.table_sizes.specs.Leaves.{connection-few}
+use Rattle.translation_sizes.specs.Longest.{connection-few}
+use Rattle.table_sizes.specs.Leaves.{within-two}
 use Rattle.table_counts.specs.Loops.{Summing, summing-begins, summing-adds, summing-next, summing-ends}
 use borrow.Author.Needs.{needs}
 use Rattle.table_sizes.proofs.starts.connections_starts.Statement.{statement}
@@ -27,7 +28,7 @@ add-sum : tie.Need-add-sum Inv-loop μ-loop
 add-sum c =
     let few = c .before .before .before .before .before .pre .connections in
     let e = c .before .before .before .connections .ensures in
-    let l = summing-adds _ _ (c .before .before .loop .inv) (c .before .loop-test .taken) (omega arith) (connection-few _) (c .connection-starts .ensures) in
+    let l = summing-adds _ _ (c .before .before .loop .inv) (c .before .loop-test .taken) (omega arith) (λ k. within-two (connection-few _ k)) (c .connection-starts .ensures) in
     search needs
 
 add-c : tie.Need-add-c Inv-loop μ-loop

@@ -2,7 +2,8 @@ use Prim.Native.Nat.{_-_}
 use native.Mathlib.Omega.{arith}
 use Rattle.model_words.specs.Words.{timingIn}
 use Rattle.translation_sizes.specs.Items.{localStarts}
-use Rattle.table_sizes.specs.Leaves.{local-few}
+use Rattle.translation_sizes.specs.Longest.{local-few}
+use Rattle.table_sizes.specs.Leaves.{within-two}
 use Rattle.table_counts.specs.Loops.{Summing, summing-begins, summing-adds, summing-next, summing-ends}
 use borrow.Author.Needs.{needs}
 use Rattle.table_sizes.proofs.starts.locals_starts.Statement.{statement}
@@ -27,7 +28,7 @@ add-sum : tie.Need-add-sum Inv-loop μ-loop
 add-sum c =
     let few = c .before .before .before .before .before .pre .locals in
     let e = c .before .before .before .locals .ensures in
-    let l = summing-adds _ _ (c .before .before .loop .inv) (c .before .loop-test .taken) (omega arith) (local-few _) (c .local-starts .ensures) in
+    let l = summing-adds _ _ (c .before .before .loop .inv) (c .before .loop-test .taken) (omega arith) (λ v. within-two (local-few _ v)) (c .local-starts .ensures) in
     search needs
 
 add-v : tie.Need-add-v Inv-loop μ-loop

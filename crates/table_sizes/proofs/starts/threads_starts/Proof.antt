@@ -2,7 +2,7 @@ use Prim.Native.Nat.{_-_}
 use native.Mathlib.Omega.{arith}
 use Rattle.model_words.specs.Words.{timingIn}
 use Rattle.translation_sizes.specs.Items.{threadStarts}
-use Rattle.table_sizes.specs.Leaves.{thread-few}
+use Rattle.translation_sizes.specs.Longest.{thread-few}
 use Rattle.table_counts.specs.Loops.{Summing, summing-begins, summing-adds, summing-next, summing-ends}
 use borrow.Author.Needs.{needs}
 use Rattle.table_sizes.proofs.starts.threads_starts.Statement.{statement}

@@ -1,4 +1,4 @@
--- The table of a well-formed model is well formed: a reader accepts it, and its bytes stand for it.
+-- The start records of a well-formed model's table: numbers that rise, values of 32 bits.
 use mathlib.Core.Path.{_≡_, refl}
 use mathlib.Core.Bool.{Bool, not}
 use mathlib.Core.List.{List, [], _∷_}
@@ -12,7 +12,6 @@ use Rattle.numbers.specs.declared.Duration.{Duration}
 use Rattle.numbers.specs.declared.Value.{Value}
 use Rattle.numbers.specs.Lists.{store}
 use Rattle.numbers.specs.Values.{duration, natural, sameValue}
-use Rattle.records.specs.Refusals.{noRefusal}
 use Rattle.model_format.specs.declared.Timing.{Timing}
 use Rattle.model_format.specs.declared.Model.{Model}
 use Rattle.model_format.specs.Model.{maxThreads, maxInputs, maxOutputs, maxLocals, threadAt, localAt}
@@ -21,15 +20,11 @@ use Rattle.model_semantics.specs.State.{none, isActive, codeOf, dispatchTime, b
 use Rattle.model_semantics.specs.declared.State.{State}
 use Rattle.model_semantics.specs.Machine.{startState}
 use Rattle.table_format.specs.Variables.{variables, nowVar, modeVar, phaseVar, pendingVar, enteredVar}
-use Rattle.table_format.specs.Table.{tableOf}
-use Rattle.table_format.specs.Reading.{readTable}
 use Rattle.table_format.specs.All.{All, _also_, one-cond, fold-keeps, all-replicate, all-store, all-item, blank-item}
-use Rattle.table_format.specs.WellFormed.{Rising, WellFormedTable, rising-picked}
-use Rattle.table_format.specs.RoundTrip.{round-trip}
+use Rattle.table_format.specs.WellFormed.{Rising, rising-picked}
 use Rattle.translation.specs.Shown.{bit, inBlock, Block, clockNumber, blocksOf, shownIn, standsFor}
-use Rattle.translation.specs.Translate.{initialOf, tableFrom, tableBytes}
-use Rattle.translation.specs.GoodRules.{bit-small, rules-good}
-use Rattle.translation.specs.TableLength.{table-short}
+use Rattle.translation.specs.Translate.{initialOf}
+use Rattle.translation.specs.GoodRules.{bit-small}
 
 -- ---- the values that variables begin with go into 32 bits
 abbrev FitsValue : Value → Type 0
@@ -111,17 +106,10 @@ module _ (m : Timing) (g : GoodTiming m) where
       (λ t. small-fits _ (behavior-small t)) also (λ t. small-fits _ (missed-small t)) also (λ c. bit-fits (isLive (startState m) c)) also
       input-fits also buffer-fits also output-fits also local-fits also tt)
 
--- ---- the table
+-- ---- the start records
 module _ (m : Model) (w : WellFormed m) where
   pub initial-rising : Rising 1 (initialOf m)
   unfolding initialOf standsFor shownIn blocksOf startState
   initial-rising =
       let value = standsFor (m .timing) (startState (m .timing)) in
       rising-picked (λ j. not (sameValue (value j) (natural 0))) value refl (start-fits (m .timing) (w .timing)) variables (omega arith)
-
-  pub table-well-formed : WellFormedTable (tableFrom m)
-  unfolding tableFrom
-  table-well-formed = record { initial = initial-rising; rules = rules-good m w; short = table-short m w }
-
-  pub translation-back : (readTable (tableBytes m) ≡ noRefusal) × (tableOf (tableBytes m) ≡ tableFrom m)
-  translation-back = round-trip (tableFrom m) table-well-formed
