@@ -74,6 +74,7 @@ static void no_slices(void)
     MUST(fk_read_model(NULL, 0, NULL, 0) == 2);
     MUST(fk_read_table(NULL, 0, NULL, 0) == 0);
     MUST(fk_translate(NULL, 0, NULL, 0, NULL, 0) == 2);
+    MUST(fk_table_size(NULL, 0, NULL, 0) == 2);
     MUST(fk_model_listing(NULL, 0, NULL, 0, NULL, 0) == strlen("end 0 2 0\n"));
     MUST(fk_table_listing(NULL, 0, NULL, 0, NULL, 0) == strlen("end 0 0 0\n"));
     MUST(fk_run_model(NULL, 0, NULL, 0, NULL, 0) == 2);
@@ -140,6 +141,73 @@ static void room_for_a_table(void)
     MUST(told[0] == last_record(table, tables) && told[1] == tables - 1);
     MUST(fk_translate(model, models - 1, output, 0, told, 3) == 1);
     MUST(told[0] == last_record(model, models) && told[1] == models - 1 && told[2] == 0);
+}
+
+/* What is told of a size: start, end, bytes, rules, clauses, atoms, updates. */
+enum { SIZES = 7 };
+
+/* A size told to any number of places: those behind what is told are untouched. */
+static void tells_a_size(const uint8_t *bytes, size_t count, uint32_t number, const size_t wanted[SIZES])
+{
+    for (size_t places = 0; places <= SIZES + 1; places++) {
+        size_t told[SIZES + 1];
+        memset(told, MARK, sizeof told);
+        MUST(fk_table_size(bytes, count, told, places) == number);
+        size_t written = (places < SIZES ? places : SIZES) * sizeof *told;
+        MUST(memcmp(told, wanted, written) == 0);
+        MUST(marked((uint8_t *)told, written, sizeof told));
+    }
+}
+
+/* The bytes and records of the table, told before it is made, and that they are just the room for it. */
+static void size_of_the_table(void)
+{
+    enum { RULE = 0x21, CLAUSE, ATOM, UPDATE, KINDS };
+    size_t records[KINDS] = {0};
+    for (size_t at = 0; at < tables; at += record_length(table[at]))
+        records[table[at]]++;
+    const size_t wanted[SIZES] = {0, 0, tables, records[RULE], records[CLAUSE], records[ATOM], records[UPDATE]};
+    MUST(wanted[3] > 10 && wanted[4] > wanted[3] && wanted[5] > wanted[4] && wanted[6] > wanted[3]);
+    tells_a_size(model, models, 0, wanted);
+
+    size_t told[3], made[3];
+    MUST(fk_table_size(model, models, told, 3) == 0);
+    memset(output, MARK, sizeof output);
+    MUST(fk_translate(model, models, output, told[2] - 1, made, 3) == 8 && made[2] == 0);
+    MUST(marked(output, 0, sizeof output));
+    MUST(fk_translate(model, models, output, told[2], made, 3) == 0 && made[2] == told[2]);
+    MUST(memcmp(output, table, told[2]) == 0 && marked(output, told[2], sizeof output));
+}
+
+/* A thread of period 999,936 and so much, and a mode transition, in a model of one mode. */
+#define HEAD 0x01, 1, 0
+#define THREAD(more, critical) 0x02, more, 0x42, 0x0f, 0, 1, 0, 0, 0, 1, 0, 0, 0, 1, 0, 0, 0, 1, critical, 0
+#define AGAIN 0x07, 0, 0
+#define FOUR_TIMES AGAIN, AGAIN, AGAIN, AGAIN
+
+/* A model for each refusal, whose last record is refused: no size is told, and translation refuses it alike. */
+static void sizes_of_refused_models(void)
+{
+    static const struct {
+        size_t count, start;
+        uint8_t bytes[64];
+    } refused[] = {
+        [1] = {5, 3, {HEAD, 0x02, 5}},
+        [2] = {6, 3, {HEAD, HEAD}},
+        [3] = {54, 51, {HEAD, FOUR_TIMES, FOUR_TIMES, FOUR_TIMES, FOUR_TIMES, AGAIN}},
+        [4] = {3, 0, {0x01, 9, 0}},
+        [5] = {62, 53, {HEAD, THREAD(0, 0), THREAD(0, 0), 0x05, 0, 0, 0, 0, 0, 0x08, 1, 0, 0, 0x09, 0, 2, 0, 0, 0, 0, 0, 0}},
+        [6] = {37, 32, {HEAD, THREAD(0, 0), 0x03, 0, 0x04, 0, 0x06, 1, 0, 0, 1, 0x06, 1, 0, 0, 1}},
+        [7] = {46, 43, {HEAD, THREAD(63, 1), THREAD(64, 1), AGAIN}},
+    };
+    for (uint32_t number = 1; number <= 7; number++) {
+        const uint8_t *bytes = refused[number].bytes;
+        size_t count = refused[number].count, told[3];
+        const size_t wanted[SIZES] = {refused[number].start, count};
+        tells_a_size(bytes, count, number, wanted);
+        MUST(fk_translate(bytes, count, output, sizeof output, told, 3) == number);
+        MUST(memcmp(told, wanted, sizeof told) == 0);
+    }
 }
 
 static void room_for_a_listing(void)
@@ -373,6 +441,8 @@ int main(int count, char **names)
     told_places();
     told_of_refusals();
     room_for_a_table();
+    size_of_the_table();
+    sizes_of_refused_models();
     room_for_a_listing();
     lent_variables();
     for (size_t room = 0; room < 12; room++)

@@ -35,8 +35,8 @@ extern "C" {
  * 224+o output port; 256+v local. */
 #define FK_VARIABLES 288
 
-/* No table made from a model is longer. */
-#define FK_LONGEST_MADE_TABLE 394304
+/* No table made from a model is longer; some are as long. */
+#define FK_LONGEST_MADE_TABLE 171189
 
 /* Reads a model. Result: 0, or the first refusal (1 to 7). Told: start, end. */
 uint32_t fk_read_model(const uint8_t *model, size_t model_count, size_t *told, size_t told_count);
@@ -48,6 +48,12 @@ uint32_t fk_read_table(const uint8_t *table, size_t table_count, size_t *told, s
  * end). Told: start, end, bytes of the table, 0 where it is refused. The output holds the table at its start and is untouched behind it;
  * refused, it is untouched. The table reads without refusal and takes the same events as the model, whatever the list: that is proved. */
 uint32_t fk_translate(const uint8_t *model, size_t model_count, uint8_t *output, size_t output_count, size_t *told, size_t told_count);
+
+/* How long the table of a model is, without making it. Result: 0, or the model's first refusal (1 to 7). Told: start, end, bytes of the
+ * table, and its rules, clauses, atoms and updates (start records are in the bytes alone); all five 0 where the model is refused.
+ * fk_translate refuses the same models at the same part, and others with 8 just where its output has fewer bytes than are told here; the
+ * table that it else writes has that many bytes, and of each kind that many records: that is proved. */
+uint32_t fk_table_size(const uint8_t *model, size_t model_count, size_t *told, size_t told_count);
 
 /* The listing of a run: a line for each event taken and a last line; for a refused model or table the last line alone. Result: the bytes
  * of the whole listing. As many of them as the output has room for are written at its start; what lies behind is untouched. */

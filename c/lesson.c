@@ -5,7 +5,7 @@
 #include <stdio.h>
 #include <stdlib.h>
 
-static uint8_t model[65536], script[65536], table[FK_LONGEST_MADE_TABLE];
+static uint8_t model[65536], script[65536], *table;
 static size_t list[65536];
 static uint32_t words[FK_MODEL_WORDS];
 
@@ -21,16 +21,24 @@ static size_t read_file(const char *name, uint8_t *bytes, size_t room)
     return count;
 }
 
+/* Reserves just the room that the table takes: what is told beforehand is what is then written. */
 static size_t make_table(size_t model_count)
 {
     size_t told[3];
-    uint32_t number = fk_translate(model, model_count, table, sizeof table, told, 3);
+    uint32_t number = fk_table_size(model, model_count, told, 3);
     if (number != 0) {
         printf("model refused: %u, bytes %zu to %zu\n", number, told[0], told[1]);
         exit(1);
     }
-    printf("table of %zu bytes\n", told[2]);
-    return told[2];
+    size_t table_count = told[2];
+    table = malloc(table_count);
+    if (table == NULL) {
+        perror("table");
+        exit(1);
+    }
+    fk_translate(model, model_count, table, table_count, NULL, 0);
+    printf("table of %zu bytes\n", table_count);
+    return table_count;
 }
 
 int main(int count, char **names)

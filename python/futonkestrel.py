@@ -5,6 +5,7 @@ bytes are accepted, or refused with a number and the part that it concerns.
 
     model = Model(Path("examples/lesson/model.bin").read_bytes())
     print(model.listing(script))
+    print(model.table_size())
     table = model.table()
     variables = table.start()
     table.step(variables, activate(0))
@@ -32,6 +33,7 @@ __all__ = [
     "Refusal",
     "Run",
     "STATE_WORDS",
+    "Size",
     "State",
     "Table",
     "VARIABLES",
@@ -53,8 +55,8 @@ __all__ = [
 
 # How many variables a table has.
 VARIABLES = 288
-# No table made from a model is longer.
-LONGEST_MADE_TABLE = 394_304
+# No table made from a model is longer; some are as long.
+LONGEST_MADE_TABLE = 171_189
 # How many numbers a model takes once it is read, and a state of it.
 MODEL_WORDS = 3833
 STATE_WORDS = 278
@@ -91,7 +93,7 @@ MEANINGS: dict[int, tuple[str, str]] = {
     ),
     8: (
         "the output is shorter than the table",
-        "give more room: no table is longer than 394,304 bytes",
+        "give more room: 'futonkestrel size MODEL' tells how much, at most 171,189 bytes",
     ),
     9: (
         "an event is cut or unknown, or TICK 0",
@@ -132,6 +134,7 @@ def _load() -> ctypes.CDLL:
         ("fk_read_model", number, given + told),
         ("fk_read_table", number, given + told),
         ("fk_translate", number, given + written + told),
+        ("fk_table_size", number, given + told),
         ("fk_model_listing", size, given + given + written),
         ("fk_table_listing", size, given + given + written),
         ("fk_run_model", number, given + given + told),
@@ -183,6 +186,18 @@ class Run:
     taken: int
     # The clock at the end.
     clock: int
+
+
+@dataclass(frozen=True)
+class Size:
+    """The size of a table: its bytes, and its records of each kind but start records,
+    which are in the bytes alone."""
+
+    bytes: int
+    rules: int
+    clauses: int
+    atoms: int
+    updates: int
 
 
 @dataclass(frozen=True)
@@ -322,13 +337,19 @@ class Model:
 
     def table(self) -> "Table":
         """The table made from it, which takes the same events."""
-        output, told = (ctypes.c_uint8 * LONGEST_MADE_TABLE)(), _places(3)
+        output, told = (ctypes.c_uint8 * self.table_size().bytes)(), _places(2)
         number = _library.fk_translate(
             self.data, len(self.data), output, len(output), told, len(told)
         )
         if number:
-            raise Refusal(number, told[0], told[1])
-        return Table(bytes(output[: told[2]]))
+            raise Refusal(number, *told)
+        return Table(bytes(output))
+
+    def table_size(self) -> Size:
+        """How long that table is, without making it."""
+        told = _places(7)
+        _library.fk_table_size(self.data, len(self.data), told, len(told))
+        return Size(*told[2:])
 
     def run(self, script: bytes) -> Run:
         """Runs a script up to the first refused event."""

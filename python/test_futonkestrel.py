@@ -49,6 +49,42 @@ class Examples(unittest.TestCase):
         self.assertEqual(variables[0], 62)
 
 
+class Sizes(unittest.TestCase):
+    """How long a table is, before it is made."""
+
+    # The bytes of a table's records by their kinds: start, rule, clause, atom, update.
+    LENGTHS = {0x20: 7, 0x21: 11, 0x22: 1, 0x23: 9, 0x24: 17}
+
+    def counted(self, table: bytes) -> fk.Size:
+        kinds, place = [], 0
+        while place < len(table):
+            kinds.append(table[place])
+            place += self.LENGTHS[table[place]]
+        return fk.Size(len(table), *(kinds.count(kind) for kind in range(0x21, 0x25)))
+
+    def test_of_the_examples(self) -> None:
+        for name in ["lesson", "m"]:
+            model = fk.Model(example(f"{name}/model.bin"))
+            self.assertEqual(model.table_size(), self.counted(model.table().data))
+        size = fk.Model(example("m/model.bin")).table_size()
+        self.assertEqual(size, fk.Size(887, 11, 32, 32, 25))
+
+    def test_room_of_the_size_told(self) -> None:
+        data = example("lesson/model.bin")
+        size = fk.Model(data).table_size().bytes
+        output = (ctypes.c_uint8 * size)()
+        for room, number in [(size - 1, 8), (size, 0)]:
+            told = (ctypes.c_size_t * 3)()
+            answer = fk._library.fk_translate(data, len(data), output, room, told, len(told))
+            self.assertEqual((answer, told[2]), (number, 0 if number else size))
+
+    def test_of_refused_models(self) -> None:
+        for data, number, part in [(b"", 2, [0, 0]), (b"\x01\x01", 1, [0, 2])]:
+            told = (ctypes.c_size_t * 8)(*[7] * 8)
+            answer = fk._library.fk_table_size(data, len(data), told, len(told))
+            self.assertEqual((answer, list(told)), (number, [*part, 0, 0, 0, 0, 0, 7]))
+
+
 class SideBySide(unittest.TestCase):
     """A model on a state and its table on variables."""
 

@@ -14,6 +14,7 @@ mod limit_work;
 mod measure;
 mod models;
 mod scripts;
+mod size_work;
 mod speeds;
 mod stepped_work;
 mod subjects;

@@ -13,11 +13,12 @@ use crate::ends;
 use crate::limit_work;
 use crate::measure::{Done, Measurement, Work};
 use crate::scripts::Script;
+use crate::size_work;
 use crate::stepped_work;
 use crate::subjects::{Amounts, Pair, Subject};
 
 /// Speeds are to be at least so many times those of the plain model: of what
-/// runs a model, steps, reads or translates, and of what runs a table.
+/// runs a model, steps, reads, translates or tells sizes, and of what runs a table.
 pub const GOAL: Option<f64> = Some(1.0);
 const TABLE_RUN_GOAL: Option<f64> = Some(1.1);
 pub const NO_GOAL: Option<f64> = None;
@@ -70,7 +71,7 @@ const SUBJECTS: [(&str, Make); 4] = [
 /// Makes a measurement of that name.
 type Measure = fn(&Subject, String) -> Measurement;
 
-const MEASUREMENTS: [(&str, Measure); 16] = [
+const MEASUREMENTS: [(&str, Measure); 18] = [
     ("model events", |subject, name| {
         model_run(name, &subject.quick, subject.events(), Unit::Event)
     }),
@@ -106,6 +107,12 @@ const MEASUREMENTS: [(&str, Measure); 16] = [
     }),
     ("translations", |subject, name| {
         translation(name, &subject.quick)
+    }),
+    ("table sizes", |subject, name| {
+        size_work::table_sizes(name, &subject.quick)
+    }),
+    ("sizes to translations", |subject, name| {
+        size_work::sizes_to_translations(name, &subject.quick)
     }),
     ("model listing lines", |subject, name| {
         model_listing(name, &subject.quick, subject.events())

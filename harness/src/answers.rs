@@ -126,6 +126,36 @@ pub struct Translation {
     pub output: Vec<u8>,
 }
 
+/// What is told of the size of a model's table.
+#[derive(Clone, Copy, Debug, Default, PartialEq, Eq)]
+pub struct Size {
+    pub told: Told,
+    pub bytes: usize,
+    /// Rules, clauses, atoms and updates.
+    pub records: [usize; 4],
+}
+
+/// How many places a size takes: start and end of the part refused, bytes, and
+/// records of four kinds.
+pub const SIZE_PLACES: usize = 7;
+
+impl Size {
+    /// A size as it is told into that many places or more.
+    pub fn of(told: &Lending<usize>) -> Size {
+        let places: [usize; SIZE_PLACES] = told.after[..SIZE_PLACES].try_into().expect("as many");
+        let [start, end, bytes, records @ ..] = places;
+        Size {
+            told: Told {
+                number: told.answer,
+                start,
+                end,
+            },
+            bytes,
+            records,
+        }
+    }
+}
+
 /// What stands in bytes, and in variables, that a call has not written.
 pub const BYTE: u8 = 0xA5;
 pub const FIGURE: i32 = 0x5A5A_5A5A;

@@ -3,7 +3,10 @@
 
 use plain::table;
 
-use crate::answers::{After, Listed, Listing, Offers, Said, Step, Translation, Variables, NOW};
+use crate::answers::{
+    After, Listed, Listing, Offers, Said, Size, Step, Translation, Variables, BEHIND, NOW,
+    SIZE_PLACES,
+};
 use crate::case::{Case, Late, Lent};
 use crate::compare::{self, Check};
 use crate::found::Indexes;
@@ -137,9 +140,28 @@ impl Checker<'_> {
             compare::translation_bytes(&wanted, &found),
         );
         self.note("translation_room", compare::translation_room(&found));
+        self.size(case, &found);
         let mut first = found.swap_remove(0);
         first.output.truncate(first.length);
         (first.told.number == 0).then_some(first.output)
+    }
+
+    /// The size of the table, told into all places and into fewer, against the
+    /// plain model and against the translations.
+    fn size(&mut self, case: &Case, made: &[Translation]) {
+        let mut places = vec![SIZE_PLACES + BEHIND];
+        if case.more_rooms {
+            places.extend(0..=SIZE_PLACES);
+        } else {
+            places.push(case.number as usize % (SIZE_PLACES + 1));
+        }
+        let found = found::sizes(&case.model, &places);
+        self.tally.note_sizes(&found);
+        let size = Size::of(&found[0]);
+        let wanted = wanted::size(&case.model);
+        self.note("size_told", compare::size_told(&wanted, &size));
+        self.note("size_places", compare::size_places(&found));
+        self.note("size_made", compare::size_made(&size, made));
     }
 
     /// The table that the library made, against the plain model and against the

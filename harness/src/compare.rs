@@ -6,10 +6,11 @@ use std::fmt::{Debug, Display};
 use plain::script::{DISPATCH, START};
 
 use crate::answers::{
-    After, Listed, Listing, Offers, Run, Said, Step, Told, Translation, Variables, BEHIND, BYTE,
-    DUE, END, FIGURE, NOW, STATE, THREADS, VARIABLES,
+    After, Listed, Listing, Offers, Run, Said, Size, Step, Told, Translation, Variables, BEHIND,
+    BYTE, DUE, END, FIGURE, NOW, SIZE_PLACES, STATE, THREADS, VARIABLES,
 };
 use crate::lending::{Lending, Number};
+use crate::records::table_records;
 use crate::stepped::AnyState;
 
 pub type Check = Result<(), String>;
@@ -231,6 +232,63 @@ pub fn translation_room(found: &[Translation]) -> Check {
     found
         .iter()
         .try_for_each(|found| untouched_behind("translation", &found.output, found.length))
+}
+
+/// What is told of a table's size: number, part, bytes, records of each kind.
+pub fn size_told(wanted: &Size, found: &Size) -> Check {
+    equal("number and part of the size", &wanted.told, &found.told)?;
+    equal("bytes told of the table", &wanted.bytes, &found.bytes)?;
+    let what = "rules, clauses, atoms and updates told";
+    equal(what, &wanted.records, &found.records)
+}
+
+/// However many places are lent, the number is the same, the places are the first
+/// of all that is told, and those behind stay as they were.
+pub fn size_places(found: &[Lending<usize>]) -> Check {
+    let all = &found[0];
+    found.iter().try_for_each(|found| {
+        let places = found.after.len();
+        let what = format_args!("number told with {places} places");
+        equal(what, &all.answer, &found.answer)?;
+        let (told, behind) = found.after.split_at(places.min(SIZE_PLACES));
+        let what = format_args!("told into {places} places");
+        equal(what, &all.after[..told.len()], told)?;
+        let marked = behind.iter().all(|number| *number == usize::MARK);
+        let what = format_args!("of {places} places those behind are as they were");
+        equal(what, &true, &marked)
+    })
+}
+
+/// The size told fits the translations, on the library alone: an output of just as
+/// many bytes is enough, with one byte less it is refused and left; and the table
+/// has as many records.
+pub fn size_made(size: &Size, made: &[Translation]) -> Check {
+    let rooms: Vec<usize> = made.iter().map(|made| made.output.len()).collect();
+    for needed in [size.bytes, size.bytes.wrapping_sub(1)] {
+        let what = format_args!("there is a translation into {needed} bytes among {rooms:?}");
+        let tried = size.told.number != 0 || rooms.contains(&needed);
+        equal(what, &true, &tried)?;
+    }
+    made.iter().try_for_each(|made| made_as_told(size, made))?;
+    translation_room(made)
+}
+
+fn made_as_told(size: &Size, made: &Translation) -> Check {
+    let room = made.output.len();
+    let (number, length) = match size.told.number {
+        0 if room < size.bytes => (8, 0),
+        0 => (0, size.bytes),
+        number => (number, 0),
+    };
+    let found = (made.told.number, made.length);
+    let what = format_args!("answer and length for {room} bytes, by the size told");
+    equal(what, &(number, length), &found)?;
+    if number != 0 {
+        return Ok(());
+    }
+    let records = table_records(&made.output[..length]);
+    let what = "rules, clauses, atoms and updates in the table, by the size told";
+    equal(what, &size.records, &records)
 }
 
 /// Demand 3 on the library alone: a model and its table agree on every event,

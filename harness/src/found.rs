@@ -8,6 +8,7 @@ use crate::answers::{
     After, Listing, Run, Said, Step, Told, Translation, Variables, BEHIND, BYTE, DUE, END, FIGURE,
     THREADS, VARIABLES,
 };
+use crate::lending::{lend_marks, Lending};
 use crate::stepped::{index_into, index_size, StateWalk};
 
 /// All that the library says of a model and a script as a whole. Listings go into
@@ -64,6 +65,12 @@ pub fn translation(model: &[u8], room: usize) -> Translation {
         length,
         output,
     }
+}
+
+/// The size of the table made from a model, told into each number of places.
+pub fn sizes(model: &[u8], places: &[usize]) -> Vec<Lending<usize>> {
+    let told = |&count| lend_marks(count, |told| raw::table_size(model, told));
+    places.iter().map(told).collect()
 }
 
 /// The length of each part of a script.

@@ -52,6 +52,23 @@ pub fn split(bytes: &[u8], body: fn(u8) -> Option<usize>) -> Vec<Record> {
     records
 }
 
+/// How many rules, clauses, atoms and updates a table has, as far as its records
+/// are whole.
+pub fn table_records(table: &[u8]) -> [usize; 4] {
+    let mut counts = [0; 4];
+    let mut rest = table;
+    while let Some((&kind, behind)) = rest.split_first() {
+        let Some(next) = table_body(kind).and_then(|length| behind.get(length..)) else {
+            break;
+        };
+        if kind > 0x20 {
+            counts[usize::from(kind - 0x21)] += 1;
+        }
+        rest = next;
+    }
+    counts
+}
+
 /// The widths of the fields in the body of a model's or table's record.
 pub fn fields(kind: u8) -> &'static [usize] {
     match kind {

@@ -4,9 +4,11 @@ use std::collections::BTreeMap;
 use std::fmt::{self, Display, Formatter};
 
 use crate::answers::{
-    After, Offers, Said, Step, Translation, BEHAVIOR_STATE, FIRST_VALUE, MISSED, NOW, THREADS,
+    After, Offers, Said, Step, Translation, BEHAVIOR_STATE, FIRST_VALUE, MISSED, NOW, SIZE_PLACES,
+    THREADS,
 };
 use crate::case::Case;
+use crate::lending::Lending;
 use crate::reach::{add_each, Reach, KINDS, LATE};
 use crate::records::{model_body, split};
 
@@ -19,6 +21,9 @@ pub struct Tally {
     pub tables: [u64; 14],
     /// Translations into too little room or more.
     pub translations: [u64; 14],
+    /// Sizes of tables by the places that were lent for them; more than all stand
+    /// last.
+    pub sizes: [u64; SIZE_PLACES + 2],
     pub model_events: [u64; 14],
     pub table_events: [u64; 14],
     pub lent_steps: [u64; 14],
@@ -129,6 +134,12 @@ impl Tally {
         }
     }
 
+    pub fn note_sizes(&mut self, found: &[Lending<usize>]) {
+        for lending in found {
+            self.sizes[lending.after.len().min(SIZE_PLACES + 1)] += 1;
+        }
+    }
+
     pub fn note_table(&mut self, case: &Case, wanted: &Said) {
         self.tables[wanted.read.number as usize] += 1;
         note_events(
@@ -157,6 +168,7 @@ impl Tally {
         add_each(&mut self.models, &other.models);
         add_each(&mut self.tables, &other.tables);
         add_each(&mut self.translations, &other.translations);
+        add_each(&mut self.sizes, &other.sizes);
         add_each(&mut self.model_events, &other.model_events);
         add_each(&mut self.table_events, &other.table_events);
         add_each(&mut self.lent_steps, &other.lent_steps);
@@ -221,6 +233,8 @@ impl Display for Tally {
         for (what, counts) in by_number {
             writeln!(formatter, "{what}: {}", numbers(counts))?;
         }
+        let sizes: Vec<String> = self.sizes.iter().map(u64::to_string).collect();
+        writeln!(formatter, "sizes by places lent: {}", sizes.join(" "))?;
         for (what, counts) in [
             ("taken by models", &self.taken_by_models),
             ("of these moved a value", &self.moved),

@@ -6,11 +6,11 @@ use plain::model::{self, Duration, Model, State};
 use plain::refusal::{Refusal, EVENT};
 use plain::script::{self, Event};
 use plain::table::{self, Table};
-use plain::{listing, offers, show, translate};
+use plain::{listing, offers, show, size, translate};
 
 use crate::answers::{
-    After, Listing, Offers, Run, Said, Step, Told, Translation, Variables, BEHIND, BYTE, DUE, END,
-    FIGURE, NOW, THREADS, VARIABLES,
+    After, Listing, Offers, Run, Said, Size, Step, Told, Translation, Variables, BEHIND, BYTE, DUE,
+    END, FIGURE, NOW, THREADS, VARIABLES,
 };
 use crate::case::Late;
 use crate::reach::Reach;
@@ -119,6 +119,16 @@ pub fn translation(model: &[u8], room: usize) -> Translation {
             length: table.len(),
             output: into_room(&table, room),
         },
+    }
+}
+
+/// The size of the table made from a model.
+pub fn size(model: &[u8]) -> Size {
+    let (refusal, size) = size::table_size(model);
+    Size {
+        told: told(refusal),
+        bytes: size.bytes,
+        records: [size.rules, size.clauses, size.atoms, size.updates],
     }
 }
 

@@ -2,7 +2,7 @@
 //! each wider field at the ends of ranges, each record dropped, doubled or
 //! moved, each cut. Library and plain model read all of them alike.
 
-use harness::answers::{Listed, Said};
+use harness::answers::{Listed, Said, Size, SIZE_PLACES};
 use harness::found::Indexes;
 use harness::records::{fields, model_body, split, table_body, Record};
 use harness::stepped::StateWalk;
@@ -153,6 +153,7 @@ fn agree_on_model(counts: &mut Counts, bytes: &[u8]) {
         .and_then(|()| compare::shown(&wanted.shown, &on_state.shown))
         .and_then(|()| compare::enabled(&wanted.offers, &on_state.offers))
         .unwrap_or_else(|how| panic!("{how}: {bytes:02x?}"));
+    agree_on_size(bytes);
     counts[wanted.read.number as usize] += 1;
     if wanted.read.number == 0 {
         let room = futonkestrel::ROOM_FOR_TABLE;
@@ -163,6 +164,19 @@ fn agree_on_model(counts: &mut Counts, bytes: &[u8]) {
             "{bytes:02x?}"
         );
     }
+}
+
+/// The size of the table, and translations into just as much room and into one
+/// byte less.
+fn agree_on_size(bytes: &[u8]) {
+    let size = Size::of(&found::sizes(bytes, &[SIZE_PLACES])[0]);
+    let made = |room| found::translation(bytes, room);
+    compare::size_told(&wanted::size(bytes), &size)
+        .and_then(|()| {
+            let rooms = [size.bytes, size.bytes.saturating_sub(1)];
+            compare::size_made(&size, &rooms.map(made))
+        })
+        .unwrap_or_else(|how| panic!("{how}: {bytes:02x?}"));
 }
 
 fn agree_on_table(counts: &mut Counts, bytes: &[u8]) {

@@ -12,7 +12,7 @@ use harness::runner::{self, Plan};
 
 /// The comparisons that a fault of the plain model cannot fail. The tests in
 /// loose.rs, touched.rs and touched_steps.rs fail them.
-const SHOWN_ELSEWHERE: [&str; 10] = [
+const SHOWN_ELSEWHERE: [&str; 12] = [
     "any_index",
     "any_state",
     "any_step",
@@ -21,6 +21,8 @@ const SHOWN_ELSEWHERE: [&str; 10] = [
     "enabled_room",
     "index_room",
     "listing_room",
+    "size_made",
+    "size_places",
     "state_room",
     "translation_room",
 ];

@@ -52,6 +52,7 @@ fn inputs_are_of_all_sorts(tally: &Tally) {
         &tally.translations,
         &[(0, 15_000), (8, 15_000)],
     );
+    all_at_least("sizes by places lent", &tally.sizes, 6_000);
     at_least(
         "tables",
         &tally.tables,
@@ -176,8 +177,12 @@ fn thin_places_are_met(tally: &Tally) {
 }
 
 fn every_comparison_is_made(tally: &Tally) {
-    assert_eq!(tally.comparisons.len(), 33, "{:?}", tally.comparisons);
+    assert_eq!(tally.comparisons.len(), 36, "{:?}", tally.comparisons);
     for (comparison, &count) in &tally.comparisons {
         assert!(count >= tally.cases / 5, "{comparison} made {count} times");
+    }
+    // Of every model, accepted or not.
+    for comparison in ["size_told", "size_places", "size_made"] {
+        assert_eq!(tally.comparisons[comparison], tally.cases, "{comparison}");
     }
 }

@@ -1,9 +1,12 @@
 //! The model with the longest table: the most of every kind, all of it live from
 //! the start, and one thread with all behaviour and all connections.
 
-use futonkestrel::{read_model, read_table, translate, translate_to_vec, Refusal};
+use futonkestrel::{raw, read_model, read_table, translate, translate_to_vec, Refusal};
+use harness::records::table_records;
 
 const LENGTH: usize = 171_189;
+/// Rules, clauses, atoms and updates.
+const RECORDS: [usize; 4] = [304, 3_264, 9_808, 4_448];
 
 fn longest_model() -> Vec<u8> {
     let mut model = vec![0x01, 8, 1];
@@ -39,6 +42,18 @@ fn the_longest_table() {
     assert_eq!((table.len(), read_table(&table)), (LENGTH, Ok(())));
     let wanted = plain::translate::translate(&model, LENGTH).expect("as here");
     assert!(table == wanted, "the bytes of the plain model");
+}
+
+#[test]
+fn the_size_of_the_longest_table() {
+    let model = longest_model();
+    let mut told = [usize::MAX; 7];
+    assert_eq!(raw::table_size(&model, &mut told), 0);
+    let [start, end, bytes, records @ ..] = told;
+    assert_eq!((start, end, bytes, records), (0, 0, LENGTH, RECORDS));
+    let mut output = vec![0; bytes];
+    assert_eq!(translate(&model, &mut output), Ok(LENGTH));
+    assert_eq!(table_records(&output), RECORDS);
 }
 
 #[test]

@@ -1,8 +1,9 @@
 //! Comparisons that no fault of the plain model can fail: each is handed
 //! something that a wrong library would have left.
 
-use harness::answers::{After, Listing, Said, Step, Told, Translation};
-use harness::answers::{BEHIND, BYTE, FIGURE, VARIABLES};
+use harness::answers::{After, Listing, Said, Size, Step, Told, Translation};
+use harness::answers::{BEHIND, BYTE, FIGURE, SIZE_PLACES, VARIABLES};
+use harness::lending::{lend_marks, Lending, Number};
 use harness::stepped::StateWalk;
 use harness::{compare, found};
 
@@ -37,6 +38,82 @@ fn translation_room() {
     assert!(compare::translation_room(&translation(0, 1, &[1, 0])).is_err());
     assert!(compare::translation_room(&translation(8, 0, &[BYTE, BYTE])).is_ok());
     assert!(compare::translation_room(&translation(8, 0, &[1, BYTE])).is_err());
+}
+
+/// A library that tells a size into more places than it needs, into fewer and into
+/// all, and then has some habit.
+fn told_sizes(habit: fn(&mut [usize]) -> u32) -> Vec<Lending<usize>> {
+    let told = |count| {
+        lend_marks(count, |told: &mut [usize]| {
+            let numbers = [0, 0, 14, 1, 2, 3, 4];
+            told.iter_mut()
+                .zip(numbers)
+                .for_each(|(told, number)| *told = number);
+            habit(told)
+        })
+    };
+    [SIZE_PLACES + BEHIND, 3, SIZE_PLACES, 0].map(told).to_vec()
+}
+
+#[test]
+fn size_places() {
+    assert!(compare::size_places(&told_sizes(|_| 0)).is_ok());
+    assert!(compare::size_places(&told_sizes(|_| 4)).is_ok());
+    // A place behind is written; a place is told otherwise, or not at all, where
+    // there are few; the number goes by the places.
+    let bad: [fn(&mut [usize]) -> u32; 4] = [
+        |told| {
+            if told.len() > SIZE_PLACES {
+                told[SIZE_PLACES] = 0;
+            }
+            0
+        },
+        |told| {
+            if told.len() == 3 {
+                told[2] = 0;
+            }
+            0
+        },
+        |told| {
+            if told.len() == SIZE_PLACES {
+                told[6] = usize::MARK;
+            }
+            0
+        },
+        |told| told.len() as u32,
+    ];
+    for (number, habit) in bad.into_iter().enumerate() {
+        let check = compare::size_places(&told_sizes(habit));
+        assert!(check.is_err(), "habit {number}");
+    }
+}
+
+#[test]
+fn size_made() {
+    let model = model(5, 4);
+    let size = Size::of(&found::sizes(&model, &[SIZE_PLACES])[0]);
+    let made = [size.bytes, size.bytes - 1].map(|room| found::translation(&model, room));
+    compare::size_made(&size, &made).expect("the size fits");
+    let told = |spoil: fn(&mut Size)| {
+        let mut size = size;
+        spoil(&mut size);
+        compare::size_made(&size, &made).expect_err("another size")
+    };
+    told(|size| size.bytes += 1);
+    told(|size| size.bytes -= 1);
+    told(|size| size.told.number = 4);
+    told(|size| size.records[0] += 1);
+    told(|size| size.records[3] -= 1);
+    let wrote = |spoil: fn(&mut [Translation; 2])| {
+        let mut made = made.clone();
+        spoil(&mut made);
+        compare::size_made(&size, &made).expect_err("another translation")
+    };
+    // Refused though it fits; taken though it does not; refused, yet written.
+    wrote(|made| made[0].told.number = 8);
+    wrote(|made| made[0].length -= 1);
+    wrote(|made| made[1].told.number = 0);
+    wrote(|made| made[1].output[0] = 0x20);
 }
 
 /// Refused, with nothing touched.

@@ -14,6 +14,7 @@
 //! * [`model`]: reading a model, and the model's machine
 //! * [`table`]: reading and writing a table, and the table's machine
 //! * [`translate`]: the table made from a model
+//! * [`size`]: the size of that table, told without making it (document 02, W1)
 //! * [`listing`]: the lines that the programs `steps` and `rules` print
 //! * [`show`]: a state of the model written as the table's variables
 //! * [`offers`]: what is enabled, of a model and of a table
@@ -28,5 +29,6 @@ pub mod offers;
 pub mod refusal;
 pub mod script;
 pub mod show;
+pub mod size;
 pub mod table;
 pub mod translate;

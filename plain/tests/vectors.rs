@@ -18,6 +18,7 @@ use plain::model;
 use plain::refusal::Refusal;
 use plain::script::{run_on, Event};
 use plain::show::{show, without_idle_ends};
+use plain::size::{table_size, TableSize};
 use plain::table::{self, Table, Variables, LONGEST_TABLE};
 use plain::translate::{table_of, translate};
 use std::collections::BTreeMap;
@@ -138,6 +139,24 @@ fn counts(table: &Table, length: usize) -> String {
     )
 }
 
+/// The size told of the table, in the same words but for the starts, which are
+/// not told apart.
+fn told_size(model_bytes: &[u8]) -> String {
+    match table_size(model_bytes) {
+        (Some(refusal), _) => refused(&refusal),
+        (None, size) => {
+            let TableSize {
+                bytes,
+                rules,
+                clauses,
+                atoms,
+                updates,
+            } = size;
+            format!("ok {bytes} {rules} {clauses} {atoms} {updates}\n")
+        }
+    }
+}
+
 /// The variables at the start and after each event, going on after refusals.
 fn trace<S>(
     script: &[u8],
@@ -189,12 +208,26 @@ fn check_model_case(case: &Case, differences: &mut Vec<String>) {
         "rules.txt",
         rules(model_bytes, read_by_programs, LIMIT).as_bytes(),
     );
+    check_size(case, differences);
     match translate(model_bytes, LONGEST_TABLE) {
         Err(refusal) => {
             case.compare(differences, "translate.txt", refused(&refusal).as_bytes());
             case.compare(differences, "trace.txt", refused(&refusal).as_bytes());
         }
         Ok(bytes) => check_accepted_model(case, &bytes, differences),
+    }
+}
+
+fn check_size(case: &Case, differences: &mut Vec<String>) {
+    let known = String::from_utf8_lossy(case.input("translate.txt"));
+    let mut known: Vec<&str> = known.split_whitespace().collect();
+    if known[0] == "ok" {
+        let starts = 2;
+        known.remove(starts);
+    }
+    let told = told_size(case.input("model.bin"));
+    if told.split_whitespace().ne(known) {
+        differences.push(format!("{}: the size told differs", case.name));
     }
 }
 

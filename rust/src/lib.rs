@@ -6,6 +6,7 @@
 //!
 //! * [`read_model`], [`read_table`]: is this an accepted model or table?
 //! * [`translate`], [`translate_to_vec`]: the table made from a model
+//! * [`table_size`]: how long that table is, before it is made
 //! * [`run_model`], [`run_table`]: a script up to its first refused event
 //! * [`model_listing`], [`table_listing`]: the lines of such a run
 //! * [`Model`], [`Table`]: one event after another on a [`State`] or [`Variables`]
@@ -123,8 +124,20 @@ pub const VARIABLES: usize = 288;
 /// The state of a table. Variable 0 is the clock.
 pub type Variables = [i32; VARIABLES];
 
-/// Room that suffices for the table of every accepted model.
-pub const ROOM_FOR_TABLE: usize = 394_304;
+/// Room that suffices for the table of every accepted model; some tables take all
+/// of it.
+pub const ROOM_FOR_TABLE: usize = 171_189;
+
+/// The size of a table: its bytes, and its records of each kind but start
+/// records, which are in the bytes alone.
+#[derive(Clone, Copy, Debug, PartialEq, Eq)]
+pub struct Size {
+    pub bytes: usize,
+    pub rules: usize,
+    pub clauses: usize,
+    pub atoms: usize,
+    pub updates: usize,
+}
 
 /// Reads a model.
 pub fn read_model(model: &[u8]) -> Result<(), Refusal> {
@@ -150,12 +163,26 @@ pub fn translate(model: &[u8], output: &mut [u8]) -> Result<usize, Refusal> {
     Refusal::unless_zero(number, start, end).map(|()| length)
 }
 
+/// The size of the table made from a model, without making it. A model is refused
+/// as [`translate`] refuses it, and of the others 8 is given there just where
+/// `output` is shorter than `bytes`: that is proved.
+pub fn table_size(model: &[u8]) -> Result<Size, Refusal> {
+    let mut told = [0; 7];
+    let number = raw::table_size(model, &mut told);
+    let [start, end, bytes, rules, clauses, atoms, updates] = told;
+    Refusal::unless_zero(number, start, end).map(|()| Size {
+        bytes,
+        rules,
+        clauses,
+        atoms,
+        updates,
+    })
+}
+
 /// The table made from a model.
 pub fn translate_to_vec(model: &[u8]) -> Result<Vec<u8>, Refusal> {
-    let mut table = vec![0; ROOM_FOR_TABLE];
-    let length = translate(model, &mut table)?;
-    table.truncate(length);
-    table.shrink_to_fit();
+    let mut table = vec![0; table_size(model)?.bytes];
+    translate(model, &mut table)?;
     Ok(table)
 }
 

@@ -26,6 +26,12 @@ extern "C" {
         told: *mut usize,
         told_length: usize,
     ) -> u32;
+    fn fk_table_size(
+        model: *const u8,
+        model_length: usize,
+        told: *mut usize,
+        told_length: usize,
+    ) -> u32;
     fn fk_model_listing(
         model: *const u8,
         model_length: usize,
@@ -179,6 +185,14 @@ pub fn translate(model: &[u8], output: &mut [u8], told: &mut [usize]) -> u32 {
             told.len(),
         )
     }
+}
+
+/// Tells how long the table of a model is, without making it. The result is 0 to
+/// 7; told are start and end of the part refused, then the table's bytes, rules,
+/// clauses, atoms and updates, all 0 where the model is refused.
+pub fn table_size(model: &[u8], told: &mut [usize]) -> u32 {
+    // SAFETY: pointers and counts are those of slices.
+    unsafe { fk_table_size(model.as_ptr(), model.len(), told.as_mut_ptr(), told.len()) }
 }
 
 /// Writes as much of the listing of a model's run as `output` has room for. The

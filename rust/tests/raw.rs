@@ -4,15 +4,19 @@
 mod common;
 
 use common::{
-    table_of_m, ACTIVE, BYTE, DUE, END, FIGURE, LISTING, M, NOW, PLACE, SCRIPT, STATE, WORD,
+    table_of_m, ACTIVE, BYTE, DUE, END, FIGURE, LISTING, M, NOW, PLACE, SCRIPT, SIZE_OF_M, STATE,
+    WORD,
 };
 use futonkestrel::{events, raw, MODEL_WORDS, STATE_WORDS, VARIABLES};
 
-/// A call with `told` slices of 0 to 5 places gives the same result each time,
-/// tells what fits of `wanted`, and leaves every other place alone.
+/// No function tells more numbers.
+const MOST_TOLD: usize = 7;
+
+/// A call with `told` slices of any interesting length gives the same result each
+/// time, tells what fits of `wanted`, and leaves every other place alone.
 fn tells(wanted: &[usize], result: u32, call: impl Fn(&mut [usize]) -> u32) {
-    for length in 0..=5 {
-        let mut places = [PLACE; 8];
+    for length in 0..=MOST_TOLD + 1 {
+        let mut places = [PLACE; MOST_TOLD + 3];
         assert_eq!(call(&mut places[..length]), result, "{length} places");
         let fitting = length.min(wanted.len());
         assert_eq!(places[..fitting], wanted[..fitting], "{length} places");
@@ -114,6 +118,56 @@ fn a_refused_translation_writes_nothing() {
         assert_ne!(raw::translate(model, &mut output, &mut []), 0);
         assert_eq!(output, vec![BYTE; room]);
     }
+}
+
+#[test]
+fn table_size_tells_the_part_and_the_counts() {
+    let size = SIZE_OF_M;
+    let counts = [size.rules, size.clauses, size.atoms, size.updates];
+    let whole = [&[0, 0, size.bytes], &counts[..]].concat();
+    tells(&whole, 0, |told| raw::table_size(M, told));
+    // A head alone has a table of two start records.
+    let starts = [0, 0, 14, 0, 0, 0, 0];
+    tells(&starts, 0, |told| raw::table_size(&M[..3], told));
+}
+
+/// A model for each refusal by its number, and where its last record begins, which
+/// is the one refused.
+fn refused_models() -> [(Vec<u8>, usize); 7] {
+    let m = |more: &[u8]| [M, more].concat();
+    let critical = |period: u32| {
+        let ones = [1, 0, 0, 0].repeat(3);
+        [&[0x02][..], &period.to_le_bytes(), &ones, &[1, 1, 0]].concat()
+    };
+    let connected = [&[0x03, 0, 0x04, 0][..], &[0x06, 1, 0, 0, 1].repeat(2)].concat();
+    // A second thread, whose guard looks at a local of the first one.
+    let guarded = [
+        0x05, 0, 0, 0, 0, 0, 0x08, 1, 0, 0, 0x09, 0, 2, 0, 0, 0, 0, 0, 0,
+    ];
+    let long = [critical(999_999), critical(1_000_000)].concat();
+    [
+        (M[..22].to_vec(), 3),
+        (m(&[0x01, 1, 0]), 23),
+        (m(&[0x07, 0, 0].repeat(17)), 71),
+        (m(&[0x03, 1]), 23),
+        (m(&[&M[3..], &guarded].concat()), 53),
+        (m(&connected), 32),
+        ([&M[..3], &long, &[0x07, 0, 0]].concat(), 43),
+    ]
+}
+
+/// No count is told of a refused model, and its part is that of translation, for
+/// which the room counts last.
+#[test]
+fn table_size_of_refused_models() {
+    for ((model, start), number) in refused_models().iter().zip(1..) {
+        let part = [*start, model.len(), 0, 0, 0, 0, 0];
+        tells(&part, number, |told| raw::table_size(model, told));
+        tells(&part[..3], number, |told| {
+            raw::translate(model, &mut [], told)
+        });
+    }
+    tells(&[0; MOST_TOLD], 2, |told| raw::table_size(&[], told));
 }
 
 /// A listing with outputs of several lengths: the result is the whole length,

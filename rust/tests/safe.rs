@@ -2,12 +2,17 @@
 
 mod common;
 
-use common::{table_of_m, BYTE, DUE, LISTING, M, NOW, SCRIPT, STATE};
+use std::collections::BTreeSet;
+
+use common::{
+    counted, longest_model, table_of_m, BYTE, DUE, LESSON, LISTING, M, NOW, SCRIPT, SIZE_OF_M,
+    STATE,
+};
 use futonkestrel::refusals::{meaning_of, Holder, MEANINGS};
 use futonkestrel::{
     event_length, events, model_after, model_listing, model_listing_into, read_model, read_table,
-    run_model, run_table, table_listing, table_listing_into, translate, translate_to_vec, Enabled,
-    Model, Offer, Refusal, Run, Table, VARIABLES,
+    run_model, run_table, table_listing, table_listing_into, table_size, translate,
+    translate_to_vec, Enabled, Model, Offer, Refusal, Run, Table, ROOM_FOR_TABLE, VARIABLES,
 };
 
 fn refused<T>(number: u32, start: usize, end: usize) -> Result<T, Refusal> {
@@ -34,6 +39,53 @@ fn translation() {
     let short = &mut output[1..];
     assert_eq!(translate(M, short), refused(8, M.len(), M.len()));
     assert_eq!(translate_to_vec(&M[3..]), refused(2, 0, 20));
+}
+
+/// The lesson cut at every place, and with every byte changed.
+fn changed_lessons() -> impl Iterator<Item = Vec<u8>> {
+    let cut = (0..=LESSON.len()).map(|end| LESSON[..end].to_vec());
+    let places = (0..LESSON.len()).flat_map(|place| [0, 1, 2, 9, 255].map(|byte| (place, byte)));
+    let changed = places.map(|(place, byte)| {
+        let mut model = LESSON.to_vec();
+        model[place] = byte;
+        model
+    });
+    cut.chain(changed)
+}
+
+/// A size is that of the table which is then made, or the same refusal.
+#[test]
+fn size_before_translation() {
+    assert_eq!(table_size(M), Ok(SIZE_OF_M));
+    let mut output = vec![BYTE; ROOM_FOR_TABLE];
+    let mut met = BTreeSet::new();
+    for model in changed_lessons() {
+        let made = translate(&model, &mut output).map(|length| counted(&output[..length]));
+        assert_eq!(table_size(&model), made, "{model:02x?}");
+        met.insert(made.map_or_else(|refusal| refusal.number, |_| 0));
+    }
+    assert_eq!(met, BTreeSet::from([0, 1, 2, 4, 5, 6]));
+}
+
+/// Just as many bytes are room for the table, and one less is too short.
+#[test]
+fn room_of_the_size_told() {
+    for model in [M, LESSON, &longest_model()] {
+        let size = table_size(model).expect("it is accepted");
+        let mut output = vec![BYTE; size.bytes];
+        let end = model.len();
+        assert_eq!(translate(model, &mut output[1..]), refused(8, end, end));
+        assert!(output.iter().all(|&byte| byte == BYTE));
+        assert_eq!(translate(model, &mut output), Ok(size.bytes));
+        assert_eq!(counted(&output), size);
+        assert_eq!(translate_to_vec(model), Ok(output));
+    }
+}
+
+#[test]
+fn the_longest_table_takes_all_room() {
+    let size = table_size(&longest_model()).expect("it is accepted");
+    assert_eq!(size.bytes, ROOM_FOR_TABLE);
 }
 
 #[test]

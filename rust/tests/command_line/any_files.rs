@@ -41,6 +41,7 @@ fn every_command_answers() {
             &["check", &model][..],
             &["check", "--table", &table],
             &["table", &model, &out],
+            &["size", &model],
             &["compare", &good_model, &table],
             &["steps", "--words", "--values", &model, &script],
             &["rules", "--words", "--values", &good_model, &script],

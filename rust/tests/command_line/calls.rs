@@ -2,8 +2,8 @@
 
 use crate::tools::{example, run};
 
-const COMMANDS: [&str; 12] = [
-    "steps", "rules", "run", "table", "check", "compare", "trace", "timeline", "explore",
+const COMMANDS: [&str; 13] = [
+    "steps", "rules", "run", "table", "size", "check", "compare", "trace", "timeline", "explore",
     "promela", "show", "pack",
 ];
 
@@ -50,6 +50,9 @@ fn wrong_calls() {
         assert!(said.contains("usage: futonkestrel"), "{words:?}: {said}");
     };
     says(&["check"], "1 file wanted, 0 given");
+    says(&["size"], "1 file wanted, 0 given");
+    says(&["size", &model, &model], "1 file wanted, 2 given");
+    says(&["size", "--table", &model], "no option '--table'");
     says(&["steps", &model], "2 files wanted, 1 given");
     says(&["check", &model, &model], "1 file wanted, 2 given");
     says(&["check", "--words", &model], "no option '--words'");

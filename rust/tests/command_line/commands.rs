@@ -183,9 +183,14 @@ fn room_for_the_table() {
     let done = run(&["rules", "--limit", &model, &script]);
     assert_eq!(done.out, "end 0 8 0\n");
     let length = bytes_of(&model).len();
-    assert!(done
-        .refused()
-        .starts_with(&format!("refused 8 {length} {length} {model}\n")));
+    let wanted = format!(
+        "\
+refused 8 {length} {length} {model}
+  cause: the output is shorter than the table
+  what to do: give more room: 'futonkestrel size MODEL' tells how much, at most 171,189 bytes
+"
+    );
+    assert_eq!(done.refused(), wanted);
     let whole = run(&["steps", &model, &script]);
     assert_eq!(run(&["rules", &model, &script]).out, whole.out);
 }
@@ -199,6 +204,26 @@ fn table() {
     let made = futonkestrel::translate_to_vec(&bytes_of(&model)).expect("it is accepted");
     assert_eq!(bytes_of(&out), made);
     assert_eq!(folder.files(), ["table.bin"]);
+}
+
+/// Nothing is written, and `table` then writes so many bytes.
+#[test]
+fn size() {
+    let folder = Folder::new("size");
+    let table = folder.path("table.bin");
+    for (name, bytes, records) in [
+        ("lesson", 5235, "rules 55 clauses 166 atoms 183 updates 162"),
+        ("m", 887, "rules 11 clauses 32 atoms 32 updates 25"),
+    ] {
+        let model = example(&format!("{name}/model.bin"));
+        let wanted = format!("bytes {bytes} {records}\n");
+        assert_eq!(run(&["size", &model]).good(), wanted);
+        assert_eq!(run_with(&["size", "-"], &bytes_of(&model)).good(), wanted);
+        assert!(folder.files().is_empty());
+        run(&["table", &model, &table]).good();
+        assert_eq!(bytes_of(&table).len(), bytes);
+        std::fs::remove_file(&table).expect("it was written");
+    }
 }
 
 #[test]

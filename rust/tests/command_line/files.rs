@@ -23,6 +23,7 @@ fn missing_files() {
         &["show", "nowhere"],
         &["pack", "nowhere", "-"],
         &["table", "nowhere", "-"],
+        &["size", "nowhere"],
         &["steps", &model, "nowhere"],
         &["rules", "nowhere", &model],
         &["run", "nowhere", &model],
@@ -46,6 +47,7 @@ fn folders_are_no_files() {
     let folder = Folder::new("folders");
     let here = folder.path("");
     assert!(run(&["check", &here]).no_file().contains("Is a directory"));
+    assert!(run(&["size", &here]).no_file().contains("Is a directory"));
     assert!(run(&["table", &model(), &here])
         .no_file()
         .contains("Is a directory"));
@@ -72,6 +74,7 @@ fn a_full_disk() {
         &["trace", &model, &script],
         &["show", &model],
         &["check", &model],
+        &["size", &model],
         &["table", &model, "-"],
         &["--help"],
     ] {

@@ -30,11 +30,12 @@ refused 4 3 23 {file}
         assert_eq!(done.refused(), wanted);
     }
     for words in [
-        ["trace", &file, &script],
-        ["compare", &file, &script],
-        ["table", &file, "-"],
+        &["trace", &file, &script][..],
+        &["compare", &file, &script],
+        &["table", &file, "-"],
+        &["size", &file],
     ] {
-        let done = run(&words);
+        let done = run(words);
         assert_eq!(done.out, "");
         assert_eq!(done.refused(), wanted);
     }

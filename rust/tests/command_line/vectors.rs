@@ -79,6 +79,18 @@ fn without_due_and_end(trace: &str) -> String {
     trace.lines().map(line).collect()
 }
 
+/// `size` tells what is known of the table, `ok` and its bytes, starts, rules,
+/// clauses, atoms and updates; or the refusal.
+fn sizes(model: &str, wanted: &str) {
+    let words: Vec<&str> = wanted.split_whitespace().collect();
+    let ["ok", bytes, _, rules, clauses, atoms, updates] = words[..] else {
+        return checks(&["size", model], wanted);
+    };
+    let line =
+        format!("bytes {bytes} rules {rules} clauses {clauses} atoms {atoms} updates {updates}\n");
+    assert_eq!(run(&["size", model]).good(), line);
+}
+
 fn model_case(folder: &Folder, files: &Files) {
     let (Some(model), Some(script)) = (files.get("model.bin"), files.get("script.bin")) else {
         return;
@@ -90,6 +102,7 @@ fn model_case(folder: &Folder, files: &Files) {
         return;
     };
     checks(&["check", &model], read);
+    sizes(&model, read);
     if read.starts_with("ok") {
         let out = folder.path("table");
         assert_eq!(run(&["table", &model, &out]).good(), "");

@@ -1,5 +1,7 @@
-//! Document 01's model M and its script, and some bytes near them.
+//! Document 01's model M and its script, some bytes near them, and other models.
 #![allow(dead_code)]
+
+use futonkestrel::Size;
 
 /// Head 1, 0; one thread of Period 5, Deadline 4, Min 1, Max 5, mask 1.
 pub const M: &[u8] = &[
@@ -38,4 +40,67 @@ pub const WORD: u32 = 0x5A5A_5A5A;
 
 pub fn table_of_m() -> Vec<u8> {
     futonkestrel::translate_to_vec(M).expect("M is accepted")
+}
+
+/// The size of M's table, counted by hand.
+pub const SIZE_OF_M: Size = Size {
+    bytes: 887,
+    rules: 11,
+    clauses: 32,
+    atoms: 32,
+    updates: 25,
+};
+
+/// The size of a table, counted record by record.
+pub fn counted(table: &[u8]) -> Size {
+    let (mut starts, mut at) = (0, 0);
+    let mut size = Size {
+        bytes: table.len(),
+        rules: 0,
+        clauses: 0,
+        atoms: 0,
+        updates: 0,
+    };
+    while at < table.len() {
+        let (count, length) = match table[at] {
+            0x20 => (&mut starts, 7),
+            0x21 => (&mut size.rules, 11),
+            0x22 => (&mut size.clauses, 1),
+            0x23 => (&mut size.atoms, 9),
+            0x24 => (&mut size.updates, 17),
+            kind => panic!("a record of kind {kind:02x} at {at}"),
+        };
+        *count += 1;
+        at += length;
+    }
+    size
+}
+
+/// The lesson of a pad, which has all kinds of records.
+pub const LESSON: &[u8] = include_bytes!("../../../examples/lesson/model.bin");
+
+/// The most of every kind, all of it live from the start, and one thread with all
+/// behaviour and all outputs: no model has a longer table.
+pub fn longest_model() -> Vec<u8> {
+    let thread = [
+        0x02, 4, 0, 0, 0, 4, 0, 0, 0, 1, 0, 0, 0, 2, 0, 0, 0, 255, 0, 1,
+    ];
+    let connections = (0..32).flat_map(|input| [0x06, 0, 0, input, 255]);
+    let assign = |local| [0x0A, 2, local, 0, 0, 1, 0, 0, 0, 0, 0, 0, 0, 0];
+    let behaviour = [
+        &[0x08, 15, 0, 1][..],
+        &[0x09, 0, 2, 0, 0, 7, 0, 0, 0].repeat(4),
+        &[0, 1, 2, 3].map(assign).concat(),
+    ];
+    [
+        &[0x01, 8, 1][..],
+        &thread.repeat(16),
+        &[0x03, 0].repeat(32),
+        &[0x04, 15].repeat(32),
+        &[0x05, 15, 7, 0, 0, 0].repeat(32),
+        &connections.collect::<Vec<u8>>(),
+        &[0x07, 0, 1].repeat(16),
+        &behaviour.concat().repeat(64),
+    ]
+    .concat()
 }

@@ -3,7 +3,9 @@
 use std::ffi::{OsStr, OsString};
 use std::os::unix::ffi::OsStrExt;
 
-use crate::commands::{check, compare, explore, listing, promela, show, table, timeline, trace};
+use crate::commands::{
+    check, compare, explore, listing, promela, show, size, table, timeline, trace,
+};
 use crate::figures::counted;
 use crate::{files, Failure, Status};
 
@@ -181,6 +183,19 @@ const COMMANDS: &[Command] = &[
         help: "Prints nothing. A refused model writes no file.",
         example: "futonkestrel table examples/lesson/model.bin table.bin",
         run: table::table,
+    },
+    Command {
+        name: "size",
+        operands: "MODEL",
+        options: &[],
+        about: "how long is the table made from a model?",
+        help: "\
+Prints 'bytes B rules R clauses C atoms A updates U' and makes no table: the bytes
+that 'table' writes, and the records of each kind among them (start records are
+counted in the bytes alone). A refused model is explained on standard error; the
+status is then 1.",
+        example: "futonkestrel size examples/lesson/model.bin",
+        run: size::size,
     },
     Command {
         name: "check",

@@ -13,6 +13,7 @@ pub mod explore;
 pub mod listing;
 pub mod promela;
 pub mod show;
+pub mod size;
 pub mod table;
 pub mod timeline;
 pub mod trace;
