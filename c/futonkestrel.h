@@ -81,7 +81,7 @@ size_t fk_table_index(const uint8_t *table, size_t table_count, size_t *index, s
 /* One event on the variables, which go one event further. Result: 0, or 9 to 13, or 8 as above; refused, the variables are untouched. The
  * event is the bytes of one record, no more. The index is the table's own, of any length; without one (NULL, 0) the table is walked, with the
  * same result. The table is not read for faults again: give one that fk_read_table has accepted. (Other bytes do no harm: their rules are
- * run as far as they can be read.) */
+ * run as far as they can be read. Many updates of variables that are not there make a step slow.) */
 uint32_t fk_table_step(const uint8_t *table, size_t table_count, const size_t *index, size_t index_count, int32_t *variables,
                        size_t variables_count, const uint8_t *event, size_t event_count);
 
