@@ -31,13 +31,7 @@ pub fn table_sizes(name: String, pair: &Pair) -> Measurement {
             assert_eq!(refusal, None, "accepted");
             last = black_box(told);
         }
-        let TableSize {
-            bytes,
-            rules,
-            clauses,
-            atoms,
-            updates,
-        } = last;
+        let [bytes, rules, clauses, atoms, updates] = last.told();
         done(size, &[0, 0, bytes, rules, clauses, atoms, updates])
     });
     measurement(name, pair, GOAL, usize::MAX, ours, plain)

@@ -1,38 +1,15 @@
-//! The model with the longest table: the most of every kind, all of it live from
-//! the start, and one thread with all behaviour and all connections.
+//! The model with the longest table.
+
+#[path = "../../plain/tests/models/longest.rs"]
+mod longest;
 
 use futonkestrel::{raw, read_model, read_table, translate, translate_to_vec, Refusal};
 use harness::records::table_records;
+use longest::longest_model;
 
 const LENGTH: usize = 171_189;
 /// Rules, clauses, atoms and updates.
 const RECORDS: [usize; 4] = [304, 3_264, 9_808, 4_448];
-
-fn longest_model() -> Vec<u8> {
-    let mut model = vec![0x01, 8, 1];
-    for _ in 0..16 {
-        model.push(0x02);
-        for figure in [4u32, 4, 1, 2] {
-            model.extend(figure.to_le_bytes());
-        }
-        model.extend([255, 0, 1]);
-    }
-    model.extend([0x03, 0].repeat(32));
-    model.extend([0x04, 15].repeat(32));
-    model.extend([0x05, 15, 7, 0, 0, 0].repeat(32));
-    for input in 0..32 {
-        model.extend([0x06, 0, 0, input, 255]);
-    }
-    model.extend([0x07, 0, 1].repeat(16));
-    for _ in 0..64 {
-        model.extend([0x08, 15, 0, 1]);
-        model.extend([0x09, 0, 2, 0, 0, 7, 0, 0, 0].repeat(4));
-        for local in 0..4 {
-            model.extend([0x0A, 2, local, 0, 0, 1, 0, 0, 0, 0, 0, 0, 0, 0]);
-        }
-    }
-    model
-}
 
 #[test]
 fn the_longest_table() {

@@ -21,6 +21,19 @@ pub struct TableSize {
     pub updates: usize,
 }
 
+impl TableSize {
+    /// Bytes, rules, clauses, atoms and updates, the order in which they are told.
+    pub fn told(self) -> [usize; 5] {
+        [
+            self.bytes,
+            self.rules,
+            self.clauses,
+            self.atoms,
+            self.updates,
+        ]
+    }
+}
+
 /// Reads a model and tells the size of its table. Nothing is written, so nothing
 /// is refused for want of room; where the model is refused, all counts are 0.
 pub fn table_size(model_bytes: &[u8]) -> (Option<Refusal>, TableSize) {

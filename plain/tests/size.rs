@@ -1,11 +1,14 @@
 //! The size of a model's table, told beforehand: that of the table which is then
 //! made, or nothing where the model is refused.
 
+#[path = "models/longest.rs"]
+mod longest;
 mod models;
 
 use std::fs;
 use std::path::Path;
 
+use longest::longest_model;
 use models::{damage, random_model, Random};
 use plain::size::{table_size, TableSize};
 use plain::table::{self, Rule, LONGEST_TABLE};
@@ -91,14 +94,7 @@ type Counts = [usize; 5];
 fn counts(model: &[u8]) -> Counts {
     let (refusal, size) = table_size(model);
     assert_eq!(refusal, None, "{model:02x?}");
-    let TableSize {
-        bytes,
-        rules,
-        clauses,
-        atoms,
-        updates,
-    } = size;
-    [bytes, rules, clauses, atoms, updates]
+    size.told()
 }
 
 /// Records of a model, and what each adds to the table, counted by hand in document
@@ -153,32 +149,6 @@ fn what_each_item_brings() {
         before = after;
     }
     assert_eq!(told_rightly(&model), 0);
-}
-
-/// The most of every kind, all of it live from the start, and one thread with
-/// all behaviour and all connections.
-fn longest_model() -> Vec<u8> {
-    let mut model = vec![0x01, 8, 1];
-    for _ in 0..16 {
-        model.push(0x02);
-        model.extend([4, 4, 1, 2].map(u32::to_le_bytes).concat());
-        model.extend([255, 0, 1]);
-    }
-    model.extend([0x03, 0].repeat(32));
-    model.extend([0x04, 15].repeat(32));
-    model.extend([0x05, 15, 7, 0, 0, 0].repeat(32));
-    for input in 0..32 {
-        model.extend([0x06, 0, 0, input, 255]);
-    }
-    model.extend([0x07, 0, 1].repeat(16));
-    for _ in 0..64 {
-        model.extend([0x08, 15, 0, 1]);
-        model.extend([0x09, 0, 2, 0, 0, 7, 0, 0, 0].repeat(4));
-        for local in 0..4 {
-            model.extend([0x0A, 2, local, 0, 0, 1, 0, 0, 0, 0, 0, 0, 0, 0]);
-        }
-    }
-    model
 }
 
 /// Where the first atom of that model stands.

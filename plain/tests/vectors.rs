@@ -18,7 +18,7 @@ use plain::model;
 use plain::refusal::Refusal;
 use plain::script::{run_on, Event};
 use plain::show::{show, without_idle_ends};
-use plain::size::{table_size, TableSize};
+use plain::size::table_size;
 use plain::table::{self, Table, Variables, LONGEST_TABLE};
 use plain::translate::{table_of, translate};
 use std::collections::BTreeMap;
@@ -145,14 +145,8 @@ fn told_size(model_bytes: &[u8]) -> String {
     match table_size(model_bytes) {
         (Some(refusal), _) => refused(&refusal),
         (None, size) => {
-            let TableSize {
-                bytes,
-                rules,
-                clauses,
-                atoms,
-                updates,
-            } = size;
-            format!("ok {bytes} {rules} {clauses} {atoms} {updates}\n")
+            let counts = size.told().map(|count| count.to_string());
+            format!("ok {}\n", counts.join(" "))
         }
     }
 }

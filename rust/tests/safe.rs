@@ -1,19 +1,19 @@
 //! The safe functions, on document 01's model M and on bytes that are refused.
 
 mod common;
+#[path = "../../plain/tests/models/longest.rs"]
+mod longest;
 
 use std::collections::BTreeSet;
 
-use common::{
-    counted, longest_model, table_of_m, BYTE, DUE, LESSON, LISTING, M, NOW, SCRIPT, SIZE_OF_M,
-    STATE,
-};
+use common::{counted, table_of_m, BYTE, DUE, LESSON, LISTING, M, NOW, SCRIPT, SIZE_OF_M, STATE};
 use futonkestrel::refusals::{meaning_of, Holder, MEANINGS};
 use futonkestrel::{
     event_length, events, model_after, model_listing, model_listing_into, read_model, read_table,
     run_model, run_table, table_listing, table_listing_into, table_size, translate,
     translate_to_vec, Enabled, Model, Offer, Refusal, Run, Table, ROOM_FOR_TABLE, VARIABLES,
 };
+use longest::longest_model;
 
 fn refused<T>(number: u32, start: usize, end: usize) -> Result<T, Refusal> {
     Err(Refusal { number, start, end })

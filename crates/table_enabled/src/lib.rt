@@ -24,7 +24,7 @@ ghost use Rattle.table_semantics.specs.Runs.{values};
 ghost use Rattle.table_rules.specs.At.{rulesFrom};
 ghost use Rattle.table_index.specs.Index.{listed, rulesBy};
 ghost use Rattle.enabled.specs.Told.{toldOf, listOf};
-ghost use Rattle.table_offers.specs.Adds.{Told, GoesOn};
+ghost use Rattle.table_offers.specs.Adds.{countEnd, Told, GoesOn};
 ghost use Rattle.table_enabled.specs.EnabledBy.{offersIn, mayTickIn, enabledBy, listBy};
 ghost use Rattle.table_enabled.specs.Walk.{Looks, ruleListed, rulesOf};
 
@@ -41,7 +41,7 @@ fn look_listed(
     word: usize,
     guard: usize,
 ) -> Seen
-    requires { ⌜ seen .count + 1 < 18446744073709551616 ⌝ }
+    requires { ⌜ seen .count + 1 < countEnd ⌝ }
     ensures { λ r. ⌜ Looks (values (now (bits .entry))) (ruleListed (now (table .entry)) word guard) seen (now (output .entry)) r (now (output .exit)) ⌝ }
 {
     let at = word / KEYS;
@@ -85,7 +85,7 @@ fn look_record(
     next: usize,
     part: &[u8],
 ) -> Seen
-    requires { ⌜ seen .count + 1 < 18446744073709551616 ⌝ }
+    requires { ⌜ seen .count + 1 < countEnd ⌝ }
     ensures { λ r. ⌜ Looks (values (now (bits .entry))) (rulesOf (now (table .entry)) next (recordOf (now (part .entry)))) seen (now (output .entry)) r (now (output .exit)) ⌝ }
 {
     if table_format::kind_of(part) != TABLE_RULE {
@@ -99,7 +99,7 @@ fn look_record(
 
 // The rules of the records from a place on.
 fn look_from(table: &[u8], from: usize, bits: &[u32], output: &mut [u32], before: Seen) -> Seen
-    requires { ⌜ before .count + length (now table) < 18446744073709551616 ⌝ }
+    requires { ⌜ before .count + length (now table) < countEnd ⌝ }
     ensures { λ r. ⌜ GoesOn (values (now (bits .entry))) (rulesFrom (now (table .entry)) from) before (now (output .entry)) r (now (output .exit)) ⌝ }
 {
     let mut seen = before;

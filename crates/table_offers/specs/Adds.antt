@@ -16,6 +16,10 @@ use Rattle.enabled.specs.Enabled.{numbersOf, tableOffers}
 use Rattle.enabled.specs.Told.{offerSize}
 use Rattle.table_offers.specs.declared.Seen.{Seen}
 
+-- a count has 64 bits: each lies below
+abbrev pub countEnd : ℕ
+countEnd = 18446744073709551616
+
 -- after some rules. Where there is no room for all of the list, nothing is said of its numbers
 pub record Told (values : List Value) (rules : List Rule) (before : List ℕ) (seen : Seen) (output : List ℕ) : Type 0 where
   pub count : seen .count ≡ length (tableOffers rules values)

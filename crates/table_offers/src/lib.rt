@@ -9,7 +9,7 @@ ghost use Prim.Native.Nat.{_+_, _*_, _<_, _≤_};
 ghost use lib.ListN.{length};
 ghost use Rattle.enabled.specs.Enabled.{lengthIn, offerBy};
 ghost use Rattle.enabled.specs.Told.{offerSize};
-ghost use Rattle.table_offers.specs.Adds.{Adds};
+ghost use Rattle.table_offers.specs.Adds.{countEnd, Adds};
 ghost use Rattle.table_offers.specs.Inserted.{rankAt, placeIn, movedUp, inserted};
 
 // What a walk over rules has seen: how many are enabled for an event, and whether some enabled one stops a tick.
@@ -88,7 +88,7 @@ fn insert(output: &mut [u32], count: usize, head: RuleHead)
 
 // An enabled rule more. It stops a tick where it is for another event than REQUEST, and is for an event where its kind is one.
 pub fn add_enabled(output: &mut [u32], seen: Seen, head: RuleHead) -> Seen
-    requires { ⌜ seen .count + 1 < 18446744073709551616 ⌝ }
+    requires { ⌜ seen .count + 1 < countEnd ⌝ }
     ensures { λ r. ⌜ Adds head seen (now (output .entry)) r (now (output .exit)) ⌝ }
 {
     let kind = head.kind;

@@ -78,29 +78,3 @@ pub fn counted(table: &[u8]) -> Size {
 
 /// The lesson of a pad, which has all kinds of records.
 pub const LESSON: &[u8] = include_bytes!("../../../examples/lesson/model.bin");
-
-/// The most of every kind, all of it live from the start, and one thread with all
-/// behaviour and all outputs: no model has a longer table.
-pub fn longest_model() -> Vec<u8> {
-    let thread = [
-        0x02, 4, 0, 0, 0, 4, 0, 0, 0, 1, 0, 0, 0, 2, 0, 0, 0, 255, 0, 1,
-    ];
-    let connections = (0..32).flat_map(|input| [0x06, 0, 0, input, 255]);
-    let assign = |local| [0x0A, 2, local, 0, 0, 1, 0, 0, 0, 0, 0, 0, 0, 0];
-    let behaviour = [
-        &[0x08, 15, 0, 1][..],
-        &[0x09, 0, 2, 0, 0, 7, 0, 0, 0].repeat(4),
-        &[0, 1, 2, 3].map(assign).concat(),
-    ];
-    [
-        &[0x01, 8, 1][..],
-        &thread.repeat(16),
-        &[0x03, 0].repeat(32),
-        &[0x04, 15].repeat(32),
-        &[0x05, 15, 7, 0, 0, 0].repeat(32),
-        &connections.collect::<Vec<u8>>(),
-        &[0x07, 0, 1].repeat(16),
-        &behaviour.concat().repeat(64),
-    ]
-    .concat()
-}
