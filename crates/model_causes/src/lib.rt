@@ -1,5 +1,9 @@
 // Why a record is refused where a reader stands that keeps its model in a lent list of numbers.
 
+mod fits;
+
+use crate::fits::assignment_fits;
+use crate::fits::atom_fits;
 use model_faults::Found;
 use model_faults::Stand;
 use model_faults::assignment_cause;
@@ -222,8 +226,11 @@ pub fn cause_of_transition(model: &[u32], last: u8, transition: Transition) -> C
 pub fn cause_of_atom(model: &[u32], last: u8, atom: Atom) -> Cause
     ensures { λ cause. ⌜ cause ≡ reading.causeOf (readings.readingIn last (now (model .entry))) (variants.AtomRecord atom) ⌝ }
 {
-    let order = !in_order(last, ATOM_RANK);
     let open = transition_at(model, last_transition(model));
+    if atom_fits(model, last, open, atom) {
+        return Cause::None;
+    }
+    let order = !in_order(last, ATOM_RANK);
     let left = is_owned_by(model, open.thread, atom.tag, usize_of_u16(atom.number));
     let right = operand_owned(model, open.thread, atom.right);
     atom_cause(order, stand_of(model, last), open, left & right, atom)
@@ -232,9 +239,12 @@ pub fn cause_of_atom(model: &[u32], last: u8, atom: Atom) -> Cause
 pub fn cause_of_assignment(model: &[u32], last: u8, assignment: Assignment) -> Cause
     ensures { λ cause. ⌜ cause ≡ reading.causeOf (readings.readingIn last (now (model .entry))) (variants.AssignmentRecord assignment) ⌝ }
 {
-    let order = !in_order(last, ASSIGNMENT_RANK);
     let current = last_transition(model);
     let open = transition_at(model, current);
+    if assignment_fits(model, last, current, open, assignment) {
+        return Cause::None;
+    }
+    let order = !in_order(last, ASSIGNMENT_RANK);
     let target = is_owned_by(
         model,
         open.thread,

@@ -64,7 +64,7 @@ const LONGEST_HYPERPERIOD: u64 = LAST_CLOCK as u64;
 const MAX_STATES: u8 = 8;
 
 // Atoms or assignments of a transition, which bytes count.
-const MAX_EACH_BYTE: u8 = model_format::MAX_EACH as u8;
+pub const MAX_EACH_BYTE: u8 = model_format::MAX_EACH as u8;
 
 // How many there are of: what a mark says, kinds of connections, tags of operands, comparisons, operations.
 const MARKS: u8 = 2;
@@ -73,9 +73,9 @@ const CONNECTION_KINDS: u8 = 2;
 
 const OPERAND_TAGS: u8 = 3;
 
-const COMPARISONS: u8 = 6;
+pub const COMPARISONS: u8 = 6;
 
-const OPERATIONS: u8 = 3;
+pub const OPERATIONS: u8 = 3;
 
 // The kind that one of kinds 01 to 08 may not fall below.
 fn least_kind(last: u8) -> u8
@@ -151,7 +151,7 @@ pub fn number_in(operand: Operand) -> usize
     bits as usize
 }
 
-fn operand_tag(operand: Operand) -> bool
+pub fn operand_tag(operand: Operand) -> bool
     ensures { λ r. ⌜ r ≡ reading.operandTag operand ⌝ }
 {
     let tag = operand.tag;
@@ -170,14 +170,14 @@ fn operand_names(stand: Stand, operand: Operand) -> bool
     }
 }
 
-fn left_tag(atom: Atom) -> bool
+pub fn left_tag(atom: Atom) -> bool
     ensures { λ r. ⌜ r ≡ reading.leftTag atom ⌝ }
 {
     let tag = atom.tag;
     (tag == INPUT_TAG) | (tag == LOCAL_TAG)
 }
 
-fn target_tag(assignment: Assignment) -> bool
+pub fn target_tag(assignment: Assignment) -> bool
     ensures { λ r. ⌜ r ≡ reading.targetTag assignment ⌝ }
 {
     let tag = assignment.tag;
