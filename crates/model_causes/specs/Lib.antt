@@ -1,3 +1,3 @@
-pub mod Fits
 pub mod Readings
 pub mod Searches
+pub mod Fits

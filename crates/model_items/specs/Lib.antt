@@ -2,3 +2,4 @@ pub mod Replaced
 pub mod Kept
 pub mod Changed
 pub mod Stored
+pub mod Counted

@@ -9,8 +9,8 @@ use Rattle.model_format.specs.declared.Transition.{Transition}
 use Rattle.model_format.specs.declared.Atom.{Atom}
 use Rattle.model_format.specs.declared.Assignment.{Assignment}
 use Rattle.model_format.specs.declared.Model.{Model}
-use Rattle.model_format.specs.Reading.{withTiming, withBehavior}
-use Rattle.model_format.specs.Model.{withThreads, withInputs, withOutputs, withLocals, withConnections, withSwitches, maxThreads, maxInputs, maxOutputs, maxLocals, maxConnections, maxSwitches, maxTransitions, maxTimes}
+use Rattle.model_format.specs.Reading.{withTiming, withBehavior, withCounts}
+use Rattle.model_format.specs.Model.{transitionAt, withThreads, withInputs, withOutputs, withLocals, withConnections, withSwitches, maxThreads, maxInputs, maxOutputs, maxLocals, maxConnections, maxSwitches, maxTransitions, maxTimes}
 
 abbrev pub withThread : Model → ℕ → Thread → Model
 withThread m i x = withTiming m (withThreads (m .timing) (m .timing .threads) (store maxThreads (m .timing .thread) i x))
@@ -32,6 +32,13 @@ withSwitch m i x = withTiming m (withSwitches (m .timing) (m .timing .switches) 
 
 abbrev pub withTransition : Model → ℕ → Transition → Model
 withTransition m i x = withBehavior m (record { transitions = m .behavior .transitions; transition = store maxTransitions (m .behavior .transition) i x; atom = m .behavior .atom; assignment = m .behavior .assignment })
+
+-- with another count of its atoms, or of its assignments
+abbrev pub withAtomCount : Model → ℕ → ℕ → Model
+withAtomCount m i n = let x = transitionAt (m .behavior) i in withTransition m i (withCounts x n (x .assignments))
+
+abbrev pub withAssignmentCount : Model → ℕ → ℕ → Model
+withAssignmentCount m i n = let x = transitionAt (m .behavior) i in withTransition m i (withCounts x (x .atoms) n)
 
 abbrev pub withAtom : Model → ℕ → Atom → Model
 withAtom m i x = withBehavior m (record { transitions = m .behavior .transitions; transition = m .behavior .transition; atom = store maxTimes (m .behavior .atom) i x; assignment = m .behavior .assignment })

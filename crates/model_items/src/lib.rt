@@ -41,6 +41,11 @@ ghost use Rattle.numbers.specs.Values as values;
 ghost use Rattle.model_words.specs.Words.{modelWords, modelIn};
 ghost use Rattle.model_items.specs.Replaced as replaced;
 
+// Which of the numbers of a transition says how many atoms it has, and which how many assignments.
+const ATOMS_FIELD: usize = 3;
+
+const ASSIGNMENTS_FIELD: usize = 4;
+
 // The bits of a value, which stand for it.
 fn bits_of(value: Value) -> u32
     ensures { λ r. ⌜ (r ≡ values.bitsOf (value .0)) × (values.signed (values.bitsOf (value .0)) ≡ value .0) ⌝ }
@@ -157,6 +162,36 @@ pub fn put_transition(model: &mut [u32], i: usize, transition: Transition)
         transition.assignments as u32,
     ];
     put_numbers(model, TRANSITIONS_FROM + i * TRANSITION_SIZE, &fields);
+}
+
+// How many atoms transition i has: the rest of it stays.
+pub fn put_atom_count(model: &mut [u32], i: usize, count: u8)
+    requires { ⌜ modelWords ≤ length (now model) ⌝ }
+    ensures { λ _. ⌜ modelIn (now (model .exit)) ≡ replaced.withAtomCount (modelIn (now (model .entry))) i count ⌝ }
+{
+    if MAX_TRANSITIONS <= i {
+        return;
+    }
+    put_word(
+        model,
+        TRANSITIONS_FROM + i * TRANSITION_SIZE + ATOMS_FIELD,
+        count as u32,
+    );
+}
+
+// How many assignments it has.
+pub fn put_assignment_count(model: &mut [u32], i: usize, count: u8)
+    requires { ⌜ modelWords ≤ length (now model) ⌝ }
+    ensures { λ _. ⌜ modelIn (now (model .exit)) ≡ replaced.withAssignmentCount (modelIn (now (model .entry))) i count ⌝ }
+{
+    if MAX_TRANSITIONS <= i {
+        return;
+    }
+    put_word(
+        model,
+        TRANSITIONS_FROM + i * TRANSITION_SIZE + ASSIGNMENTS_FIELD,
+        count as u32,
+    );
 }
 
 pub fn put_atom(model: &mut [u32], i: usize, atom: Atom)

@@ -21,9 +21,9 @@ use Rattle.model_format.specs.declared.Behavior.{Behavior}
 use Rattle.model_format.specs.declared.Model.{Model}
 use Rattle.model_format.specs.declared.Record.the-variants.{HeadRecord, ThreadRecord, InputRecord, OutputRecord, LocalRecord, ConnectionRecord, ModeRecord, TransitionRecord, AtomRecord, AssignmentRecord}
 use Rattle.model_format.specs.Model.{maxEach, maxTimes, transitionAt, h1Of, h2Of}
-use Rattle.model_format.specs.Reading.{lastTransition, withCounts, addHead, addThread, addInput, addOutput, addLocal, addConnection, addSwitch, addTransition, addAtom, addAssignment, addRecord}
+use Rattle.model_format.specs.Reading.{lastTransition, addHead, addThread, addInput, addOutput, addLocal, addConnection, addSwitch, addTransition, addAtom, addAssignment, addRecord}
 use Rattle.model_words.specs.Words.{modesPlace, initialPlace, threadsPlace, inputsPlace, outputsPlace, localsPlace, connectionsPlace, switchesPlace, transitionsPlace, modelWords, timingIn, behaviorIn, modelIn}
-use Rattle.model_items.specs.Replaced.{withThread, withInput, withOutput, withLocal, withConnection, withSwitch, withTransition, withAtom, withAssignment}
+use Rattle.model_items.specs.Replaced.{withThread, withInput, withOutput, withLocal, withConnection, withSwitch, withTransition, withAtomCount, withAssignmentCount, withAtom, withAssignment}
 use Rattle.model_items.specs.Kept.{Changed, number-kept, threads-kept, inputs-kept, outputs-kept, locals-kept, connections-kept, switches-kept, transitions-kept, atoms-kept, assignments-kept}
 use Rattle.model_items.specs.Stored.{put-changed, put-at}
 use Rattle.model_writer.specs.Counts.{threads-counted, inputs-counted, outputs-counted, locals-counted, connections-counted, switches-counted, transitions-counted}
@@ -106,15 +106,15 @@ store-drawn room l i n a e = go (decLt n room)
     go (yes h) = let z : i ≡ n = omega arith in rw z
     go (no h) = store-past room l i a (omega arith) ∙ sym (store-past room l n a (omega arith))
 
--- of the last transition, x, which becomes y
-module _ (l l₁ l₂ : List ℕ) (k i j : ℕ) (x y : Transition) (f : k ≡ lastTransition (behaviorIn l)) (g : x ≡ transitionAt (behaviorIn l) k)
-    (d : i ≡ min (k * maxEach + j) maxTimes) (w : modelIn l₁ ≡ withTransition (modelIn l) k y) where
-  pub atom-added : (a : Atom) → y ≡ withCounts x (x .atoms + 1) (x .assignments) → j ≡ x .atoms → modelIn l₂ ≡ withAtom (modelIn l₁) i a → modelIn l₂ ≡ addRecord (modelIn l) (AtomRecord a)
+-- of the last transition, x
+module _ (l l₁ l₂ : List ℕ) (k i j : ℕ) (x : Transition) (f : k ≡ lastTransition (behaviorIn l)) (g : x ≡ transitionAt (behaviorIn l) k)
+    (d : i ≡ min (k * maxEach + j) maxTimes) where
+  pub atom-added : (a : Atom) → modelIn l₁ ≡ withAtomCount (modelIn l) k (x .atoms + 1) → j ≡ x .atoms → modelIn l₂ ≡ withAtom (modelIn l₁) i a → modelIn l₂ ≡ addRecord (modelIn l) (AtomRecord a)
   unfolding addRecord addAtom
-  atom-added a h q v =
-      v ∙ rw (timing-of _ _ w, behavior-of _ _ w, store-drawn maxTimes (behaviorIn l .atom) i (k * maxEach + j) a d, q, h, g, f)
+  atom-added a w q v =
+      v ∙ rw (timing-of _ _ w, behavior-of _ _ w, store-drawn maxTimes (behaviorIn l .atom) i (k * maxEach + j) a d, q, g, f)
 
-  pub assignment-added : (a : Assignment) → y ≡ withCounts x (x .atoms) (x .assignments + 1) → j ≡ x .assignments → modelIn l₂ ≡ withAssignment (modelIn l₁) i a → modelIn l₂ ≡ addRecord (modelIn l) (AssignmentRecord a)
+  pub assignment-added : (a : Assignment) → modelIn l₁ ≡ withAssignmentCount (modelIn l) k (x .assignments + 1) → j ≡ x .assignments → modelIn l₂ ≡ withAssignment (modelIn l₁) i a → modelIn l₂ ≡ addRecord (modelIn l) (AssignmentRecord a)
   unfolding addRecord addAssignment
-  assignment-added a h q v =
-      v ∙ rw (timing-of _ _ w, behavior-of _ _ w, store-drawn maxTimes (behaviorIn l .assignment) i (k * maxEach + j) a d, q, h, g, f)
+  assignment-added a w q v =
+      v ∙ rw (timing-of _ _ w, behavior-of _ _ w, store-drawn maxTimes (behaviorIn l .assignment) i (k * maxEach + j) a d, q, g, f)

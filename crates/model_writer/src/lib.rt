@@ -10,7 +10,9 @@ use model_format::Thread;
 use model_format::Transition;
 use model_format::place;
 use model_items::put_assignment;
+use model_items::put_assignment_count;
 use model_items::put_atom;
+use model_items::put_atom_count;
 use model_items::put_connection;
 use model_items::put_input;
 use model_items::put_local;
@@ -145,18 +147,6 @@ pub fn add_transition(model: &mut [u32], transition: Transition)
 }
 
 // ---- atoms and assignments belong to the last transition
-fn with_counts(transition: Transition, atoms: u8, assignments: u8) -> Transition
-    ensures { λ r. ⌜ r ≡ reading.withCounts transition atoms assignments ⌝ }
-{
-    Transition {
-        thread: transition.thread,
-        from: transition.from,
-        to: transition.to,
-        atoms: atoms,
-        assignments: assignments,
-    }
-}
-
 pub fn add_atom(model: &mut [u32], atom: Atom)
     requires { ⌜ words.modelWords ≤ length (now model) ⌝ }
     requires { ⌜ models.transitionAt (words.behaviorIn (now model)) (reading.lastTransition (words.behaviorIn (now model))) .atoms < models.maxEach ⌝ }
@@ -164,8 +154,7 @@ pub fn add_atom(model: &mut [u32], atom: Atom)
 {
     let number = last_transition(model);
     let old = transition_at(model, number);
-    let new = with_counts(old, old.atoms + 1, old.assignments);
-    put_transition(model, number, new);
+    put_atom_count(model, number, old.atoms + 1);
     put_atom(model, place(number, usize_of_u8(old.atoms)), atom);
 }
 
@@ -176,8 +165,7 @@ pub fn add_assignment(model: &mut [u32], assignment: Assignment)
 {
     let number = last_transition(model);
     let old = transition_at(model, number);
-    let new = with_counts(old, old.atoms, old.assignments + 1);
-    put_transition(model, number, new);
+    put_assignment_count(model, number, old.assignments + 1);
     put_assignment(
         model,
         place(number, usize_of_u8(old.assignments)),

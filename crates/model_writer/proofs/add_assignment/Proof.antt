@@ -9,14 +9,11 @@ last-transition-requires c κs = search needs
 transition-at-requires : tie.Need-transition-at-requires
 transition-at-requires c κs = search needs
 
-add-with-counts : tie.Need-add-with-counts
-add-with-counts c = let h = assignment-room _ _ _ (c .before .before .before .last-transition .ensures) (c .before .transition-at .ensures) (c .before .before .before .before .before .before .pre .1) in search needs
+add-put-assignment-count : tie.Need-add-put-assignment-count
+add-put-assignment-count c = let h = assignment-room _ _ _ (c .before .before .before .before .last-transition .ensures) (c .before .before .transition-at .ensures) (c .before .before .before .before .before .before .before .pre .1) in search needs
 
-with-counts-requires : tie.Need-with-counts-requires
-with-counts-requires c κs = search needs
-
-put-transition-requires : tie.Need-put-transition-requires
-put-transition-requires c κs = search needs
+put-assignment-count-requires : tie.Need-put-assignment-count-requires
+put-assignment-count-requires c κs = search needs
 
 usize-of-u8-requires : tie.Need-usize-of-u8-requires
 usize-of-u8-requires c κs = search needs
@@ -31,7 +28,7 @@ same-length : tie.Need-same-length
 same-length c = search needs
 
 returns : tie.Need-returns
-returns c = assignment-added (c .before .before .before .before .before .before .before .before .before .before .before .before .before .before .before .before .before .args .model .now) _ _ _ _ _ _ _ (c .before .before .before .before .before .before .before .before .before .before .before .before .before .before .last-transition .ensures) (c .before .before .before .before .before .before .before .before .before .before .before .before .transition-at .ensures) (c .before .before .before .place .ensures) (c .before .before .before .before .before .before .before .before .put-transition .ensures) _ (c .before .before .before .before .before .before .before .before .before .before .with-counts .ensures) (c .before .before .before .before .usize-of-u8 .ensures .0) (c .before .before .put-assignment .ensures)
+returns c = assignment-added (c .before .before .before .before .before .before .before .before .before .before .before .before .before .before .before .before .args .model .now) _ _ _ _ _ _ (c .before .before .before .before .before .before .before .before .before .before .before .before .before .last-transition .ensures) (c .before .before .before .before .before .before .before .before .before .before .before .transition-at .ensures) (c .before .before .before .place .ensures) _ (c .before .before .before .before .before .before .before .before .put-assignment-count .ensures) (c .before .before .before .before .usize-of-u8 .ensures .0) (c .before .before .put-assignment .ensures)
 
 pub add-assignment-spec : {M : Type 1} → statement M
 add-assignment-spec =
@@ -39,9 +36,8 @@ add-assignment-spec =
     (tie.spec
     last-transition-requires
     transition-at-requires
-    add-with-counts
-    with-counts-requires
-    put-transition-requires
+    add-put-assignment-count
+    put-assignment-count-requires
     usize-of-u8-requires
     place-requires
     put-assignment-requires
