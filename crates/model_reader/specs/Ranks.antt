@@ -1,11 +1,12 @@
--- The rank of a record by its bytes.
-use mathlib.Core.Path.{_≡_, refl, _∙_, ap}
+-- The rank and the size of a record by its bytes.
+use mathlib.Core.Path.{_≡_, refl, sym, _∙_, ap}
 use mathlib.Core.Bool.{true}
 use mathlib.Core.List.{List}
 use native.Mathlib.Decide.{ℕ-discrete, decLt}
-use Prim.Native.Nat.{ℕ, _<_}
+use Prim.Native.Nat.{ℕ, _<_, _≤_}
 use native.Mathlib.Omega.{arith}
-use lib.ListN.{length, getD}
+use lib.ListN.{length, getD, take}
+use lib.Seq.{take-all, length-take-le}
 use borrow.Author.Tests.{ne-eqb}
 use Rattle.records.specs.declared.Notation.the-variants as notations
 use Rattle.records.specs.Format.{recordSize}
@@ -54,3 +55,26 @@ rank-of-part a x k e h = go (ℕ-discrete m 0) (decLt (length x) m)
     go (yes z) l = absurd (no-cause-unknown a (rw (← record-unknown x k m e refl z) at h))
     go (no z) (yes l) = absurd (no-cause-cut a (rw (← record-cut x k m e refl z l) at h))
     go (no z) (no l) = rank-of-whole k x z ∙ ap rankOf (record-whole x k m e refl z (omega arith))
+
+-- ---- sizes
+pub sized : (k j n : ℕ) → k ≡ j → n ≡ recordSize notations.Model j → n ≡ recordSize notations.Model k
+sized k j n e f = rw e f
+
+-- what is none of the other kinds
+pub sized-last : (k : ℕ) → (k ≡ 1 → ⊥) → (k ≡ 2 → ⊥) → (k ≡ 3 → ⊥) → (k ≡ 4 → ⊥) → (k ≡ 5 → ⊥) → (k ≡ 6 → ⊥) → (k ≡ 7 → ⊥) → (k ≡ 8 → ⊥) → (k ≡ 9 → ⊥) → 0 < recordSize notations.Model k → 14 ≡ recordSize notations.Model k
+unfolding recordSize
+sized-last k a b c d f g i j l h = go (ℕ-discrete k 10)
+  where
+    go : Dec (k ≡ 10) → 14 ≡ recordSize notations.Model k
+    go (yes e) = rw e
+    go (no m) =
+        let z : recordSize notations.Model k ≡ 0 = rw (ne-eqb k 1 a, ne-eqb k 2 b, ne-eqb k 3 c, ne-eqb k 4 d, ne-eqb k 5 f, ne-eqb k 6 g, ne-eqb k 7 i, ne-eqb k 8 j, ne-eqb k 9 l, ne-eqb k 10 m) in
+        absurd (omega (arith, z, h))
+
+-- the code's &x[..n], where n is the size of the record x
+module _ (x : List ℕ) (k n : ℕ) (h : length x ≡ recordSize notations.Model k) (e : n ≡ recordSize notations.Model k) where
+  pub cut-length : n ≡ length (take n x)
+  cut-length = let w = h ∙ sym e in sym (length-take-le n x (omega arith))
+
+  pub cut-whole : take n x ≡ x
+  cut-whole = let w = h ∙ sym e in take-all n x (omega arith)

@@ -2,29 +2,36 @@
 use mathlib.Core.Path.{_≡_, refl, sym, _∙_, ap}
 use mathlib.Core.Bool.{Bool, true, false, cond}
 use mathlib.Core.List.{List}
-use Prim.Native.Nat.{ℕ, _-_, _<_, _≤_}
-use lib.ListN.{length, take, drop, getD}
+use Prim.Native.Nat.{ℕ, _+_, _-_, _<_, _≤_}
+use native.Mathlib.Omega.{arith}
+use lib.ListN.{length, take, drop, getD, length-drop}
+use lib.Seq.{length-take-le}
 use borrow.Author.Tests.{eq-eqb, ne-eqb}
 use Rattle.records.specs.declared.Notation.the-variants as notations
 use Rattle.records.specs.declared.Cause.{Cause}
-use Rattle.records.specs.declared.Cause.the-variants.{WrongKind}
+use Rattle.records.specs.declared.Cause.the-variants.{WrongKind, CutRecord}
 use Rattle.records.specs.declared.Refusal.{Refusal}
-use Rattle.records.specs.Format.{parts}
+use Rattle.records.specs.Format.{recordSize, parts}
 use Rattle.records.specs.Walk.{part-size, parts-at, parts-end}
 use Rattle.records.specs.Refusals.{numberOf, isNone, inModel, noRefusal}
 use Rattle.model_format.specs.declared.Model.{Model}
 use Rattle.model_format.specs.declared.ModelRead.{ModelRead}
 use Rattle.model_format.specs.declared.Reading.{Reading}
-use Rattle.model_format.specs.Format.{recordOf, rankOf}
+use Rattle.model_format.specs.Format.{recordOfWhole, recordOf, rankOf}
+use Rattle.model_format.specs.Laws.{record-unknown, record-cut, record-whole}
 use Rattle.model_format.specs.Model.{emptyModel}
 use Rattle.model_format.specs.Reading.{nextReading, readFrom, readModel}
 use Rattle.model_words.specs.Words.{modelIn}
 use Rattle.model_causes.specs.Readings.{readingIn}
 use Rattle.model_reader.specs.Reads.{readAs}
 use Rattle.model_takes.specs.Took.{taken, Took}
-use Rattle.model_takes.specs.Taken.{took-as}
-use Rattle.model_reader.specs.Places.{endAt, recordAt, record-slice}
+use Rattle.model_takes.specs.Taken.{took-as, took-unknown, took-cut}
+use Rattle.model_reader.specs.Places.{endAt, recordAt, record-slice, kind-slice, end-unknown, end-cut, end-whole}
 use Rattle.model_reader.specs.Ranks.{rank-of-part}
+
+-- the code's &s[p..q]
+slice-length : (q : ℕ) (s : List ℕ) (p : ℕ) → p ≤ q → q ≤ length s → length (take (q - p) (drop p s)) ≡ q - p
+slice-length q s p h l = length-take-le (q - p) (drop p s) (simp length-drop (omega arith))
 
 abbrev pub readAt : List ℕ → ℕ → Reading → ModelRead
 readAt s p a = readFrom a p (parts notations.Model (drop p s))
@@ -44,7 +51,7 @@ module _ (s : List ℕ) (p q last : ℕ) (l : List ℕ) (c : Cause) (l′ : List
   took-at : Took last l (recordAt s p) c l′
   took-at = took-as last l _ _ c l′ t (record-slice s p q e)
 
-  pub read-on : (k : ℕ) → k ≡ getD (take (q - p) (drop p s)) 0 0 → isNone c ≡ true → readAt s q (readingIn k l′) ≡ readAt s p (readingIn last l)
+  read-on : (k : ℕ) → k ≡ getD (take (q - p) (drop p s)) 0 0 → isNone c ≡ true → readAt s q (readingIn k l′) ≡ readAt s p (readingIn last l)
   unfolding readFrom taken
   read-on k i n =
       let g = took-at .0 in
@@ -52,12 +59,47 @@ module _ (s : List ℕ) (p q last : ℕ) (l : List ℕ) (c : Cause) (l′ : List
       let b : readingIn k l′ ≡ nextReading (readingIn last l) (recordAt s p) = rw f (ap (λ (m : Model). record { last = rankOf (recordAt s p); model = m }) (took-at .1 ∙ rw n)) in
       rw (e, parts-at notations.Model s p _ h refl, ← g, n, part-size notations.Model s p _ h refl, b)
 
-  pub read-refused : (y : Refusal) → isNone c ≡ false → y ≡ inModel c p q → readWith y l′ ≡ readAt s p (readingIn last l)
+  read-refused : (y : Refusal) → isNone c ≡ false → y ≡ inModel c p q → readWith y l′ ≡ readAt s p (readingIn last l)
   unfolding readFrom
   read-refused y n i =
       let g = took-at .0 in
       let z : refusedAt c p q ≡ readAt s p (readingIn last l) = rw (e, parts-at notations.Model s p _ h refl, ← g, n, part-size notations.Model s p _ h refl) in
       ap (λ (w : Refusal). readWith w l′) i ∙ ap (λ (b : Bool). record { refusal = inModel c p q; model = cond b (modelIn l′) emptyModel }) n ∙ z
+
+-- by the size m of records of its kind k
+module _ (s : List ℕ) (p k m last : ℕ) (l : List ℕ) (h : p < length s) (b : k ≡ getD s p 0) (f : m ≡ recordSize notations.Model k) where
+  pub read-unknown : (y : Refusal) → m ≡ 0 → y ≡ inModel WrongKind p (length s) → readWith y l ≡ readAt s p (readingIn last l)
+  unfolding numberOf
+  read-unknown y z i =
+      let e = end-unknown s p k m h b f z in
+      read-refused s p (length s) last l WrongKind l h e (took-unknown last l _ (record-unknown _ k m (b ∙ kind-slice s p (length s) h e) f z)) y refl i
+
+  pub read-cut : (y : Refusal) → (m ≡ 0 → ⊥) → length s - p < m → y ≡ inModel CutRecord p (length s) → readWith y l ≡ readAt s p (readingIn last l)
+  unfolding numberOf
+  read-cut y z c i =
+      let e = end-cut s p k m h b f z c in
+      let n : length (take (length s - p) (drop p s)) < m = let w = slice-length (length s) s p (omega arith) (omega arith) in omega arith in
+      read-refused s p (length s) last l CutRecord l h e (took-cut last l _ (record-cut _ k m (b ∙ kind-slice s p (length s) h e) f z n)) y refl i
+
+  module _ (q : ℕ) (e : q ≡ p + m) (z : m ≡ 0 → ⊥) (w : m ≤ length s - p) where
+    pub whole-part : (length (take (q - p) (drop p s)) ≡ recordSize notations.Model k) × (0 < length (take (q - p) (drop p s)))
+    whole-part =
+        let n = slice-length q s p (omega arith) (omega arith) in
+        let d : length (take (q - p) (drop p s)) ≡ m = omega arith in
+        (d ∙ f, omega arith)
+
+    whole-end : q ≡ endAt s p
+    whole-end = e ∙ end-whole s p k m h b f z w
+
+    module _ (c : Cause) (l′ : List ℕ) (t : Took last l (recordOfWhole k (take (q - p) (drop p s))) c l′) where
+      took-whole : Took last l (recordOf (take (q - p) (drop p s))) c l′
+      took-whole = took-as last l _ _ c l′ t (record-whole _ k m (b ∙ kind-slice s p q h whole-end) f z (omega (arith, whole-part .0, f)))
+
+      pub whole-on : isNone c ≡ true → readAt s q (readingIn k l′) ≡ readAt s p (readingIn last l)
+      whole-on n = read-on s p q last l c l′ h whole-end took-whole k (b ∙ kind-slice s p q h whole-end) n
+
+      pub whole-refused : (y : Refusal) → isNone c ≡ false → y ≡ inModel c p q → readWith y l′ ≡ readAt s p (readingIn last l)
+      whole-refused y n i = read-refused s p q last l c l′ h whole-end took-whole y n i
 
 module _ (s : List ℕ) (p last : ℕ) (l : List ℕ) (h : length s ≤ p) where
   pub read-none : (y : Refusal) → last ≡ 0 → y ≡ inModel WrongKind p p → readWith y l ≡ readAt s p (readingIn last l)

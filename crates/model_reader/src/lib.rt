@@ -2,35 +2,24 @@
 
 mod parts;
 
-use crate::parts::take_part;
+use crate::parts::take_whole;
 use model_words::MODEL_WORDS;
 use model_writer::clear;
-use numbers::byte_at;
 use records::Cause;
 use records::Holder;
 use records::Notation;
 use records::Refusal;
 use records::is_none;
+use records::record_size;
 ghost use mathlib.Core.Path.{_≡_};
-ghost use Prim.Native.Nat.{_<_, _≤_};
+ghost use Prim.Native.Nat.{_≤_};
 ghost use lib.ListN.{length};
 ghost use Rattle.records.specs.Refusals as refusals;
 ghost use Rattle.model_format.specs.Model.{emptyModel};
 ghost use Rattle.model_format.specs.Reading as reading;
 ghost use Rattle.model_words.specs.Words as words;
 ghost use Rattle.model_reader.specs.Reads as into;
-ghost use Rattle.model_reader.specs.Places.{endAt};
 ghost use Rattle.model_reader.specs.Walk.{readWith};
-
-// ---- the part at a place
-fn end_at(bytes: &[u8], at: usize) -> usize
-    requires { ⌜ at < length (now bytes) ⌝ }
-    ensures { λ r. ⌜ r ≡ endAt (now (bytes .entry)) at ⌝ }
-{
-    let notation = Notation::Model;
-    let size = records::part_length_at(notation, bytes, at);
-    at + size
-}
 
 fn refused(cause: Cause, start: usize, end: usize) -> Refusal
     ensures { λ r. ⌜ r ≡ refusals.inModel cause start end ⌝ }
@@ -52,12 +41,21 @@ fn read_records(bytes: &[u8], model: &mut [u32]) -> Refusal
     let mut last: u8 = 0;
     let mut at: usize = 0;
     while at < bytes.len() {
-        let end = end_at(bytes, at);
-        let cause = take_part(model, last, &bytes[at..end]);
+        let kind = bytes[at];
+        let notation = Notation::Model;
+        let size = record_size(notation, kind);
+        if size == 0 {
+            return refused(Cause::WrongKind, at, bytes.len());
+        }
+        if bytes.len() - at < size {
+            return refused(Cause::CutRecord, at, bytes.len());
+        }
+        let end = at + size;
+        let cause = take_whole(model, last, kind, &bytes[at..end]);
         if !is_none(cause) {
             return refused(cause, at, end);
         }
-        last = byte_at(&bytes[at..end], 0);
+        last = kind;
         at = end;
     }
     if last == 0 {

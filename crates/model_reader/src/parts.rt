@@ -20,54 +20,58 @@ use model_takes::take_thread;
 use model_takes::take_transition;
 use numbers::byte_at;
 use records::Cause;
+use records::MODEL_ASSIGNMENT_SIZE;
 use records::MODEL_ATOM;
+use records::MODEL_ATOM_SIZE;
 use records::MODEL_CONNECTION;
+use records::MODEL_CONNECTION_SIZE;
 use records::MODEL_HEAD;
+use records::MODEL_HEAD_SIZE;
 use records::MODEL_INPUT;
 use records::MODEL_LOCAL;
+use records::MODEL_LOCAL_SIZE;
 use records::MODEL_OUTPUT;
+use records::MODEL_PORT_SIZE;
 use records::MODEL_SWITCH;
+use records::MODEL_SWITCH_SIZE;
 use records::MODEL_THREAD;
+use records::MODEL_THREAD_SIZE;
 use records::MODEL_TRANSITION;
-use records::Notation;
-ghost use Prim.Native.Nat.{_≤_};
+use records::MODEL_TRANSITION_SIZE;
+ghost use mathlib.Core.Path.{_≡_};
+ghost use Prim.Native.Nat.{_<_, _≤_};
 ghost use lib.ListN.{length};
+ghost use Rattle.records.specs.declared.Notation.the-variants as notations;
+ghost use Rattle.records.specs.Format.{recordSize};
 ghost use Rattle.model_format.specs.Format as format;
 ghost use Rattle.model_words.specs.Words as words;
 ghost use Rattle.model_takes.specs.Took.{Took};
 
-// A part that has the whole of its body.
-fn take_whole(model: &mut [u32], last: u8, kind: u8, part: &[u8]) -> Cause
+// A record that has the whole of its body: adds it to the model, or tells why it is refused. The part is as long as its kind fixes; cut to that number, which
+// is a constant, it has no byte that must be looked for.
+pub fn take_whole(model: &mut [u32], last: u8, kind: u8, part: &[u8]) -> Cause
     requires { ⌜ words.modelWords ≤ length (now model) ⌝ }
+    requires { ⌜ (length (now part) ≡ recordSize notations.Model kind) × (0 < length (now part)) ⌝ }
     ensures { λ cause. ⌜ Took last (now (model .entry)) (format.recordOfWhole kind (now (part .entry))) cause (now (model .exit)) ⌝ }
 {
     match kind {
-        MODEL_HEAD => take_head(model, last, head_of(part)),
-        MODEL_THREAD => take_thread(model, last, thread_of(part)),
-        MODEL_INPUT => take_input(model, last, byte_at(part, 1)),
-        MODEL_OUTPUT => take_output(model, last, byte_at(part, 1)),
-        MODEL_LOCAL => take_local(model, last, local_of(part)),
-        MODEL_CONNECTION => take_connection(model, last, connection_of(part)),
-        MODEL_SWITCH => take_switch(model, last, switch_of(part)),
-        MODEL_TRANSITION => take_transition(model, last, transition_of(part)),
-        MODEL_ATOM => take_atom(model, last, atom_of(part)),
-        _ => take_assignment(model, last, assignment_of(part)),
+        MODEL_HEAD => take_head(model, last, head_of(&part[..MODEL_HEAD_SIZE])),
+        MODEL_THREAD => take_thread(model, last, thread_of(&part[..MODEL_THREAD_SIZE])),
+        MODEL_INPUT => take_input(model, last, byte_at(&part[..MODEL_PORT_SIZE], 1)),
+        MODEL_OUTPUT => take_output(model, last, byte_at(&part[..MODEL_PORT_SIZE], 1)),
+        MODEL_LOCAL => take_local(model, last, local_of(&part[..MODEL_LOCAL_SIZE])),
+        MODEL_CONNECTION => take_connection(
+            model,
+            last,
+            connection_of(&part[..MODEL_CONNECTION_SIZE]),
+        ),
+        MODEL_SWITCH => take_switch(model, last, switch_of(&part[..MODEL_SWITCH_SIZE])),
+        MODEL_TRANSITION => take_transition(
+            model,
+            last,
+            transition_of(&part[..MODEL_TRANSITION_SIZE]),
+        ),
+        MODEL_ATOM => take_atom(model, last, atom_of(&part[..MODEL_ATOM_SIZE])),
+        _ => take_assignment(model, last, assignment_of(&part[..MODEL_ASSIGNMENT_SIZE])),
     }
-}
-
-// Adds the record of a part to the model, or tells why it is refused.
-pub fn take_part(model: &mut [u32], last: u8, part: &[u8]) -> Cause
-    requires { ⌜ words.modelWords ≤ length (now model) ⌝ }
-    ensures { λ cause. ⌜ Took last (now (model .entry)) (format.recordOf (now (part .entry))) cause (now (model .exit)) ⌝ }
-{
-    let kind = byte_at(part, 0);
-    let notation = Notation::Model;
-    let size = records::record_size(notation, kind);
-    if size == 0 {
-        return Cause::WrongKind;
-    }
-    if part.len() < size {
-        return Cause::CutRecord;
-    }
-    take_whole(model, last, kind, part)
 }

@@ -115,11 +115,22 @@ lcm-is-common a b h k = let d = lcm-divided a b in (divides-multiple (lcm a b) a
 pub lcm-is-least : (a b n : ℕ) → 1 ≤ a → 1 ≤ b → isMultiple n a ≡ true → isMultiple n b ≡ true → isMultiple n (lcm a b) ≡ true
 lcm-is-least a b n h k p q = divides-multiple n (lcm a b) (lcm-positive a b h k) (lcm-divides a b n h (multiple-divides n a p) (multiple-divides n b q))
 
+gcd-of-multiple : (a b : ℕ) → isMultiple a b ≡ true → gcd a b ≡ b
+gcd-of-multiple a zero e = absurd (true≢false (sym e ∙ sym (multiple-of-none a 0 refl)))
+gcd-of-multiple a (suc b) e =
+    let r : a % suc b ≡ 0 = eqb-true (a % suc b) 0 (multiple-by-rest a (suc b) (λ z. omega arith) ∙ e) in
+    sym (gcd-step a (suc b) (λ z. omega arith)) ∙ gcd-end (suc b) (a % suc b) r
+
 -- g is the greatest common divisor that the code has found
 module _ (limit a b : ℕ) where
   pub lcm-above : limit < a → a ≡ lcmUpTo limit a b
   unfolding lcmUpTo
   lcm-above h = rw (lt-ltb limit a h)
+
+  -- a multiple of b is the least one of both
+  pub lcm-there : a ≤ limit → true ≡ isMultiple a b → a ≡ lcmUpTo limit a b
+  unfolding lcmUpTo lcm
+  lcm-there h e = rw (le-ltb limit a h, gcd-of-multiple a b (sym e)) (sym (div-mul-cancel b (multiple-divides a b (sym e))))
 
   pub lcm-none : (g : ℕ) → a ≤ limit → g ≡ gcd a b → g ≡ 0 → 0 ≡ lcmUpTo limit a b
   unfolding lcmUpTo lcm

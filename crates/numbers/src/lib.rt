@@ -297,6 +297,10 @@ pub fn lcm_up_to(limit: u32, a: u64, b: u32) -> u64
     if (limit as u64) < a {
         return a;
     }
+    // Most periods divide the multiple of those before them.
+    if is_multiple(a as u32, b) {
+        return a;
+    }
     let g = gcd(a, b as u64);
     if g == 0 {
         return 0;

@@ -53,6 +53,24 @@ pub const LEAVE: u8 = 10;
 pub const TICK: u8 = 11;
 
 // With the kind byte.
+pub const MODEL_HEAD_SIZE: usize = 3;
+
+pub const MODEL_THREAD_SIZE: usize = 20;
+
+pub const MODEL_PORT_SIZE: usize = 2;
+
+pub const MODEL_LOCAL_SIZE: usize = 6;
+
+pub const MODEL_CONNECTION_SIZE: usize = 5;
+
+pub const MODEL_SWITCH_SIZE: usize = 3;
+
+pub const MODEL_TRANSITION_SIZE: usize = 4;
+
+pub const MODEL_ATOM_SIZE: usize = 9;
+
+pub const MODEL_ASSIGNMENT_SIZE: usize = 14;
+
 pub const RULE_SIZE: usize = 11;
 
 pub const CLAUSE_SIZE: usize = 1;

@@ -13,15 +13,24 @@ pub use kinds::LAST_CLOCK;
 pub use kinds::LEAVE;
 pub use kinds::MISS;
 pub use kinds::MODEL_ASSIGNMENT;
+pub use kinds::MODEL_ASSIGNMENT_SIZE;
 pub use kinds::MODEL_ATOM;
+pub use kinds::MODEL_ATOM_SIZE;
 pub use kinds::MODEL_CONNECTION;
+pub use kinds::MODEL_CONNECTION_SIZE;
 pub use kinds::MODEL_HEAD;
+pub use kinds::MODEL_HEAD_SIZE;
 pub use kinds::MODEL_INPUT;
 pub use kinds::MODEL_LOCAL;
+pub use kinds::MODEL_LOCAL_SIZE;
 pub use kinds::MODEL_OUTPUT;
+pub use kinds::MODEL_PORT_SIZE;
 pub use kinds::MODEL_SWITCH;
+pub use kinds::MODEL_SWITCH_SIZE;
 pub use kinds::MODEL_THREAD;
+pub use kinds::MODEL_THREAD_SIZE;
 pub use kinds::MODEL_TRANSITION;
+pub use kinds::MODEL_TRANSITION_SIZE;
 pub use kinds::REQUEST;
 pub use kinds::RULE_SIZE;
 pub use kinds::START;
@@ -99,16 +108,16 @@ fn model_size(kind: u8) -> usize
     ensures { λ r. ⌜ r ≡ recordSize notations.Model kind ⌝ }
 {
     match kind {
-        MODEL_HEAD => 3,
-        MODEL_THREAD => 20,
-        MODEL_INPUT => 2,
-        MODEL_OUTPUT => 2,
-        MODEL_LOCAL => 6,
-        MODEL_CONNECTION => 5,
-        MODEL_SWITCH => 3,
-        MODEL_TRANSITION => 4,
-        MODEL_ATOM => 9,
-        MODEL_ASSIGNMENT => 14,
+        MODEL_HEAD => MODEL_HEAD_SIZE,
+        MODEL_THREAD => MODEL_THREAD_SIZE,
+        MODEL_INPUT => MODEL_PORT_SIZE,
+        MODEL_OUTPUT => MODEL_PORT_SIZE,
+        MODEL_LOCAL => MODEL_LOCAL_SIZE,
+        MODEL_CONNECTION => MODEL_CONNECTION_SIZE,
+        MODEL_SWITCH => MODEL_SWITCH_SIZE,
+        MODEL_TRANSITION => MODEL_TRANSITION_SIZE,
+        MODEL_ATOM => MODEL_ATOM_SIZE,
+        MODEL_ASSIGNMENT => MODEL_ASSIGNMENT_SIZE,
         _ => 0,
     }
 }
