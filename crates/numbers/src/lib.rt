@@ -12,7 +12,7 @@ pub use ops::IS_BELOW;
 pub use ops::SUM;
 ghost use mathlib.Core.Path.{_≡_};
 ghost use mathlib.Core.List.{[]};
-ghost use Prim.Native.Nat.{_+_, _<_};
+ghost use Prim.Native.Nat.{_+_, _*_, _<_};
 ghost use lib.ListN.{getD, set};
 ghost use lib.Seq.{sets};
 ghost use lib.IntN.{natAbs};
@@ -195,14 +195,29 @@ pub fn u16_at(s: &[u8], at: usize) -> u16
     a + 256 * b
 }
 
+// Four bytes, the least first.
+fn u32_of_bytes(a: u8, b: u8, c: u8, d: u8) -> u32
+    ensures { λ r. ⌜ r ≡ a + 256 * b + 65536 * c + 16777216 * d ⌝ }
+{
+    let low = u32_of_u8(a) + 256 * u32_of_u8(b);
+    low + 65536 * u32_of_u8(c) + 16777216 * u32_of_u8(d)
+}
+
+// Where all four bytes are there, which is asked once, they are one load.
 pub fn u32_at(s: &[u8], at: usize) -> u32
     ensures { λ r. ⌜ r ≡ values.u32At (now (s .entry)) at ⌝ }
 {
-    let a = u32_of_u8(byte_at(s, at));
-    let b = u32_of_u8(byte_after(s, at, 1));
-    let c = u32_of_u8(byte_after(s, at, 2));
-    let d = u32_of_u8(byte_after(s, at, 3));
-    a + 256 * b + 65536 * c + 16777216 * d
+    if at < s.len() {
+        if 3 < s.len() - at {
+            return u32_of_bytes(s[at], s[at + 1], s[at + 2], s[at + 3]);
+        }
+    }
+    u32_of_bytes(
+        byte_at(s, at),
+        byte_after(s, at, 1),
+        byte_after(s, at, 2),
+        byte_after(s, at, 3),
+    )
 }
 
 pub fn duration_at(s: &[u8], at: usize) -> Duration
