@@ -82,25 +82,20 @@ fn is_connected(model: &[u32], port: u16) -> bool
     false
 }
 
-fn hyperperiod(model: &[u32], old: u8, new: u8) -> u64
-    ensures { λ r. ⌜ r ≡ models.hyperperiod (words.timingIn (now (model .entry))) old new ⌝ }
-{
-    let count = threads(model);
-    let mut h: u64 = 1;
-    let mut t: usize = 0;
-    while t < count {
-        h = with_period(thread_at(model, t), old, new, h);
-        t += 1;
-    }
-    h
-}
-
 // The hyperperiods that a mode transition gets.
 pub fn periods_of(model: &[u32], switch: ModeTransition) -> Found
     ensures { λ found. ⌜ found ≡ causes.foundIn (words.timingIn (now (model .entry))) (variants.ModeRecord switch) ⌝ }
 {
-    let h1 = hyperperiod(model, switch.from, switch.from);
-    let h2 = hyperperiod(model, switch.from, switch.to);
+    let count = threads(model);
+    let mut h1: u64 = 1;
+    let mut h2: u64 = 1;
+    let mut t: usize = 0;
+    while t < count {
+        let thread = thread_at(model, t);
+        h1 = with_period(thread, switch.from, switch.from, h1);
+        h2 = with_period(thread, switch.from, switch.to, h2);
+        t += 1;
+    }
     Found {
         connected: false,
         h1: h1,

@@ -60,11 +60,14 @@ abbrev pub withPeriodOf : Thread → ℕ → ℕ → ℕ → ℕ
 withPeriodOf x old new h = cond (criticalIn x old && criticalIn x new) (lcmUpTo lastClock h (x .period .0)) h
 
 module _ (x : Thread) (old new h : ℕ) (a b : Bool) (f : a ≡ criticalIn x old) (g : b ≡ criticalIn x new) where
-  pub period-in : (a && b) ≡ true → lcmUpTo lastClock h (x .period .0) ≡ withPeriodOf x old new h
-  period-in i = rw (← f, ← g, i)
+  pub period-in : a ≡ true → b ≡ true → lcmUpTo lastClock h (x .period .0) ≡ withPeriodOf x old new h
+  period-in i j = rw (← f, ← g, i, j)
 
-  pub period-out : (a && b) ≡ false → h ≡ withPeriodOf x old new h
-  period-out i = rw (← f, ← g, i)
+  pub period-out : a ≡ true → b ≡ false → h ≡ withPeriodOf x old new h
+  period-out i j = rw (← f, ← g, i, j)
+
+pub period-not : (x : Thread) (old new h : ℕ) (a : Bool) → a ≡ criticalIn x old → a ≡ false → h ≡ withPeriodOf x old new h
+period-not x old new h a f i = rw (← f, i)
 
 pub period-at : (m : Timing) (old new t h r : ℕ) (x : Thread) → x ≡ threadAt m t → r ≡ withPeriodOf x old new h → r ≡ withPeriod m old new t h
 period-at m old new t h r x e f = f ∙ rw e

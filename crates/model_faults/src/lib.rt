@@ -199,14 +199,14 @@ fn allowed_names(allowed: bool, stand: Stand, tag: u8, number: u16) -> bool
 pub fn with_period(thread: Thread, old: u8, new: u8, hyperperiod: u64) -> u64
     ensures { λ r. ⌜ r ≡ laws.withPeriodOf thread old new hyperperiod ⌝ }
 {
-    let before = critical_in(thread, old);
-    let after = critical_in(thread, new);
-    if before & after {
-        let period = thread.period;
-        lcm_up_to(LAST_CLOCK, hyperperiod, period.0)
-    } else {
-        hyperperiod
+    if !critical_in(thread, old) {
+        return hyperperiod;
     }
+    if !critical_in(thread, new) {
+        return hyperperiod;
+    }
+    let period = thread.period;
+    lcm_up_to(LAST_CLOCK, hyperperiod, period.0)
 }
 
 pub fn same_target(one: Assignment, other: Assignment) -> bool

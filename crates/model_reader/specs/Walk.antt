@@ -1,11 +1,11 @@
 -- Reading a model record by record: what is read from a place on.
-use mathlib.Core.Path.{_≡_, refl, sym, _∙_, ap}
+use mathlib.Core.Path.{_≡_, refl, sym, _∙_, ap, subst}
 use mathlib.Core.Bool.{Bool, true, false, cond}
-use mathlib.Core.List.{List}
+use mathlib.Core.List.{List, [], _++_, append-nil}
 use Prim.Native.Nat.{ℕ, _+_, _-_, _<_, _≤_}
 use native.Mathlib.Omega.{arith}
-use lib.ListN.{length, take, drop, getD, length-drop}
-use lib.Seq.{length-take-le}
+use lib.ListN.{length, take, drop, getD, length-drop, drop-of-length-le}
+use lib.Seq.{length-take-le, take-all}
 use borrow.Author.Tests.{eq-eqb, ne-eqb}
 use Rattle.records.specs.declared.Notation.the-variants as notations
 use Rattle.records.specs.declared.Cause.{Cause}
@@ -17,11 +17,12 @@ use Rattle.records.specs.Refusals.{numberOf, isNone, inModel, noRefusal}
 use Rattle.model_format.specs.declared.Model.{Model}
 use Rattle.model_format.specs.declared.ModelRead.{ModelRead}
 use Rattle.model_format.specs.declared.Reading.{Reading}
+use Rattle.model_format.specs.declared.Record.{Record}
 use Rattle.model_format.specs.Format.{recordOfWhole, recordOf, rankOf}
 use Rattle.model_format.specs.Laws.{record-unknown, record-cut, record-whole}
 use Rattle.model_format.specs.Model.{emptyModel}
 use Rattle.model_format.specs.Reading.{nextReading, readFrom, readModel}
-use Rattle.model_words.specs.Words.{modelIn}
+use Rattle.model_words.specs.Words.{modelWords, modelIn}
 use Rattle.model_causes.specs.Readings.{readingIn}
 use Rattle.model_reader.specs.Reads.{readAs}
 use Rattle.model_takes.specs.Took.{taken, Took}
@@ -38,6 +39,17 @@ readAt s p a = readFrom a p (parts notations.Model (drop p s))
 
 abbrev pub refusedAt : Cause → ℕ → ℕ → ModelRead
 refusedAt c p q = record { refusal = inModel c p q; model = emptyModel }
+
+-- the code's &mut l[..modelWords] of a list that is just as long, which becomes k
+module _ (l : List ℕ) (h : length l ≡ modelWords) where
+  pub front-length : modelWords ≡ length (take modelWords l)
+  front-length = sym (length-take-le modelWords l (omega arith))
+
+  pub front-took : (last : ℕ) (r : Record) (c : Cause) (k : List ℕ) → Took last (take modelWords l) r c k → Took last l r c (k ++ drop modelWords l)
+  front-took last r c k t =
+      let a : take modelWords l ≡ l = take-all modelWords l (omega arith) in
+      let b : k ++ drop modelWords l ≡ k = ap (λ (d : List ℕ). k ++ d) (drop-of-length-le l {i = modelWords} (omega arith)) ∙ append-nil k in
+      subst (λ (x : List ℕ). Took last l r c x) (sym b) (subst (λ (x : List ℕ). Took last x r c k) a t)
 
 -- the same where a list that stands for a refused model is not yet clear again
 abbrev pub readWith : Refusal → List ℕ → ModelRead

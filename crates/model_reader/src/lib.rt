@@ -12,7 +12,6 @@ use records::Refusal;
 use records::is_none;
 use records::record_size;
 ghost use mathlib.Core.Path.{_≡_};
-ghost use Prim.Native.Nat.{_≤_};
 ghost use lib.ListN.{length};
 ghost use Rattle.records.specs.Refusals as refusals;
 ghost use Rattle.model_format.specs.Model.{emptyModel};
@@ -33,9 +32,10 @@ fn refused(cause: Cause, start: usize, end: usize) -> Refusal
     }
 }
 
-// The records of a model, into a list that is clear, up to the first that is refused. There the list has those before it.
+// The records of a model, into a list that is clear, up to the first that is refused. There the list has those before it. Its length is said as a constant,
+// so that no number of it is tested for being there.
 fn read_records(bytes: &[u8], model: &mut [u32]) -> Refusal
-    requires { ⌜ (words.modelWords ≤ length (now model)) × (words.modelIn (now model) ≡ emptyModel) ⌝ }
+    requires { ⌜ (length (now model) ≡ words.modelWords) × (words.modelIn (now model) ≡ emptyModel) ⌝ }
     ensures { λ r. ⌜ readWith r (now (model .exit)) ≡ reading.readModel (now (bytes .entry)) ⌝ }
 {
     let mut last: u8 = 0;
@@ -51,7 +51,7 @@ fn read_records(bytes: &[u8], model: &mut [u32]) -> Refusal
             return refused(Cause::CutRecord, at, bytes.len());
         }
         let end = at + size;
-        let cause = take_whole(model, last, kind, &bytes[at..end]);
+        let cause = take_whole(&mut model[..MODEL_WORDS], last, kind, &bytes[at..end]);
         if !is_none(cause) {
             return refused(cause, at, end);
         }
@@ -65,7 +65,7 @@ fn read_records(bytes: &[u8], model: &mut [u32]) -> Refusal
 }
 
 fn read_all(bytes: &[u8], model: &mut [u32]) -> Refusal
-    requires { ⌜ words.modelWords ≤ length (now model) ⌝ }
+    requires { ⌜ length (now model) ≡ words.modelWords ⌝ }
     ensures { λ r. ⌜ into.readAs r (now (model .exit)) ≡ reading.readModel (now (bytes .entry)) ⌝ }
 {
     clear(model);

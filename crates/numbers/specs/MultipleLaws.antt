@@ -132,6 +132,14 @@ module _ (limit a b : ℕ) where
   unfolding lcmUpTo lcm
   lcm-there h e = rw (le-ltb limit a h, gcd-of-multiple a b (sym e)) (sym (div-mul-cancel b (multiple-divides a b (sym e))))
 
+  pub lcm-same : a ≤ limit → a ≡ b → a ≡ lcmUpTo limit a b
+  unfolding lcmUpTo lcm gcdIn
+  lcm-same h e = go (ℕ-discrete b 0)
+    where
+      go : Dec (b ≡ 0) → a ≡ lcmUpTo limit a b
+      go (yes z) = rw (le-ltb limit a h, e, z)
+      go (no n) = lcm-there h (sym (divides-multiple a b (omega arith) (subst (λ (x : ℕ). b ∣ x) (sym e) (dvd-refl b))))
+
   pub lcm-none : (g : ℕ) → a ≤ limit → g ≡ gcd a b → g ≡ 0 → 0 ≡ lcmUpTo limit a b
   unfolding lcmUpTo lcm
   lcm-none g h e z = rw (le-ltb limit a h, ← e, z, div-zero) (omega arith)

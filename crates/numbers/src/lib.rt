@@ -312,7 +312,10 @@ pub fn lcm_up_to(limit: u32, a: u64, b: u32) -> u64
     if (limit as u64) < a {
         return a;
     }
-    // Most periods divide the multiple of those before them.
+    // Most periods are that of the thread before, or divide the multiple of those before them.
+    if a == b as u64 {
+        return a;
+    }
     if is_multiple(a as u32, b) {
         return a;
     }

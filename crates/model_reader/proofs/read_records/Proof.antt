@@ -1,18 +1,18 @@
 use mathlib.Core.Path.{_≡_, refl, sym, _∙_}
-use Prim.Native.Nat.{_≤_, _-_}
+use Prim.Native.Nat.{_-_}
 use native.Mathlib.Omega.{arith}
 use lib.ListN.{length}
 use borrow.Author.Tests.{not-true, not-false}
 use Rattle.model_format.specs.Reading.{readModel}
 use Rattle.model_words.specs.Words.{modelWords}
 use Rattle.model_causes.specs.Readings.{readingIn}
-use Rattle.model_reader.specs.Walk.{readAt, read-begin, read-unknown, read-cut, whole-part, whole-on, whole-refused, read-none, read-all}
+use Rattle.model_reader.specs.Walk.{readAt, read-begin, read-unknown, read-cut, whole-part, front-length, front-took, whole-on, whole-refused, read-none, read-all}
 use borrow.Author.Needs.{needs}
 use Rattle.model_reader.proofs.read_records.Statement.{statement}
 use Rattle.model_reader.proofs.read_records.Tie as tie
 
 abbrev Inv-loop : tie.InvT-loop
-Inv-loop s m₀ last₀ at₀ m last at = (readAt s at (readingIn last m) ≡ readModel s) × (modelWords ≤ length m) × (length m ≡ length m₀)
+Inv-loop s m₀ last₀ at₀ m last at = (readAt s at (readingIn last m) ≡ readModel s) × (length m ≡ modelWords) × (length m ≡ length m₀)
 
 abbrev μ-loop : tie.MeasureT-loop
 μ-loop s m₀ last₀ at₀ m last at = length s - at
@@ -50,6 +50,12 @@ returns-2 c = read-cut _ _ _ _ _ _ (c .before .before .before .before .before .l
 add-end : tie.Need-add-end Inv-loop μ-loop
 add-end c = search needs
 
+slice-relend-prefix-take-whole : tie.Need-slice-relend-prefix-take-whole Inv-loop μ-loop
+slice-relend-prefix-take-whole c = search needs
+
+slice-aggregate-take-whole : tie.Need-slice-aggregate-take-whole Inv-loop μ-loop
+slice-aggregate-take-whole c = front-length (c .before .before .before .before .before .before .loop .model) (c .before .before .before .before .before .before .loop .inv .1)
+
 sub-take-whole : tie.Need-sub-take-whole Inv-loop μ-loop
 sub-take-whole c = search needs
 
@@ -60,7 +66,7 @@ part-take-whole-end : tie.Need-part-take-whole-end Inv-loop μ-loop
 part-take-whole-end c = search needs
 
 take-whole-requires : tie.Need-take-whole-requires Inv-loop μ-loop
-take-whole-requires c κs = (c .before .before .before .before .before .before .before .loop .inv .1, whole-part _ _ _ _ (c .before .before .before .before .before .before .before .loop .last) (c .before .before .before .before .before .before .before .loop .model) (c .before .before .before .before .before .before .loop-test .taken) refl (c .before .before .before .before .record-size .ensures) _ refl (c .before .before .before .if1 .left) (c .before .before .if2 .left))
+take-whole-requires c κs = (let n = front-length (c .before .before .before .before .before .before .before .loop .model) (c .before .before .before .before .before .before .before .loop .inv .1) in omega (arith, n), whole-part _ _ _ _ (c .before .before .before .before .before .before .before .loop .last) (c .before .before .before .before .before .before .before .loop .model) (c .before .before .before .before .before .before .loop-test .taken) refl (c .before .before .before .before .record-size .ensures) _ refl (c .before .before .before .if1 .left) (c .before .before .if2 .left))
 
 is-none-requires : tie.Need-is-none-requires Inv-loop μ-loop
 is-none-requires c κs = search needs
@@ -72,13 +78,13 @@ same-length-3 : tie.Need-same-length-3 Inv-loop μ-loop
 same-length-3 c = search needs
 
 returns-3 : tie.Need-returns-3 Inv-loop μ-loop
-returns-3 c = whole-refused _ _ _ _ _ _ (c .before .before .before .before .before .before .before .before .before .before .before .before .loop-test .taken) refl (c .before .before .before .before .before .before .before .before .before .before .record-size .ensures) _ refl (c .before .before .before .before .before .before .before .before .before .if1 .left) (c .before .before .before .before .before .before .before .before .if2 .left) _ _ (c .before .before .before .before .before .take-whole .ensures) _ (sym (c .before .before .is-none .ensures) ∙ not-true _ (c .before .if3 .taken)) (c .refused3 .ensures) ∙ c .before .before .before .before .before .before .before .before .before .before .before .before .before .loop .inv .0
+returns-3 c = whole-refused _ _ _ _ _ _ (c .before .before .before .before .before .before .before .before .before .before .before .before .loop-test .taken) refl (c .before .before .before .before .before .before .before .before .before .before .record-size .ensures) _ refl (c .before .before .before .before .before .before .before .before .before .if1 .left) (c .before .before .before .before .before .before .before .before .if2 .left) _ _ (front-took (c .before .before .before .before .before .before .before .before .before .before .before .before .before .loop .model) (c .before .before .before .before .before .before .before .before .before .before .before .before .before .loop .inv .1) _ _ _ _ (c .before .before .before .before .before .take-whole .ensures)) _ (sym (c .before .before .is-none .ensures) ∙ not-true _ (c .before .if3 .taken)) (c .refused3 .ensures) ∙ c .before .before .before .before .before .before .before .before .before .before .before .before .before .loop .inv .0
 
 loop-less : tie.Need-loop-less Inv-loop μ-loop
 loop-less c = omega arith
 
 loop-again : tie.Need-loop-again Inv-loop μ-loop
-loop-again c = (whole-on _ _ _ _ _ _ (c .before .before .before .before .before .before .before .before .before .before .before .loop-test .taken) refl (c .before .before .before .before .before .before .before .before .before .record-size .ensures) _ refl (c .before .before .before .before .before .before .before .before .if1 .left) (c .before .before .before .before .before .before .before .if2 .left) _ _ (c .before .before .before .before .take-whole .ensures) (sym (c .before .is-none .ensures) ∙ not-false _ (c .if3 .left)) ∙ c .before .before .before .before .before .before .before .before .before .before .before .before .loop .inv .0, search needs, search needs)
+loop-again c = (whole-on _ _ _ _ _ _ (c .before .before .before .before .before .before .before .before .before .before .before .loop-test .taken) refl (c .before .before .before .before .before .before .before .before .before .record-size .ensures) _ refl (c .before .before .before .before .before .before .before .before .if1 .left) (c .before .before .before .before .before .before .before .if2 .left) _ _ (front-took (c .before .before .before .before .before .before .before .before .before .before .before .before .loop .model) (c .before .before .before .before .before .before .before .before .before .before .before .before .loop .inv .1) _ _ _ _ (c .before .before .before .before .take-whole .ensures)) (sym (c .before .is-none .ensures) ∙ not-false _ (c .if3 .left)) ∙ c .before .before .before .before .before .before .before .before .before .before .before .before .loop .inv .0, search needs, search needs)
 
 refused-requires-4 : tie.Need-refused-requires-4 Inv-loop μ-loop
 refused-requires-4 c κs = search needs
@@ -115,6 +121,8 @@ read-records-spec =
     same-length-2
     returns-2
     add-end
+    slice-relend-prefix-take-whole
+    slice-aggregate-take-whole
     sub-take-whole
     part-take-whole-start
     part-take-whole-end
