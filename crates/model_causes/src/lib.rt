@@ -24,13 +24,16 @@ use model_format::Atom;
 use model_format::CONNECTION_RANK;
 use model_format::Connection;
 use model_format::INPUT_RANK;
+use model_format::INPUT_TAG;
 use model_format::LOCAL_RANK;
+use model_format::LOCAL_TAG;
 use model_format::Local;
 use model_format::MAX_INPUTS;
 use model_format::MAX_LOCALS;
 use model_format::MAX_OUTPUTS;
 use model_format::ModeTransition;
 use model_format::OUTPUT_RANK;
+use model_format::OUTPUT_TAG;
 use model_format::SWITCH_RANK;
 use model_format::THREAD_RANK;
 use model_format::TRANSITION_RANK;
@@ -108,12 +111,12 @@ fn is_owned_by(model: &[u32], thread: u8, tag: u8, number: usize) -> bool
     ensures { λ r. ⌜ r ≡ reading.isOwnedBy (words.timingIn (now (model .entry))) thread tag number ⌝ }
 {
     match tag {
-        1 => input_owner(model, number) == thread,
-        2 => {
+        INPUT_TAG => input_owner(model, number) == thread,
+        LOCAL_TAG => {
             let local = local_at(model, number);
             local.owner == thread
         }
-        3 => output_owner(model, number) == thread,
+        OUTPUT_TAG => output_owner(model, number) == thread,
         _ => true,
     }
 }

@@ -3,6 +3,7 @@
 use libc::STDOUT_FILENO;
 use numbers::Value;
 use records::Cause;
+use table_format::VARIABLES;
 use table_semantics::Variables;
 ghost use Prim.Native.Nat.{_<_, _≤_};
 ghost use lib.ListN.{length};
@@ -35,7 +36,7 @@ fn print_variable(j: usize, x: Value) {
 
 fn print_variables(s: Variables) {
     let mut j: usize = 0;
-    while j < 288 {
+    while j < VARIABLES {
         let x = s.value[j];
         print_variable(j, x);
         j += 1;
