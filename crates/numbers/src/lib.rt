@@ -312,7 +312,7 @@ pub fn lcm_up_to(limit: u32, a: u64, b: u32) -> u64
     if (limit as u64) < a {
         return a;
     }
-    // Most periods are that of the thread before, or divide the multiple of those before them.
+    // A number that equals the multiple so far, or divides it, needs no greatest common divisor.
     if a == b as u64 {
         return a;
     }
