@@ -42,7 +42,7 @@ static int marked(const uint8_t *bytes, size_t from, size_t to)
 /* The bytes of a record by its kind: those of a model below 16, those of a table from 32 on. */
 static size_t record_length(uint8_t kind)
 {
-    static const size_t lengths[] = {0, 3, 20, 2, 2, 6, 5, 3, 4, 9, 14, [32] = 7, 11, 1, 9, 17};
+    static const size_t lengths[] = {0, 3, 20, 2, 2, 6, 5, 3, 4, 9, 14, 6, [32] = 7, 11, 1, 9, 17};
     MUST(kind < sizeof lengths / sizeof *lengths && lengths[kind] > 0);
     return lengths[kind];
 }
@@ -208,6 +208,25 @@ static void sizes_of_refused_models(void)
         MUST(fk_translate(bytes, count, output, sizeof output, told, 3) == number);
         MUST(memcmp(told, wanted, sizeof told) == 0);
     }
+}
+
+/* Port and buffer begin at the value that the port's record gives, in model and table; without one at 0. */
+static void starts_of_input_ports(void)
+{
+    enum { INPUT = 160, BUFFER = 192 };
+    static const uint8_t pen[] = {HEAD, THREAD(0, 0), 0x03, 0, 0x0b, 0, 0xfe, 0xff, 0xff, 0xff};
+    static uint32_t read[FK_MODEL_WORDS];
+    uint32_t state[FK_STATE_WORDS];
+    int32_t of_table[FK_VARIABLES], of_model[FK_VARIABLES];
+    size_t told[3];
+    MUST(fk_translate(pen, sizeof pen, output, sizeof output, told, 3) == 0);
+    MUST(fk_table_start(output, told[2], of_table, FK_VARIABLES) == 0);
+    for (size_t first = INPUT; first <= BUFFER; first += BUFFER - INPUT)
+        MUST(of_table[first] == 0 && of_table[first + 1] == -2 && of_table[first + 2] == 0);
+    MUST(fk_model_read(pen, sizeof pen, read, FK_MODEL_WORDS, NULL, 0) == 0);
+    MUST(fk_model_start(read, FK_MODEL_WORDS, state, FK_STATE_WORDS) == 0);
+    MUST(fk_model_variables(read, FK_MODEL_WORDS, state, FK_STATE_WORDS, of_model, FK_VARIABLES) == 0);
+    MUST(memcmp(of_model, of_table, sizeof of_table) == 0);
 }
 
 static void room_for_a_listing(void)
@@ -443,6 +462,7 @@ int main(int count, char **names)
     room_for_a_table();
     size_of_the_table();
     sizes_of_refused_models();
+    starts_of_input_ports();
     room_for_a_listing();
     lent_variables();
     for (size_t room = 0; room < 12; room++)

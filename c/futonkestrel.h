@@ -36,7 +36,7 @@ extern "C" {
 #define FK_VARIABLES 288
 
 /* No table made from a model is longer; some are as long. */
-#define FK_LONGEST_MADE_TABLE 171189
+#define FK_LONGEST_MADE_TABLE 171637
 
 /* Reads a model. Result: 0, or the first refusal (1 to 7). Told: start, end. */
 uint32_t fk_read_model(const uint8_t *model, size_t model_count, size_t *told, size_t told_count);
@@ -103,7 +103,7 @@ uint32_t fk_model_after(const uint8_t *model, size_t model_count, const uint8_t 
 /* A model stepped event by event: it is read once into numbers that the caller keeps, and its state is numbers of the caller too, to be copied,
  * compared and gone back to at will; equal numbers are equal states. Numbers of any content do no harm: they stand for some model or state,
  * and those that are too few are followed by zeros. The numbers of a model and of a state: */
-#define FK_MODEL_WORDS 3833
+#define FK_MODEL_WORDS 3865
 #define FK_STATE_WORDS 278
 size_t fk_model_words(void);
 size_t fk_state_words(void);

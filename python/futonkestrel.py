@@ -56,9 +56,9 @@ __all__ = [
 # How many variables a table has.
 VARIABLES = 288
 # No table made from a model is longer; some are as long.
-LONGEST_MADE_TABLE = 171_189
+LONGEST_MADE_TABLE = 171_637
 # How many numbers a model takes once it is read, and a state of it.
-MODEL_WORDS = 3833
+MODEL_WORDS = 3865
 STATE_WORDS = 278
 
 # What each refusal means, and what to do about it.
@@ -93,7 +93,7 @@ MEANINGS: dict[int, tuple[str, str]] = {
     ),
     8: (
         "the output is shorter than the table",
-        "give more room: 'futonkestrel size MODEL' tells how much, at most 171,189 bytes",
+        "give more room: 'futonkestrel size MODEL' tells how much, at most 171,637 bytes",
     ),
     9: (
         "an event is cut or unknown, or TICK 0",

@@ -106,6 +106,14 @@ class SideBySide(unittest.TestCase):
                     if number not in range(64, 96) or shown[number]:
                         self.assertEqual(shown[number], variables[number], number)
 
+    def test_input_ports_begin_where_the_model_says(self) -> None:
+        ports = bytes([0x03, 0, 0x0B, 0]) + (-2).to_bytes(4, "little", signed=True)
+        model = fk.Model(example("m/model.bin") + ports)
+        variables = model.table().start()
+        for first in [160, 192]:
+            self.assertEqual([variables[first + port] for port in range(3)], [0, -2, 0])
+        self.assertEqual(model.variables(model.start()), variables)
+
     def test_due_and_end_of_a_job(self) -> None:
         model, script = fk.Model(example("m/model.bin")), example("m/script.bin")
         state, shown = model.start(), []

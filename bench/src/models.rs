@@ -67,8 +67,9 @@ fn counting(thread: usize) -> Vec<u8> {
 }
 
 /// A model with the most of every kind and the longest table: all behaviour
-/// transitions are of one thread and from one state, and that thread has all
-/// connections, immediate ones. They are taken in turn.
+/// transitions are of one thread and from one state, that thread has all
+/// connections, immediate ones, and whatever can start otherwise than at 0 does
+/// so. The transitions are taken in turn.
 pub fn full(unit: u32) -> Vec<u8> {
     const SENDER: usize = 15;
     let modes = 8;
@@ -81,7 +82,7 @@ pub fn full(unit: u32) -> Vec<u8> {
             7,
         ));
     }
-    model.extend((0..32).flat_map(|input| [0x03, (input % 15) as u8]));
+    model.extend((0..32).flat_map(|input| started_port(input % 15, input as i32 + 1)));
     model.extend((0..32).flat_map(|_| [0x04, SENDER as u8]));
     model.extend((0..32).flat_map(|number| local(SENDER, number + 1)));
     for number in 0..32 {
@@ -134,6 +135,11 @@ fn all(modes: u8) -> u8 {
 fn thread(figures: [u32; 4], mask: u8, critical: bool, first_state: u8) -> Vec<u8> {
     let figures: Vec<u8> = figures.into_iter().flat_map(u32::to_le_bytes).collect();
     [&[0x02], &figures[..], &[mask, critical.into(), first_state]].concat()
+}
+
+/// An input port with a written start.
+fn started_port(owner: usize, start: i32) -> Vec<u8> {
+    [&[0x0B, owner as u8], &start.to_le_bytes()[..]].concat()
 }
 
 fn local(owner: usize, start: i32) -> Vec<u8> {

@@ -50,7 +50,12 @@ fn move_record(random: &mut Random, records: &mut Vec<Record>, at: usize) {
         0 => records.insert(other, records[at].clone()),
         1 => records.swap(at, other),
         2 => drop(records.remove(at)),
-        _ => records[at][0] = random.one_of(&[0x00, 0x01, 0x08, 0x0A, 0x0B, 0x20, 0x22, 0x25]),
+        _ => {
+            let kinds = [
+                0x00, 0x01, 0x03, 0x08, 0x0A, 0x0B, 0x0B, 0x0C, 0x20, 0x22, 0x25,
+            ];
+            records[at][0] = random.one_of(&kinds);
+        }
     }
 }
 

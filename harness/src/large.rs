@@ -2,7 +2,7 @@
 //! at which all threads have their turn, behaviour that goes round through all
 //! transitions of a thread, and modes that follow one another.
 
-use crate::models::{any_operand, assignments, owned};
+use crate::models::{any_operand, assignments, items, owned};
 use crate::random::Random;
 use crate::records::{operand, Record};
 
@@ -90,15 +90,8 @@ impl Large {
     }
 
     fn add_items(&mut self, random: &mut Random) {
-        for (kind, owners) in [(0x03, &self.inputs), (0x04, &self.outputs)] {
-            let ports = owners.iter().map(|&owner| vec![kind, owner as u8]);
-            self.records.extend(ports);
-        }
-        for &owner in &self.locals {
-            let start = random.value().to_le_bytes();
-            self.records
-                .push([&[0x05, owner as u8], &start[..]].concat());
-        }
+        self.records
+            .extend(items(random, &self.inputs, &self.outputs, &self.locals));
     }
 
     /// One into every input port. Few threads wait for themselves or for those

@@ -1,9 +1,11 @@
 //! Random models. Most are accepted, and most of their events can happen.
 
+use std::ops::Range;
+
 use crate::damage::{change_field, damage_records};
 use crate::large::large;
 use crate::random::Random;
-use crate::records::{model_body, operand, split, Record};
+use crate::records::{model_body, operand, place, split, Record};
 
 /// A model of some style: plain ones often, rare shapes now and then.
 pub fn model(random: &mut Random) -> Vec<u8> {
@@ -70,6 +72,9 @@ enum Figures {
 
 /// A behaviour state that no transition leaves.
 const AT_REST: u8 = 6;
+
+/// Where a thread's record has its first behaviour state.
+const FIRST_STATE: usize = 19;
 
 fn few_threads(random: &mut Random) -> Style {
     Style {
@@ -205,16 +210,30 @@ impl Draft {
 
     /// Ports and locals.
     fn add_items(&mut self, random: &mut Random) {
-        let ports = |kind: u8, owners: &[usize]| -> Vec<Record> {
-            owners.iter().map(|&o| vec![kind, o as u8]).collect()
-        };
-        self.records.extend(ports(0x03, &self.inputs));
-        self.records.extend(ports(0x04, &self.outputs));
-        for &owner in &self.locals {
-            let start = random.value().to_le_bytes();
-            self.records
-                .push([&[0x05, owner as u8], &start[..]].concat());
+        self.records
+            .extend(items(random, &self.inputs, &self.outputs, &self.locals));
+    }
+
+    /// Whatever a model can start otherwise than at 0 does so.
+    fn start_beyond_0(&mut self, random: &mut Random) {
+        for record in &mut self.records {
+            let start = match record[0] {
+                0x02 => FIRST_STATE..FIRST_STATE + 1,
+                0x03 => {
+                    *record = started(random, 0x0B, record[1].into());
+                    START_VALUE
+                }
+                0x05 | 0x0B => START_VALUE,
+                _ => continue,
+            };
+            if record[start.clone()].iter().all(|&byte| byte == 0) {
+                record[start.start] = 1;
+            }
         }
+    }
+
+    fn first_state(&self, thread: usize) -> u8 {
+        self.records[1 + thread][FIRST_STATE]
     }
 
     /// Most input ports are fed by some output port. Threads rarely wait for
@@ -279,7 +298,7 @@ impl Draft {
     /// From the first behaviour state, mostly back to it, always with a new
     /// value for some output port; now and then it is the last one taken.
     fn add_steady_transition(&mut self, random: &mut Random, thread: usize) {
-        let first_state = self.records[1 + thread][19];
+        let first_state = self.first_state(thread);
         let to = match random.below(100) {
             0..=64 => first_state,
             65..=79 => 1,
@@ -325,6 +344,41 @@ impl Draft {
         items
     }
 }
+
+/// Ports and locals of these owners. Half of the input ports have a written
+/// start, of any sort.
+pub fn items(
+    random: &mut Random,
+    inputs: &[usize],
+    outputs: &[usize],
+    locals: &[usize],
+) -> Vec<Record> {
+    let mut records = Vec::new();
+    for &owner in inputs {
+        records.push(input_port(random, owner));
+    }
+    records.extend(outputs.iter().map(|&owner| vec![0x04, owner as u8]));
+    for &owner in locals {
+        records.push(started(random, 0x05, owner));
+    }
+    records
+}
+
+fn input_port(random: &mut Random, owner: usize) -> Record {
+    if random.chance(50) {
+        vec![0x03, owner as u8]
+    } else {
+        started(random, 0x0B, owner)
+    }
+}
+
+/// A local, or an input port with a written start.
+fn started(random: &mut Random, kind: u8, owner: usize) -> Record {
+    [&[kind, owner as u8], &random.value().to_le_bytes()[..]].concat()
+}
+
+/// Where such a record has its start.
+const START_VALUE: Range<usize> = 2..6;
 
 /// Assignment records to some of the targets, each at most once.
 pub fn assignments(
@@ -449,15 +503,17 @@ fn ordered(random: &mut Random) -> [usize; 2] {
     [one.max(other), one.min(other)]
 }
 
-/// The most of every kind. The longest tables come from one thread that has all
-/// behaviour and sends over all connections.
+/// The most of every kind. The longest table comes from one thread that has all
+/// behaviour and sends over all connections, where all is live at the start and
+/// nothing starts at 0.
 fn full(random: &mut Random) -> Vec<Record> {
-    let one_thread = random.chance(50);
+    let longest = random.chance(50);
     let style = Style {
         modes: 8,
         threads: 16,
         connected: 100,
-        immediate: if one_thread { 100 } else { 50 },
+        immediate: if longest { 100 } else { 50 },
+        mask: if longest { 100 } else { 75 },
         shape: Shape::Ring,
         ..many_threads(random)
     };
@@ -465,25 +521,25 @@ fn full(random: &mut Random) -> Vec<Record> {
     let mut draft = Draft {
         threads: 16,
         inputs: pairs.clone(),
-        outputs: if one_thread {
-            vec![15; 32]
-        } else {
-            pairs.clone()
-        },
+        outputs: if longest { vec![15; 32] } else { pairs.clone() },
         locals: pairs,
-        records: vec![vec![0x01, 8, random.below(8) as u8]],
+        records: vec![vec![0x01, 8, random.within(longest.into(), 7) as u8]],
     };
     for _ in 0..16 {
         draft.records.push(thread(random, &style));
     }
     draft.add_items(random);
+    if longest {
+        draft.start_beyond_0(random);
+    }
     draft.add_connections(random, &style);
     for _ in 0..16 {
         draft.add_mode_transition(random, &style, 0);
     }
     for number in 0..64 {
-        let thread = if one_thread { 15 } else { number % 16 };
-        draft.records.push(vec![0x08, thread as u8, 0, 1]);
+        let thread = if longest { 15 } else { number % 16 };
+        let from = draft.first_state(thread);
+        draft.records.push(vec![0x08, thread as u8, from, 1]);
         draft.add_guard(random, thread, 4);
         draft.add_assignments(random, thread, 4);
     }
@@ -494,9 +550,14 @@ fn full(random: &mut Random) -> Vec<Record> {
 fn one_too_many(random: &mut Random) -> Vec<u8> {
     let mut records = full(random);
     let kind = random.within(0x02, 0x0A) as u8;
-    let last = records.iter().rposition(|record| record[0] == kind);
-    let last = last.expect("a full model has every kind");
-    let mut one_more = records[last].clone();
+    let last = records
+        .iter()
+        .rposition(|record| place(record[0]) == kind)
+        .expect("a full model has every kind");
+    let mut one_more = match kind {
+        0x03 => input_port(random, 0),
+        _ => records[last].clone(),
+    };
     if random.chance(50) {
         change_field(random, &mut one_more);
     }

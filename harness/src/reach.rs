@@ -6,7 +6,8 @@ use std::fmt::{self, Display, Formatter};
 
 use plain::model::{self, Assignment, BehaviorTransition, Model, Operand, State, Timing};
 use plain::script::{
-    Event, ACTIVATE, COMPLETE, DEADLINE, ENTER, LAST_NOW, LEAVE, MISS, REQUEST, TICK,
+    Event, ACTIVATE, COMPLETE, DEADLINE, DISPATCH, ENTER, LAST_NOW, LEAVE, MISS, REQUEST, START,
+    TICK,
 };
 
 /// Clocks above this one are late.
@@ -21,6 +22,10 @@ pub struct Reach {
     /// ENTERs and LEAVEs by the mode that they lead to.
     pub entered: [u64; 8],
     pub left: [u64; 8],
+    /// Input ports with a written start that is not 0, by number; and how often
+    /// they took it from their buffers again.
+    pub started: [u64; 32],
+    pub kept: [u64; 32],
     /// Sends that changed a buffer, by connection.
     pub sent: [u64; 32],
     /// Behaviour transitions taken that have a guard, and those that gave some
@@ -54,6 +59,8 @@ impl Default for Reach {
             taken: [[0; 16]; 11],
             entered: [0; 8],
             left: [0; 8],
+            started: [0; 32],
+            kept: [0; 32],
             sent: [0; 32],
             guarded: [0; 64],
             assigned: [0; 64],
@@ -64,6 +71,13 @@ impl Default for Reach {
 }
 
 impl Reach {
+    /// The start of a model.
+    pub fn note_start(&mut self, model: &Model) {
+        for (count, port) in self.started.iter_mut().zip(&model.input_ports) {
+            *count += u64::from(port.start.0 != 0);
+        }
+    }
+
     /// An event, the state before it, and what came of it.
     pub fn note(&mut self, model: &Model, before: &State, event: &Event, came: &Result<State, u8>) {
         match came {
@@ -91,6 +105,7 @@ impl Reach {
         }
         self.taken[kind][number] += 1;
         match event.kind {
+            DISPATCH | START => self.note_kept(model, before, event),
             COMPLETE => {
                 self.note_transition(model, before, number, after);
                 self.note_sends(model, before, number, Timing::Immediate, after);
@@ -99,6 +114,20 @@ impl Reach {
             ENTER => self.entered[usize::from(model.mode_transitions[number].to)] += 1,
             LEAVE => self.left[usize::from(after.mode)] += 1,
             _ => {}
+        }
+    }
+
+    /// At START the ports that a live immediate connection feeds take their
+    /// buffers, at DISPATCH the others.
+    fn note_kept(&mut self, model: &Model, before: &State, event: &Event) {
+        for port in model.input_ports_of(usize::from(event.id)) {
+            let feeding = model.immediate_feeding(port);
+            let at_start = feeding.is_some_and(|number| before.connection_active[number]);
+            let start = model.input_ports[port].start;
+            let kept = start.0 != 0 && before.port_buffers[port] == start;
+            if let Some(count) = self.kept.get_mut(port) {
+                *count += u64::from(kept && at_start == (event.kind == START));
+            }
         }
     }
 
@@ -151,6 +180,8 @@ impl Reach {
         }
         add_each(&mut self.entered, &other.entered);
         add_each(&mut self.left, &other.left);
+        add_each(&mut self.started, &other.started);
+        add_each(&mut self.kept, &other.kept);
         add_each(&mut self.sent, &other.sent);
         add_each(&mut self.guarded, &other.guarded);
         add_each(&mut self.assigned, &other.assigned);
@@ -207,11 +238,13 @@ impl Display for Reach {
         }
         write_counts(formatter, "ENTER by new mode", &self.entered)?;
         write_counts(formatter, "LEAVE by new mode", &self.left)?;
-        write_counts(
-            formatter,
-            "sends that changed a buffer, by connection",
-            &self.sent,
-        )?;
+        for (what, counts) in [
+            ("written starts not 0, by input port", &self.started),
+            ("taken again from the buffer, by input port", &self.kept),
+            ("sends that changed a buffer, by connection", &self.sent),
+        ] {
+            write_counts(formatter, what, counts)?;
+        }
         write_counts(formatter, "guards that held, by transition", &self.guarded)?;
         write_counts(
             formatter,

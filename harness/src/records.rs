@@ -9,12 +9,21 @@ pub fn model_body(kind: u8) -> Option<usize> {
         0x01 | 0x07 => Some(2),
         0x02 => Some(19),
         0x03 | 0x04 => Some(1),
-        0x05 => Some(5),
+        0x05 | 0x0B => Some(5),
         0x06 => Some(4),
         0x08 => Some(3),
         0x09 => Some(8),
         0x0A => Some(13),
         _ => None,
+    }
+}
+
+/// The kind in whose place the records of a model's kind stand, and with whose
+/// they are numbered: input ports with a written start go with the others.
+pub fn place(kind: u8) -> u8 {
+    match kind {
+        0x0B => 0x03,
+        _ => kind,
     }
 }
 
@@ -75,7 +84,7 @@ pub fn fields(kind: u8) -> &'static [usize] {
         0x01 | 0x07 => &[1, 1],
         0x02 => &[4, 4, 4, 4, 1, 1, 1],
         0x03 | 0x04 => &[1],
-        0x05 => &[1, 4],
+        0x05 | 0x0B => &[1, 4],
         0x06 => &[1, 1, 1, 1],
         0x08 => &[1, 1, 1],
         0x09 => &[1, 1, 1, 1, 4],

@@ -24,7 +24,8 @@ pub fn of_model(bytes: &[u8], script: &[u8], more_rooms: bool) -> (Said, Reach) 
         Err(refusal) => (refused(refusal, listings), Reach::default()),
         Ok(model) => {
             let start = model::start_state(&model);
-            let (seen, reach) = model_seen(&model, start.clone(), script);
+            let (seen, mut reach) = model_seen(&model, start.clone(), script);
+            reach.note_start(&model);
             let step = |state: &State, event: &Event| model::step(&model, state, event);
             let said = Said {
                 read: Told::default(),

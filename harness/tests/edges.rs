@@ -18,13 +18,14 @@ fn model() -> Vec<u8> {
         record.extend([mask, 1, 0]);
         record
     };
-    let records: [&[u8]; 17] = [
+    let records: [&[u8]; 18] = [
         &[0x01, 2, 0],
         &thread(4, 3),
         // With 1,000,000 the least common multiple is just too great.
         &thread(1_001, 1),
         &[0x03, 1],
-        &[0x03, 0],
+        &[0x0B, 0, 0xFE, 0xFF, 0xFF, 0xFF],
+        &[0x03, 1],
         &[0x04, 0],
         &[0x04, 1],
         &[0x05, 0, 5, 0, 0, 0],

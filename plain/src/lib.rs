@@ -1,9 +1,9 @@
 //! A plain implementation of document 01, "Pad timing models and their rule
-//! tables".
+//! tables", with the changes W1 and W2 of document 02.
 //!
 //! It reads a timing model from bytes, runs event lists on it, translates it
 //! into a rule table, reads rule tables from bytes and runs event lists on
-//! them. It is written from document 01 alone, sentence by sentence, and seeks
+//! them. It is written from the documents alone, sentence by sentence, and seeks
 //! neither speed nor elegance: each function does what one sentence says, and
 //! its comment names that sentence in other words. Another implementation can
 //! be tested against it, since the two share no line.
@@ -11,10 +11,11 @@
 //! * [`bytes`]: readers of integers, least byte first, and the extent of a record
 //! * [`refusal`]: the numbers of the causes, and the part handed back
 //! * [`script`]: reading events, and runs that stop at or go on after refusals
-//! * [`model`]: reading a model, and the model's machine
+//! * [`model`]: reading a model, with written starts of input ports (W2), and the
+//!   model's machine
 //! * [`table`]: reading and writing a table, and the table's machine
 //! * [`translate`]: the table made from a model
-//! * [`size`]: the size of that table, told without making it (document 02, W1)
+//! * [`size`]: the size of that table, told without making it (W1)
 //! * [`listing`]: the lines that the programs `steps` and `rules` print
 //! * [`show`]: a state of the model written as the table's variables
 //! * [`offers`]: what is enabled, of a model and of a table

@@ -156,7 +156,8 @@ fn rule(conditions: usize, updates: usize) -> TableSize {
 // Items
 
 /// The variables that do not start at 0: Pending and Cpu, which are none; Mode,
-/// Active, behaviour states, Flags and locals where the model has it so.
+/// Active, behaviour states, Flags, locals, and input ports with their buffers
+/// where the model has it so.
 fn start_count(model: &Model) -> usize {
     let live = |mode_mask| holds_mode(mode_mask, model.initial_mode);
     let modes = usize::from(model.initial_mode != 0);
@@ -165,8 +166,15 @@ fn start_count(model: &Model) -> usize {
     let elsewhere = threads.filter(|thread| thread.first_behavior_state != 0);
     let connections = model.connections.iter();
     let flags = connections.filter(|connection| live(connection.mode_mask));
+    let ports = model.input_ports.iter().filter(|port| port.start.0 != 0);
+    let ports_and_buffers = 2 * ports.count();
     let locals = model.locals.iter().filter(|local| local.start.0 != 0);
-    2 + modes + active.count() + elsewhere.count() + flags.count() + locals.count()
+    2 + modes
+        + active.count()
+        + elsewhere.count()
+        + flags.count()
+        + ports_and_buffers
+        + locals.count()
 }
 
 /// The rules that every thread has, without what its ports, connections and

@@ -62,6 +62,11 @@ fn small_thread() -> Vec<u8> {
     thread([5, 4, 1, 5], 1, 0, 0)
 }
 
+/// An input port with a written start.
+fn started_port(owner: u8, start: i32) -> Vec<u8> {
+    [&[0x0B, owner][..], &start.to_le_bytes()].concat()
+}
+
 fn local(owner: u8) -> Vec<u8> {
     vec![0x05, owner, 0, 0, 0, 0]
 }
@@ -157,6 +162,9 @@ fn ports_and_locals() {
     let before = [head(1, 0), small_thread(), small_thread()];
     for (owner, number) in [(0, 0), (1, 0), (2, 4), (255, 4)] {
         check_model(&before, &[0x03, owner], number);
+        for start in [0, 1, -1, i32::MIN, i32::MAX] {
+            check_model(&before, &started_port(owner, start), number);
+        }
         check_model(&before, &[0x04, owner], number);
         check_model(&before, &local(owner), number);
     }
@@ -321,12 +329,31 @@ fn counts() {
     };
     many(&start[..1], small_thread(), 16);
     many(&start[..2], vec![0x03, 0], 32);
+    many(&start[..2], started_port(0, 1), 32);
     many(&start[..2], vec![0x04, 0], 32);
     many(&start[..2], local(0), 32);
     many(&start, vec![0x07, 0, 0], 16);
     many(&start, vec![0x08, 0, 0, 0], 64);
     let transition = [&start[..], &[vec![0x08, 0, 0, 0]]].concat();
     many(&transition, guard_atom(0, [2, 0], (0, 0)), 4);
+}
+
+/// Both kinds of input ports count together, and the 33rd is one too many
+/// whatever else is wrong with it.
+#[test]
+fn counts_of_input_ports() {
+    for started in [0, 1, 16, 31, 32] {
+        let mut full = vec![started_port(0, 5); started];
+        full.resize(32, vec![0x03, 0]);
+        let before = |ports: &[Vec<u8>]| [&[head(1, 0), small_thread()], ports].concat();
+        for ports in [full.clone(), full.into_iter().rev().collect()] {
+            check_model(&before(&ports[..31]), &ports[31], 0);
+            for owner in [0, 1] {
+                check_model(&before(&ports), &[0x03, owner], 3);
+                check_model(&before(&ports), &started_port(owner, 5), 3);
+            }
+        }
+    }
 }
 
 #[test]
@@ -349,39 +376,56 @@ fn counts_of_connections_and_assignments() {
     check_model(&before, &assignment([2, 4], 0, (0, 0), (0, 0)), 3);
 }
 
-/// A good record of each kind, behind all the items that it names.
+/// The first kind that no model has.
+const UNKNOWN: u8 = 0x0C;
+
+/// A good record of each kind, behind all the items that it names. Both kinds of
+/// input ports stand in one place, either before the other.
 #[test]
 fn order_of_model_records() {
-    let records = [
-        head(1, 0),
-        small_thread(),
-        vec![0x03, 0],
-        vec![0x04, 0],
-        local(0),
-        vec![0x06, 0, 0, 0, 1],
-        vec![0x07, 0, 0],
-        vec![0x08, 0, 0, 0],
-        guard_atom(0, [2, 0], (0, 0)),
-        assignment([2, 0], 0, (0, 0), (0, 0)),
-    ];
-    for last in 0..records.len() {
-        let before = &records[..=last];
-        for (kind, record) in records.iter().enumerate() {
-            let allowed = match kind {
-                0 => false,
-                8 => last == 7 || last == 8,
-                9 => last >= 7,
-                _ => kind >= last.min(7),
-            };
-            let bytes = [before, std::slice::from_ref(record)].concat().concat();
-            let out_of_order = model::read(&bytes).is_err_and(|refusal| refusal.number == 2);
-            assert_eq!(out_of_order, !allowed, "{record:02x?} after {before:02x?}");
-            check_model(before, &[0x0B, 0], 2);
-            check_model(before, &record[..record.len() - 1], 1);
+    let ports = [vec![0x03, 0], started_port(0, 5)];
+    for [port, other_port] in [ports.clone(), [ports[1].clone(), ports[0].clone()]] {
+        let records = [
+            head(1, 0),
+            small_thread(),
+            port,
+            vec![0x04, 0],
+            local(0),
+            vec![0x06, 0, 0, 0, 1],
+            vec![0x07, 0, 0],
+            vec![0x08, 0, 0, 0],
+            guard_atom(0, [2, 0], (0, 0)),
+            assignment([2, 0], 0, (0, 0), (0, 0)),
+        ];
+        for last in 0..records.len() {
+            let before = &records[..=last];
+            for (place, record) in records.iter().enumerate() {
+                check_order(before, place, record);
+            }
+            check_order(before, 2, &other_port);
+            check_model(before, &[UNKNOWN, 0], 2);
+        }
+        for record in &records[1..] {
+            check_model(&[], record, 2);
         }
     }
-    for record in &records[1..] {
-        check_model(&[], record, 2);
+}
+
+/// A record that stands in a place of that list, after its first records; then
+/// the same with its end cut off.
+fn check_order(before: &[Vec<u8>], place: usize, record: &[u8]) {
+    let last = before.len() - 1;
+    let allowed = match place {
+        0 => false,
+        8 => last == 7 || last == 8,
+        9 => last >= 7,
+        _ => place >= last.min(7),
+    };
+    let bytes = [&before.concat()[..], record].concat();
+    let out_of_order = model::read(&bytes).is_err_and(|refusal| refusal.number == 2);
+    assert_eq!(out_of_order, !allowed, "{record:02x?} after {before:02x?}");
+    for length in 1..record.len() {
+        check_model(before, &record[..length], 1);
     }
 }
 

@@ -1,15 +1,16 @@
 //! Document 01's starred examples, each on the model and on its table.
 
 mod common;
+mod taken;
 
 use common::{model_and_table, simulation};
 use plain::listing::{rules, steps, LIMIT};
 use plain::model::{self, Duration};
 use plain::refusal::Refusal;
-use plain::script::{run, Event, TICK};
-use plain::show::show;
+use plain::script::{Event, TICK};
+use plain::table;
 use plain::table::variable::{self, NOW};
-use plain::table::{self, Variables};
+use taken::variables_after;
 
 /// A head of one mode.
 const HEAD: [u8; 3] = [0x01, 1, 0];
@@ -54,24 +55,6 @@ fn last_line(model: &[u8], script: &[u8]) -> String {
     assert_eq!(lines, rules(model, script, LIMIT));
     simulation(model, script).expect("model and table agree");
     lines.lines().last().expect("a last line").to_string()
-}
-
-/// The variables after a script of which every event is taken.
-fn variables_after(model: &[u8], script: &[u8]) -> Variables {
-    let answers = simulation(model, script).expect("model and table agree");
-    assert!(
-        answers.iter().all(|answer| answer.number == 0),
-        "{answers:?}"
-    );
-    let (model, _) = model_and_table(model).expect("an accepted model");
-    let mut state = model::start_state(&model);
-    run(
-        script,
-        &mut state,
-        |state, event| model::step(&model, state, event),
-        |_, _| {},
-    );
-    show(&model, &state)
 }
 
 #[test]

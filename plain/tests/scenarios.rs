@@ -2,12 +2,11 @@
 //! between a dispatch and a start.
 
 mod common;
+mod taken;
 
-use common::simulation;
-use plain::model;
-use plain::script::{run_on, TICK};
-use plain::show::show;
+use plain::script::TICK;
 use plain::table::variable;
+use taken::variables_after;
 
 /// Two modes; a source of period 8 that sends 5 over an immediate connection
 /// to a reader of period 8. Both threads are in both modes, none is critical.
@@ -37,20 +36,7 @@ const START_READER: [u8; 6] = [4, 1, 1, 0, 0, 0];
 /// The reader's input port and its buffer after a script; all events of it are
 /// taken, and model and table agree.
 fn port_and_buffer(model_bytes: &[u8], script: &[u8]) -> (i32, i32) {
-    let answers = simulation(model_bytes, script).expect("model and table agree");
-    assert!(
-        answers.iter().all(|answer| answer.number == 0),
-        "{answers:?}"
-    );
-    let model = model::read(model_bytes).expect("an accepted model");
-    let mut state = model::start_state(&model);
-    run_on(
-        script,
-        &mut state,
-        |state, event| model::step(&model, state, event),
-        |_, _| {},
-    );
-    let variables = show(&model, &state);
+    let variables = variables_after(model_bytes, script);
     (
         variables[variable::input_port(0)],
         variables[variable::port_buffer(0)],

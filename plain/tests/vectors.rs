@@ -277,7 +277,7 @@ fn check_table_case(case: &Case, differences: &mut Vec<String>) {
 #[test]
 fn models() {
     let cases = cases("models");
-    assert_eq!(cases.len(), 95);
+    assert_eq!(cases.len(), 112);
     let mut differences = Vec::new();
     for case in &cases {
         check_model_case(case, &mut differences);

@@ -1,8 +1,8 @@
 //! Timing models and rule tables: safe functions over the verified library.
 //!
 //! A model, a table and a script (a list of events) are bytes, laid out as
-//! document 01 says. Reading is total: any bytes are accepted, or refused with a
-//! number and the part of the input that it concerns.
+//! documents 01 and 02 say. Reading is total: any bytes are accepted, or refused
+//! with a number and the part of the input that it concerns.
 //!
 //! * [`read_model`], [`read_table`]: is this an accepted model or table?
 //! * [`translate`], [`translate_to_vec`]: the table made from a model
@@ -126,7 +126,7 @@ pub type Variables = [i32; VARIABLES];
 
 /// Room that suffices for the table of every accepted model; some tables take all
 /// of it.
-pub const ROOM_FOR_TABLE: usize = 171_189;
+pub const ROOM_FOR_TABLE: usize = 171_637;
 
 /// The size of a table: its bytes, and its records of each kind but start
 /// records, which are in the bytes alone.

@@ -80,7 +80,7 @@ pub const MEANINGS: &[Meaning] = &[
         8,
         Holder::Model,
         "the output is shorter than the table",
-        "give more room: 'futonkestrel size MODEL' tells how much, at most 171,189 bytes",
+        "give more room: 'futonkestrel size MODEL' tells how much, at most 171,637 bytes",
     ),
     meaning(
         9,

@@ -3,7 +3,7 @@
 use crate::{raw, read_table, run_table, table_listing, Refusal, Run, Variables, VARIABLES};
 
 /// How many numbers a model takes once it is read.
-pub const MODEL_WORDS: usize = 3_833;
+pub const MODEL_WORDS: usize = 3_865;
 
 /// How many numbers the state of a model takes.
 pub const STATE_WORDS: usize = 278;

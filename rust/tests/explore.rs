@@ -35,7 +35,7 @@ fn m_can_miss_twice() {
 #[test]
 fn the_lesson_step_by_step() {
     let wanted = "\
-5235 bytes of table
+5249 bytes of table
 depth 1: 5 new states
 depth 2: 15 new states
 depth 3: 36 new states

@@ -6,7 +6,10 @@ mod longest;
 
 use std::collections::BTreeSet;
 
-use common::{counted, table_of_m, BYTE, DUE, LESSON, LISTING, M, NOW, SCRIPT, SIZE_OF_M, STATE};
+use common::{
+    counted, table_of_m, BUFFER, BYTE, DUE, INPUT, LESSON, LISTING, M, NOW, SCRIPT, SIZE_OF_M,
+    STATE,
+};
 use futonkestrel::refusals::{meaning_of, Holder, MEANINGS};
 use futonkestrel::{
     event_length, events, model_after, model_listing, model_listing_into, read_model, read_table,
@@ -244,6 +247,26 @@ fn a_model_and_its_table_agree() {
     assert_eq!(offered[2].shortest(), [0x04, 0, 1, 0, 0, 0]);
     assert_eq!(offered[2].longest(), [0x04, 0, 5, 0, 0, 0]);
     assert_eq!(offered[3].shortest(), [0x05, 0]);
+}
+
+/// Port and buffer begin at the value that the port's record gives, in model and
+/// table; without one, and where it is 0, at 0.
+#[test]
+fn start_values_of_input_ports() {
+    let model = |ports: &[u8]| [M, ports].concat();
+    let pen = model(&[0x03, 0, 0x0B, 0, 0xFE, 0xFF, 0xFF, 0xFF]);
+    let bytes = translate_to_vec(&pen).expect("accepted");
+    let variables = Table::read(&bytes).expect("accepted").start();
+    for first in [INPUT, BUFFER] {
+        assert_eq!(variables[first..first + 3], [0, -2, 0]);
+    }
+    let read = Model::read(&pen).expect("accepted");
+    assert_eq!(read.variables(&read.start()), variables);
+    let zero = model(&[0x0B, 0, 0, 0, 0, 0]);
+    assert_eq!(
+        translate_to_vec(&zero),
+        translate_to_vec(&model(&[0x03, 0]))
+    );
 }
 
 /// More than the room that is tried first.

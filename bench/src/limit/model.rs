@@ -99,6 +99,8 @@ pub struct Model {
     pub active: u16,
     pub flags: u32,
     pub behavior_states: Vec<u8>,
+    /// Of input ports and of their buffers.
+    pub port_starts: Vec<i32>,
     pub locals: Vec<i32>,
 }
 
@@ -113,6 +115,7 @@ impl Model {
                 .iter()
                 .map(|t| t.first_behavior_state)
                 .collect(),
+            port_starts: read.input_ports.iter().map(|port| port.start.0).collect(),
             locals: read.locals.iter().map(|local| local.start.0).collect(),
             ..Model::default()
         };

@@ -74,7 +74,13 @@ impl State {
         let threads = model.threads.len();
         state.with[usize::from(WAITING_MODE)] = ((1_u32 << threads) - 1) as u16;
         state.behavior_states[..threads].copy_from_slice(&model.behavior_states);
-        state.values[LOCALS..][..model.locals.len()].copy_from_slice(&model.locals);
+        for (place, starts) in [
+            (INPUTS, &model.port_starts),
+            (BUFFERS, &model.port_starts),
+            (LOCALS, &model.locals),
+        ] {
+            state.values[place..][..starts.len()].copy_from_slice(starts);
+        }
         state
     }
 

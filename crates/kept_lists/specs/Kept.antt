@@ -17,11 +17,11 @@ use Rattle.numbers.specs.ListLaws.{item-below}
 use Rattle.numbers.specs.Values.{value, signed}
 use Rattle.records.specs.declared.Event.{Event}
 use Rattle.model_format.specs.declared.Thread.{Thread}
-use Rattle.model_format.specs.declared.Local.{Local}
+use Rattle.model_format.specs.declared.Owned.{Owned}
 use Rattle.model_format.specs.declared.ModeTransition.{ModeTransition}
 use Rattle.model_format.specs.declared.Transition.{Transition}
 use Rattle.model_format.specs.declared.Assignment.{Assignment}
-use Rattle.model_format.specs.Model.{maxThreads, maxInputs, maxOutputs, maxLocals, maxConnections, maxSwitches, maxTransitions, maxEach, maxTimes, noThread, noLocal, noSwitch, noTransition, noAssignment, threadAt, localAt, switchAt, transitionAt, assignmentAt}
+use Rattle.model_format.specs.Model.{maxThreads, maxInputs, maxOutputs, maxLocals, maxConnections, maxSwitches, maxTransitions, maxEach, maxTimes, noThread, noOwned, noSwitch, noTransition, noAssignment, threadAt, inputAt, localAt, switchAt, transitionAt, assignmentAt}
 use Rattle.model_semantics.specs.Machine.{startState, step}
 use Rattle.model_words.specs.Words as words
 use Rattle.model_state.specs.Words.{modePlace, phasePlace, pendingPlace, cpuPlace, activeBase, codeBase, dispatchedBase, lengthBase, spentBase, behaviorBase, missedBase, liveBase, inputBase, bufferBase, outputBase, localBase, stateWords, byteIn, markIn, durationIn, valueIn, numberIn, section, clockIn, threadsIn, portsIn, stateIn}
@@ -50,11 +50,12 @@ item-all room f i d P h k = subst P (sym (item-below room f i d)) (go (ltb i roo
     go false = k
 
 model-plain : (w : List ℕ) → Numbers w → PlainModel (words.modelIn w)
-unfolding threadAt localAt switchAt transitionAt assignmentAt words.timingIn words.behaviorIn words.threadsIn words.localsIn words.switchesIn words.transitionsIn words.assignmentsIn words.threadIn words.localIn words.switchIn words.transitionIn words.assignmentIn
+unfolding threadAt inputAt localAt switchAt transitionAt assignmentAt words.timingIn words.behaviorIn words.threadsIn words.inputsIn words.localsIn words.switchesIn words.transitionsIn words.assignmentsIn words.threadIn words.ownedIn words.switchIn words.transitionIn words.assignmentIn
 model-plain w f = record {
   initial = byte-twice (getD w words.initialPlace 0);
   first = λ t. item-all maxThreads (λ i. words.threadIn w (words.threadsFrom + i * words.threadSize)) t noThread (λ (x : Thread). byte (x .first) ≡ x .first) (λ j. byte-twice _) refl;
-  local = λ v. item-all maxLocals (λ i. words.localIn w (words.localsFrom + i * words.localSize)) v noLocal (λ (x : Local). again (x .start) ≡ x .start) (λ j. value-twice _ (f (words.localsFrom + j * words.localSize + 1))) refl;
+  input = λ v. item-all maxInputs (λ i. words.ownedIn w (words.inputsFrom + i * words.ownedSize)) v noOwned (λ (x : Owned). again (x .start) ≡ x .start) (λ j. value-twice _ (f (words.inputsFrom + j * words.ownedSize + 1))) refl;
+  local = λ v. item-all maxLocals (λ i. words.ownedIn w (words.localsFrom + i * words.ownedSize)) v noOwned (λ (x : Owned). again (x .start) ≡ x .start) (λ j. value-twice _ (f (words.localsFrom + j * words.ownedSize + 1))) refl;
   switch = λ q. item-all maxSwitches (λ i. words.switchIn w (words.switchesFrom + i * words.switchSize)) q noSwitch (λ (x : ModeTransition). byte (x .to) ≡ x .to) (λ j. byte-twice _) refl;
   transition = λ k. item-all maxTransitions (λ i. words.transitionIn w (words.transitionsFrom + i * words.transitionSize)) k noTransition (λ (x : Transition). byte (x .to) ≡ x .to) (λ j. byte-twice _) refl;
   left = λ k j. item-all maxTimes (λ i. words.assignmentIn w (words.assignmentsFrom + i * words.assignmentSize)) (k * maxEach + j) noAssignment (λ (x : Assignment). again (x .first .value) ≡ x .first .value) (λ i. value-twice _ (f (words.assignmentsFrom + i * words.assignmentSize + 3 + 1))) refl;

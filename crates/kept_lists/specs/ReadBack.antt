@@ -10,21 +10,21 @@ use lib.Seq.{drop-at, drop-drop, getD-drop, getD-append-add, sets, sets-eq}
 use Rattle.numbers.specs.Lists.{listBelow}
 use Rattle.numbers.specs.ListLaws.{list-below-is}
 use Rattle.model_format.specs.declared.Thread.{Thread}
-use Rattle.model_format.specs.declared.Local.{Local}
+use Rattle.model_format.specs.declared.Owned.{Owned}
 use Rattle.model_format.specs.declared.Connection.{Connection}
 use Rattle.model_format.specs.declared.ModeTransition.{ModeTransition}
 use Rattle.model_format.specs.declared.Transition.{Transition}
 use Rattle.model_format.specs.declared.Atom.{Atom}
 use Rattle.model_format.specs.declared.Assignment.{Assignment}
 use Rattle.model_format.specs.declared.Model.{Model}
-use Rattle.model_format.specs.Model.{maxThreads, maxInputs, maxOutputs, maxLocals, maxConnections, maxSwitches, maxTransitions, maxTimes, noThread, noLocal, noConnection, noSwitch, noTransition, noAtom, noAssignment}
+use Rattle.model_format.specs.Model.{maxThreads, maxInputs, maxOutputs, maxLocals, maxConnections, maxSwitches, maxTransitions, maxTimes, noThread, noOwned, noConnection, noSwitch, noTransition, noAtom, noAssignment}
 use Rattle.model_format.specs.Reading.{readModel}
 use Rattle.model_format.specs.WellFormed.{Bytes}
-use Rattle.model_words.specs.Words.{threadSize, localSize, connectionSize, switchSize, transitionSize, atomSize, assignmentSize, threadsFrom, inputsFrom, outputsFrom, localsFrom, connectionsFrom, switchesFrom, transitionsFrom, atomsFrom, assignmentsFrom, modelWords, threadIn, localIn, connectionIn, switchIn, transitionIn, atomIn, assignmentIn, threadsIn, inputsIn, outputsIn, localsIn, connectionsIn, switchesIn, transitionsIn, atomsIn, assignmentsIn, timingIn, behaviorIn, modelIn}
+use Rattle.model_words.specs.Words.{threadSize, ownedSize, connectionSize, switchSize, transitionSize, atomSize, assignmentSize, threadsFrom, inputsFrom, outputsFrom, localsFrom, connectionsFrom, switchesFrom, transitionsFrom, atomsFrom, assignmentsFrom, modelWords, threadIn, ownedIn, connectionIn, switchIn, transitionIn, atomIn, assignmentIn, threadsIn, inputsIn, outputsIn, localsIn, connectionsIn, switchesIn, transitionsIn, atomsIn, assignmentsIn, timingIn, behaviorIn, modelIn}
 use Rattle.state_settling.specs.Words.{valueNumber}
-use Rattle.model_settling.specs.ModelWords.{threadFields, localFields, connectionFields, switchFields, transitionFields, atomFields, assignmentFields, joined, headFields, wordsOfModel}
+use Rattle.model_settling.specs.ModelWords.{threadFields, ownedFields, connectionFields, switchFields, transitionFields, atomFields, assignmentFields, joined, headFields, wordsOfModel}
 use Rattle.kept_lists.specs.Plain.{byte}
-use Rattle.kept_lists.specs.WholeModel.{threadAgain, localAgain, connectionAgain, switchAgain, transitionAgain, atomAgain, assignmentAgain, WholeModel, read-whole}
+use Rattle.kept_lists.specs.WholeModel.{threadAgain, ownedAgain, connectionAgain, switchAgain, transitionAgain, atomAgain, assignmentAgain, WholeModel, read-whole}
 
 -- ---- items that stand one after the other, of z numbers each
 module _ {A : Type 0} (fields : A → List ℕ) (z : ℕ) (sized : (a : A) → length (fields a) ≡ z) where
@@ -76,15 +76,15 @@ thread-size : (a : Thread) → length (threadFields a) ≡ threadSize
 unfolding threadFields
 thread-size a = refl
 
-local-reads : (W : List ℕ) (q : ℕ) (a : Local) → ((k : ℕ) → k < localSize → getD W (q + k) 0 ≡ getD (localFields a) k 0) → localIn W q ≡ localAgain a
-unfolding localIn localFields valueNumber
-local-reads W q a h =
-    let e : getD W q 0 ≡ getD (localFields a) 0 0 = ap (λ (p : ℕ). getD W p 0) (let z : q ≡ q + 0 = omega arith in z) ∙ h 0 (omega arith) in
+owned-reads : (W : List ℕ) (q : ℕ) (a : Owned) → ((k : ℕ) → k < ownedSize → getD W (q + k) 0 ≡ getD (ownedFields a) k 0) → ownedIn W q ≡ ownedAgain a
+unfolding ownedIn ownedFields valueNumber
+owned-reads W q a h =
+    let e : getD W q 0 ≡ getD (ownedFields a) 0 0 = ap (λ (p : ℕ). getD W p 0) (let z : q ≡ q + 0 = omega arith in z) ∙ h 0 (omega arith) in
     rw (e, h 1 (omega arith))
 
-local-size : (a : Local) → length (localFields a) ≡ localSize
-unfolding localFields
-local-size a = refl
+owned-size : (a : Owned) → length (ownedFields a) ≡ ownedSize
+unfolding ownedFields
+owned-size a = refl
 
 connection-reads : (W : List ℕ) (q : ℕ) (a : Connection) → ((k : ℕ) → k < connectionSize → getD W (q + k) 0 ≡ getD (connectionFields a) k 0) → connectionIn W q ≡ connectionAgain a
 unfolding connectionIn connectionFields
@@ -164,13 +164,13 @@ module _ (m : Model) (w : WholeModel m) (rest : List ℕ) where
   connections-on = joined connectionFields (m .timing .connection) ++ switches-on
 
   abbrev locals-on : List ℕ
-  locals-on = joined localFields (m .timing .local) ++ connections-on
+  locals-on = joined ownedFields (m .timing .local) ++ connections-on
 
   abbrev outputs-on : List ℕ
   outputs-on = m .timing .output ++ locals-on
 
   abbrev inputs-on : List ℕ
-  inputs-on = m .timing .input ++ outputs-on
+  inputs-on = joined ownedFields (m .timing .input) ++ outputs-on
 
   abbrev threads-on : List ℕ
   threads-on = joined threadFields (m .timing .thread) ++ inputs-on
@@ -190,13 +190,13 @@ module _ (m : Model) (w : WholeModel m) (rest : List ℕ) where
   at-inputs = next threadsFrom (maxThreads * threadSize) W (joined threadFields (m .timing .thread)) inputs-on at-threads (many threadFields threadSize thread-size (m .timing .thread) maxThreads (w .thread .size))
 
   at-outputs : drop outputsFrom W ≡ outputs-on
-  at-outputs = next inputsFrom maxInputs W (m .timing .input) outputs-on at-inputs (w .input .size)
+  at-outputs = next inputsFrom (maxInputs * ownedSize) W (joined ownedFields (m .timing .input)) outputs-on at-inputs (many ownedFields ownedSize owned-size (m .timing .input) maxInputs (w .input .size))
 
   at-locals : drop localsFrom W ≡ locals-on
   at-locals = next outputsFrom maxOutputs W (m .timing .output) locals-on at-outputs (w .output .size)
 
   at-connections : drop connectionsFrom W ≡ connections-on
-  at-connections = next localsFrom (maxLocals * localSize) W (joined localFields (m .timing .local)) connections-on at-locals (many localFields localSize local-size (m .timing .local) maxLocals (w .local .size))
+  at-connections = next localsFrom (maxLocals * ownedSize) W (joined ownedFields (m .timing .local)) connections-on at-locals (many ownedFields ownedSize owned-size (m .timing .local) maxLocals (w .local .size))
 
   at-switches : drop switchesFrom W ≡ switches-on
   at-switches = next connectionsFrom (maxConnections * connectionSize) W (joined connectionFields (m .timing .connection)) switches-on at-connections (many connectionFields connectionSize connection-size (m .timing .connection) maxConnections (w .connection .size))
@@ -219,7 +219,7 @@ module _ (m : Model) (w : WholeModel m) (rest : List ℕ) where
 
   inputs-back : inputsIn W ≡ m .timing .input
   unfolding inputsIn
-  inputs-back = owners W inputsFrom maxInputs (m .timing .input) outputs-on at-inputs (w .input .size) ∙ w .input .same
+  inputs-back = block ownedFields ownedSize owned-size ownedAgain ownedIn owned-reads noOwned W inputsFrom maxInputs (m .timing .input) outputs-on at-inputs (w .input .size) ∙ w .input .same
 
   outputs-back : outputsIn W ≡ m .timing .output
   unfolding outputsIn
@@ -227,7 +227,7 @@ module _ (m : Model) (w : WholeModel m) (rest : List ℕ) where
 
   locals-back : localsIn W ≡ m .timing .local
   unfolding localsIn
-  locals-back = block localFields localSize local-size localAgain localIn local-reads noLocal W localsFrom maxLocals (m .timing .local) connections-on at-locals (w .local .size) ∙ w .local .same
+  locals-back = block ownedFields ownedSize owned-size ownedAgain ownedIn owned-reads noOwned W localsFrom maxLocals (m .timing .local) connections-on at-locals (w .local .size) ∙ w .local .same
 
   connections-back : connectionsIn W ≡ m .timing .connection
   unfolding connectionsIn

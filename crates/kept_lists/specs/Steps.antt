@@ -16,7 +16,7 @@ use Rattle.records.specs.Events.{isBroken, lastClock, tickKind}
 use Rattle.model_format.specs.declared.Assignment.{Assignment}
 use Rattle.model_format.specs.declared.Timing.{Timing}
 use Rattle.model_format.specs.declared.Model.{Model}
-use Rattle.model_format.specs.Model.{maxThreads, maxInputs, maxOutputs, maxLocals, maxConnections, threadAt, localAt, connectionAt, switchAt, transitionAt, assignmentAt}
+use Rattle.model_format.specs.Model.{maxThreads, maxInputs, maxOutputs, maxLocals, maxConnections, threadAt, inputAt, localAt, connectionAt, switchAt, transitionAt, assignmentAt}
 use Rattle.model_semantics.specs.declared.Ports.{Ports}
 use Rattle.model_semantics.specs.declared.State.{State}
 use Rattle.model_semantics.specs.declared.Stepped.{Stepped}
@@ -31,6 +31,7 @@ use Rattle.kept_lists.specs.Plain.{byte, again, whole, PlainPorts, Plain
 pub record PlainModel (m : Model) : Type 0 where
   pub initial : byte (m .timing .initial) ≡ m .timing .initial
   pub first : (t : ℕ) → byte (threadAt (m .timing) t .first) ≡ threadAt (m .timing) t .first
+  pub input : (i : ℕ) → again (inputAt (m .timing) i .start) ≡ inputAt (m .timing) i .start
   pub local : (v : ℕ) → again (localAt (m .timing) v .start) ≡ localAt (m .timing) v .start
   pub switch : (q : ℕ) → byte (switchAt (m .timing) q .to) ≡ switchAt (m .timing) q .to
   pub transition : (k : ℕ) → byte (transitionAt (m .behavior) k .to) ≡ transitionAt (m .behavior) k .to
@@ -219,8 +220,8 @@ start-state-plain m f = record {
   };
   live = folded whole maxConnections (m .timing .connections) _ _ (λ c k j. stored whole maxConnections k c _ refl j) (filled whole maxConnections false refl);
   ports = record {
-    input = filled again maxInputs (natural 0) refl;
-    buffer = filled again maxInputs (natural 0) refl;
+    input = folded again maxInputs (m .timing .inputs) _ _ (λ i k j. stored again maxInputs k i _ (f .input i) j) (filled again maxInputs (natural 0) refl);
+    buffer = folded again maxInputs (m .timing .inputs) _ _ (λ i k j. stored again maxInputs k i _ (f .input i) j) (filled again maxInputs (natural 0) refl);
     output = filled again maxOutputs (natural 0) refl;
     local = folded again maxLocals (m .timing .locals) _ _ (λ v k j. stored again maxLocals k v _ (f .local v) j) (filled again maxLocals (natural 0) refl);
   };

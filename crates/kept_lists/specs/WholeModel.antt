@@ -18,7 +18,7 @@ use Rattle.records.specs.declared.Operand.{Operand}
 use Rattle.records.specs.Format.{recordSize, partLength, partsFrom, parts, operandAt}
 use Rattle.records.specs.Refusals.{isNone}
 use Rattle.model_format.specs.declared.Thread.{Thread}
-use Rattle.model_format.specs.declared.Local.{Local}
+use Rattle.model_format.specs.declared.Owned.{Owned}
 use Rattle.model_format.specs.declared.Connection.{Connection}
 use Rattle.model_format.specs.declared.ModeTransition.{ModeTransition}
 use Rattle.model_format.specs.declared.Transition.{Transition}
@@ -29,8 +29,8 @@ use Rattle.model_format.specs.declared.ModelRead.{ModelRead}
 use Rattle.model_format.specs.declared.Reading.{Reading}
 use Rattle.model_format.specs.declared.Record.{Record}
 use Rattle.model_format.specs.declared.Record.the-variants.{HeadRecord, ThreadRecord, InputRecord, OutputRecord, LocalRecord, ConnectionRecord, ModeRecord, TransitionRecord, AtomRecord, AssignmentRecord, Cut, Unknown}
-use Rattle.model_format.specs.Format.{headOf, threadOf, localOf, connectionOf, switchOf, transitionOf, atomOf, assignmentOf, recordOf}
-use Rattle.model_format.specs.Model.{maxThreads, maxInputs, maxOutputs, maxLocals, maxConnections, maxSwitches, maxTransitions, maxEach, maxTimes, noThread, noLocal, noConnection, noSwitch, noTransition, noAtom, noAssignment, transitionAt, emptyModel}
+use Rattle.model_format.specs.Format.{headOf, threadOf, inputOf, ownedOf, connectionOf, switchOf, transitionOf, atomOf, assignmentOf, recordOf}
+use Rattle.model_format.specs.Model.{maxThreads, maxInputs, maxOutputs, maxLocals, maxConnections, maxSwitches, maxTransitions, maxEach, maxTimes, noThread, noOwned, noConnection, noSwitch, noTransition, noAtom, noAssignment, transitionAt, emptyModel}
 use Rattle.model_format.specs.Faultless.{faultless}
 use Rattle.model_format.specs.Reading.{lastTransition, withHyperperiods, withCounts, addHead, addThread, addInput, addOutput, addLocal, addConnection, addSwitch, addTransition, addAtom, addAssignment, addRecord, causeOf, nextReading, readFrom, begin, readModel}
 use Rattle.model_format.specs.WellFormed.{Bytes}
@@ -47,8 +47,8 @@ operandAgain o = record { tag = byte (o .tag); value = again (o .value) }
 abbrev pub threadAgain : Thread → Thread
 threadAgain x = record { period = x .period; deadline = x .deadline; bcet = x .bcet; wcet = x .wcet; modes = byte (x .modes); critical = byte (x .critical); first = byte (x .first) }
 
-abbrev pub localAgain : Local → Local
-localAgain x = record { owner = byte (x .owner); start = again (x .start) }
+abbrev pub ownedAgain : Owned → Owned
+ownedAgain x = record { owner = byte (x .owner); start = again (x .start) }
 
 abbrev pub connectionAgain : Connection → Connection
 connectionAgain x = record { kind = byte (x .kind); source = short (x .source); target = short (x .target); modes = byte (x .modes) }
@@ -69,9 +69,9 @@ pub record WholeModel (m : Model) : Type 0 where
   pub modes : byte (m .timing .modes) ≡ m .timing .modes
   pub initial : byte (m .timing .initial) ≡ m .timing .initial
   pub thread : Array threadAgain maxThreads (m .timing .thread)
-  pub input : Array byte maxInputs (m .timing .input)
+  pub input : Array ownedAgain maxInputs (m .timing .input)
   pub output : Array byte maxOutputs (m .timing .output)
-  pub local : Array localAgain maxLocals (m .timing .local)
+  pub local : Array ownedAgain maxLocals (m .timing .local)
   pub connection : Array connectionAgain maxConnections (m .timing .connection)
   pub switch : Array switchAgain maxSwitches (m .timing .switch)
   pub transition : Array transitionAgain maxTransitions (m .behavior .transition)
@@ -84,9 +84,9 @@ empty-whole = record {
   modes = refl;
   initial = refl;
   thread = filled threadAgain maxThreads noThread refl;
-  input = filled byte maxInputs 0 refl;
+  input = filled ownedAgain maxInputs noOwned refl;
   output = filled byte maxOutputs 0 refl;
-  local = filled localAgain maxLocals noLocal refl;
+  local = filled ownedAgain maxLocals noOwned refl;
   connection = filled connectionAgain maxConnections noConnection refl;
   switch = filled switchAgain maxSwitches noSwitch refl;
   transition = filled transitionAgain maxTransitions noTransition refl;
@@ -98,9 +98,9 @@ empty-whole = record {
 abbrev Decoded : Record → Type 0
 Decoded (HeadRecord x) = (byte (x .modes) ≡ x .modes) × (byte (x .initial) ≡ x .initial)
 Decoded (ThreadRecord x) = threadAgain x ≡ x
-Decoded (InputRecord o) = byte o ≡ o
+Decoded (InputRecord x) = ownedAgain x ≡ x
 Decoded (OutputRecord o) = byte o ≡ o
-Decoded (LocalRecord x) = localAgain x ≡ x
+Decoded (LocalRecord x) = ownedAgain x ≡ x
 Decoded (ConnectionRecord x) = connectionAgain x ≡ x
 Decoded (ModeRecord x) = switchAgain x ≡ x
 Decoded (TransitionRecord x) = transitionAgain x ≡ x
@@ -133,20 +133,21 @@ module _ (x : List ℕ) (h : Bytes x) where
   operand-at p = rw (at p, value-at (p + 1))
 
   decoded : Decoded (recordOf x)
-  unfolding recordOf headOf threadOf localOf connectionOf switchOf transitionOf atomOf assignmentOf
+  unfolding recordOf headOf threadOf inputOf ownedOf connectionOf switchOf transitionOf atomOf assignmentOf
   decoded =
       let k = getD x 0 0 in
       either (eqb (recordSize notations.Model k) 0) Unknown _ tt
       (either (ltb (length x) (recordSize notations.Model k)) Cut _ tt
       (either (eqb k 1) (HeadRecord (headOf x)) _ (at 1, at 2)
       (either (eqb k 2) (ThreadRecord (threadOf x)) _ (rw (at 17, at 18, at 19))
-      (either (eqb k 3) (InputRecord (getD x 1 0)) _ (at 1)
+      (either (eqb k 3) (InputRecord (inputOf x)) _ (rw (at 1))
+      (either (eqb k 11) (InputRecord (ownedOf x)) _ (rw (at 1, value-at 2))
       (either (eqb k 4) (OutputRecord (getD x 1 0)) _ (at 1)
-      (either (eqb k 5) (LocalRecord (localOf x)) _ (rw (at 1, value-at 2))
+      (either (eqb k 5) (LocalRecord (ownedOf x)) _ (rw (at 1, value-at 2))
       (either (eqb k 6) (ConnectionRecord (connectionOf x)) _ (rw (at 1, wide 2, wide 3, at 4))
       (either (eqb k 7) (ModeRecord (switchOf x)) _ (rw (at 1, at 2))
       (either (eqb k 8) (TransitionRecord (transitionOf x)) _ (rw (at 1, at 2, at 3))
-      (either (eqb k 9) (AtomRecord (atomOf x)) (AssignmentRecord (assignmentOf x)) (rw (at 1, at 2, wide 3, operand-at 4)) (rw (at 1, wide 2, at 3, operand-at 4, operand-at 9))))))))))))
+      (either (eqb k 9) (AtomRecord (atomOf x)) (AssignmentRecord (assignmentOf x)) (rw (at 1, at 2, wide 3, operand-at 4)) (rw (at 1, wide 2, at 3, operand-at 4, operand-at 9)))))))))))))
 
 -- ---- one record more
 counted : (x : Transition) (n k : ℕ) → transitionAgain x ≡ x → n < 256 → k < 256 → transitionAgain (withCounts x n k) ≡ withCounts x n k
@@ -167,9 +168,9 @@ module _ (a : Reading) (w : WholeModel (a .model)) where
   unfolding addRecord addHead addThread addInput addOutput addLocal addConnection addSwitch addTransition addAtom addAssignment causeOf
   next-whole (HeadRecord x) d h = record { modes = d .0; initial = d .1; thread = w .thread; input = w .input; output = w .output; local = w .local; connection = w .connection; switch = w .switch; transition = w .transition; atom = w .atom; assignment = w .assignment }
   next-whole (ThreadRecord x) d h = record { modes = w .modes; initial = w .initial; thread = stored threadAgain maxThreads _ (a .model .timing .threads) x d (w .thread); input = w .input; output = w .output; local = w .local; connection = w .connection; switch = w .switch; transition = w .transition; atom = w .atom; assignment = w .assignment }
-  next-whole (InputRecord o) d h = record { modes = w .modes; initial = w .initial; thread = w .thread; input = stored byte maxInputs _ (a .model .timing .inputs) o d (w .input); output = w .output; local = w .local; connection = w .connection; switch = w .switch; transition = w .transition; atom = w .atom; assignment = w .assignment }
+  next-whole (InputRecord x) d h = record { modes = w .modes; initial = w .initial; thread = w .thread; input = stored ownedAgain maxInputs _ (a .model .timing .inputs) x d (w .input); output = w .output; local = w .local; connection = w .connection; switch = w .switch; transition = w .transition; atom = w .atom; assignment = w .assignment }
   next-whole (OutputRecord o) d h = record { modes = w .modes; initial = w .initial; thread = w .thread; input = w .input; output = stored byte maxOutputs _ (a .model .timing .outputs) o d (w .output); local = w .local; connection = w .connection; switch = w .switch; transition = w .transition; atom = w .atom; assignment = w .assignment }
-  next-whole (LocalRecord x) d h = record { modes = w .modes; initial = w .initial; thread = w .thread; input = w .input; output = w .output; local = stored localAgain maxLocals _ (a .model .timing .locals) x d (w .local); connection = w .connection; switch = w .switch; transition = w .transition; atom = w .atom; assignment = w .assignment }
+  next-whole (LocalRecord x) d h = record { modes = w .modes; initial = w .initial; thread = w .thread; input = w .input; output = w .output; local = stored ownedAgain maxLocals _ (a .model .timing .locals) x d (w .local); connection = w .connection; switch = w .switch; transition = w .transition; atom = w .atom; assignment = w .assignment }
   next-whole (ConnectionRecord x) d h = record { modes = w .modes; initial = w .initial; thread = w .thread; input = w .input; output = w .output; local = w .local; connection = stored connectionAgain maxConnections _ (a .model .timing .connections) x d (w .connection); switch = w .switch; transition = w .transition; atom = w .atom; assignment = w .assignment }
   next-whole (ModeRecord x) d h = record { modes = w .modes; initial = w .initial; thread = w .thread; input = w .input; output = w .output; local = w .local; connection = w .connection; switch = stored switchAgain maxSwitches _ (a .model .timing .switches) (withHyperperiods (a .model .timing) x) (rw (ap (λ (y : ModeTransition). y .from) d, ap (λ (y : ModeTransition). y .to) d)) (w .switch); transition = w .transition; atom = w .atom; assignment = w .assignment }
   next-whole (TransitionRecord x) d h = record { modes = w .modes; initial = w .initial; thread = w .thread; input = w .input; output = w .output; local = w .local; connection = w .connection; switch = w .switch; transition = stored transitionAgain maxTransitions _ (a .model .behavior .transitions) x d (w .transition); atom = w .atom; assignment = w .assignment }

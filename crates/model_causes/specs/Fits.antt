@@ -9,7 +9,7 @@ use Rattle.records.specs.declared.Operand.{Operand}
 use Rattle.records.specs.declared.Cause.the-variants.{None}
 use Rattle.model_format.specs.declared.Assignment.{Assignment}
 use Rattle.model_format.specs.declared.Atom.{Atom}
-use Rattle.model_format.specs.declared.Local.{Local}
+use Rattle.model_format.specs.declared.Owned.{Owned}
 use Rattle.model_format.specs.declared.Reading.{Reading}
 use Rattle.model_format.specs.declared.Record.the-variants.{AtomRecord, AssignmentRecord}
 use Rattle.model_format.specs.declared.Timing.{Timing}
@@ -46,7 +46,7 @@ module _ (m : Timing) (t tag n count : ℕ) where
   unfolding itemFits namesItem isOwnedBy
   an-input k e l o f = rw (k, lt-ltb n (m .inputs) (omega arith), f)
 
-  pub a-local : tag ≡ localTag → count ≡ m .locals → n < count → (x : Local) → x ≡ localAt m n → eqb (x .owner) t ≡ itemFits m t tag n
+  pub a-local : tag ≡ localTag → count ≡ m .locals → n < count → (x : Owned) → x ≡ localAt m n → eqb (x .owner) t ≡ itemFits m t tag n
   unfolding itemFits namesItem isOwnedBy
   a-local k e l x f = rw (k, lt-ltb n (m .locals) (omega arith), f)
 

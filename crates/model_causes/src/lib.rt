@@ -27,13 +27,13 @@ use model_format::INPUT_RANK;
 use model_format::INPUT_TAG;
 use model_format::LOCAL_RANK;
 use model_format::LOCAL_TAG;
-use model_format::Local;
 use model_format::MAX_INPUTS;
 use model_format::MAX_LOCALS;
 use model_format::MAX_OUTPUTS;
 use model_format::ModeTransition;
 use model_format::OUTPUT_RANK;
 use model_format::OUTPUT_TAG;
+use model_format::Owned;
 use model_format::SWITCH_RANK;
 use model_format::THREAD_RANK;
 use model_format::TRANSITION_RANK;
@@ -62,7 +62,6 @@ use records::Cause;
 use records::Operand;
 ghost use mathlib.Core.Path.{_≡_};
 ghost use Rattle.model_format.specs.declared.Record.the-variants as variants;
-ghost use Rattle.model_format.specs.Model as models;
 ghost use Rattle.model_format.specs.Reading as reading;
 ghost use Rattle.model_words.specs.Words as words;
 ghost use Rattle.model_faults.specs.Causes as causes;
@@ -167,12 +166,12 @@ pub fn cause_of_thread(model: &[u32], last: u8, thread: Thread) -> Cause
     thread_cause(order, stand_of(model, last), thread)
 }
 
-pub fn cause_of_input(model: &[u32], last: u8, owner: u8) -> Cause
-    ensures { λ cause. ⌜ cause ≡ reading.causeOf (readings.readingIn last (now (model .entry))) (variants.InputRecord owner) ⌝ }
+pub fn cause_of_input(model: &[u32], last: u8, input: Owned) -> Cause
+    ensures { λ cause. ⌜ cause ≡ reading.causeOf (readings.readingIn last (now (model .entry))) (variants.InputRecord input) ⌝ }
 {
     let order = !in_order(last, INPUT_RANK);
     let stand = stand_of(model, last);
-    port_cause(order, stand.inputs, MAX_INPUTS, stand, owner)
+    port_cause(order, stand.inputs, MAX_INPUTS, stand, input.owner)
 }
 
 pub fn cause_of_output(model: &[u32], last: u8, owner: u8) -> Cause
@@ -183,7 +182,7 @@ pub fn cause_of_output(model: &[u32], last: u8, owner: u8) -> Cause
     port_cause(order, stand.outputs, MAX_OUTPUTS, stand, owner)
 }
 
-pub fn cause_of_local(model: &[u32], last: u8, local: Local) -> Cause
+pub fn cause_of_local(model: &[u32], last: u8, local: Owned) -> Cause
     ensures { λ cause. ⌜ cause ≡ reading.causeOf (readings.readingIn last (now (model .entry))) (variants.LocalRecord local) ⌝ }
 {
     let order = !in_order(last, LOCAL_RANK);

@@ -12,7 +12,7 @@ use borrow.Author.Tests.{eqb-false}
 use lib.ListN.{getD, length, take, length-take, List·getD-eq-default}
 use lib.Seq.{getD-take}
 use lib.Dec.{eqb, ltb}
-use Rattle.numbers.specs.Values.{signed, u32At}
+use Rattle.numbers.specs.Values.{natural, signed, u32At}
 use Rattle.records.specs.declared.Notation.{Notation}
 use Rattle.records.specs.declared.Notation.the-variants as notations
 use Rattle.records.specs.Format.{recordSize, partLength, partsFrom, parts, operandAt}
@@ -21,7 +21,7 @@ use Rattle.model_format.specs.declared.Record.{Record}
 use Rattle.model_format.specs.declared.Record.the-variants.{HeadRecord, ThreadRecord, InputRecord, OutputRecord, LocalRecord, ConnectionRecord, ModeRecord, TransitionRecord, AtomRecord, AssignmentRecord, Cut, Unknown}
 use Rattle.model_format.specs.declared.Reading.{Reading}
 use Rattle.model_format.specs.declared.ModelRead.{ModelRead}
-use Rattle.model_format.specs.Format.{headOf, threadOf, localOf, connectionOf, switchOf, transitionOf, atomOf, assignmentOf, recordOf}
+use Rattle.model_format.specs.Format.{headOf, threadOf, inputOf, ownedOf, connectionOf, switchOf, transitionOf, atomOf, assignmentOf, recordOf}
 use Rattle.model_format.specs.Reading.{causeOf, nextReading, readFrom, begin, readModel}
 use Rattle.model_format.specs.WellFormed.{Bytes, WellFormed}
 use Rattle.model_format.specs.Sound.{Sound, sound-begin, well-formed}
@@ -32,7 +32,7 @@ use Rattle.model_format.specs.BehaviorSteps.{transition-next, atom-next,
 abbrev Decoded : Record → Type 0
 Decoded (HeadRecord x) = Unit {0}
 Decoded (ThreadRecord x) = Unit {0}
-Decoded (InputRecord o) = Unit {0}
+Decoded (InputRecord x) = SFits w32 (x .start .0)
 Decoded (OutputRecord o) = Unit {0}
 Decoded (LocalRecord x) = SFits w32 (x .start .0)
 Decoded (ConnectionRecord x) = Unit {0}
@@ -55,28 +55,32 @@ value-fits x p h =
     let d = h (p + 3) in
     toZ-fits w32 (u32At x p) (record { fits = omega arith })
 
+zero-fits : SFits w32 (natural 0 .0)
+zero-fits = record { sfits = omega arith }
+
 decoded : (x : List ℕ) → Bytes x → Decoded (recordOf x)
-unfolding recordOf localOf transitionOf atomOf assignmentOf operandAt
+unfolding recordOf inputOf ownedOf transitionOf atomOf assignmentOf operandAt
 decoded x h =
     let k = getD x 0 0 in
     either (eqb (recordSize notations.Model k) 0) Unknown _ tt
     (either (ltb (length x) (recordSize notations.Model k)) Cut _ tt
     (either (eqb k 1) (HeadRecord (headOf x)) _ tt
     (either (eqb k 2) (ThreadRecord (threadOf x)) _ tt
-    (either (eqb k 3) (InputRecord (getD x 1 0)) _ tt
+    (either (eqb k 3) (InputRecord (inputOf x)) _ zero-fits
+    (either (eqb k 11) (InputRecord (ownedOf x)) _ (value-fits x 2 h)
     (either (eqb k 4) (OutputRecord (getD x 1 0)) _ tt
-    (either (eqb k 5) (LocalRecord (localOf x)) _ (value-fits x 2 h)
+    (either (eqb k 5) (LocalRecord (ownedOf x)) _ (value-fits x 2 h)
     (either (eqb k 6) (ConnectionRecord (connectionOf x)) _ tt
     (either (eqb k 7) (ModeRecord (switchOf x)) _ tt
     (either (eqb k 8) (TransitionRecord (transitionOf x)) _ (refl, refl)
-    (either (eqb k 9) (AtomRecord (atomOf x)) (AssignmentRecord (assignmentOf x)) (value-fits x 5 h) (value-fits x 5 h, value-fits x 10 h)))))))))))
+    (either (eqb k 9) (AtomRecord (atomOf x)) (AssignmentRecord (assignmentOf x)) (value-fits x 5 h) (value-fits x 5 h, value-fits x 10 h))))))))))))
 
 -- ---- one record
 sound-next : (a : Reading) (r : Record) → Decoded r → Sound a → isNone (causeOf a r) ≡ true → Sound (nextReading a r)
 unfolding causeOf numberOf
 sound-next a (HeadRecord x) d s h = head-next a x s h
 sound-next a (ThreadRecord x) d s h = thread-next a x s h
-sound-next a (InputRecord o) d s h = input-next a o s h
+sound-next a (InputRecord x) d s h = input-next a x d s h
 sound-next a (OutputRecord o) d s h = output-next a o s h
 sound-next a (LocalRecord x) d s h = local-next a x d s h
 sound-next a (ConnectionRecord x) d s h = connection-next a x s h

@@ -4,13 +4,13 @@ use mathlib.Core.List.{List}
 use Prim.Native.Nat.{ℕ}
 use lib.ListN.{getD, length}
 use lib.Dec.{eqb, ltb}
-use Rattle.numbers.specs.Values.{duration, durationAt, valueAt}
+use Rattle.numbers.specs.Values.{duration, natural, durationAt, valueAt}
 use Rattle.records.specs.declared.Notation.the-variants as notations
-use Rattle.records.specs.Kinds.{modelHead, modelThread, modelInput, modelOutput, modelLocal, modelConnection, modelSwitch, modelTransition, modelAtom}
+use Rattle.records.specs.Kinds.{modelHead, modelThread, modelInput, modelOutput, modelLocal, modelConnection, modelSwitch, modelTransition, modelAtom, modelWrittenInput}
 use Rattle.records.specs.Format.{recordSize, operandAt}
 use Rattle.model_format.specs.declared.Head.{Head}
 use Rattle.model_format.specs.declared.Thread.{Thread}
-use Rattle.model_format.specs.declared.Local.{Local}
+use Rattle.model_format.specs.declared.Owned.{Owned}
 use Rattle.model_format.specs.declared.Connection.{Connection}
 use Rattle.model_format.specs.declared.ModeTransition.{ModeTransition}
 use Rattle.model_format.specs.declared.Transition.{Transition}
@@ -35,9 +35,13 @@ threadOf x = record {
   first = getD x 19 0;
 }
 
--- "05 local: owner u8, start i32"
-unfoldable pub localOf : List ℕ → Local
-localOf x = record { owner = getD x 1 0; start = valueAt x 2 }
+-- "03 input port: owner thread u8"; "Kind 03 still means 0"
+unfoldable pub inputOf : List ℕ → Owned
+inputOf x = record { owner = getD x 1 0; start = natural 0 }
+
+-- "05 local: owner u8, start i32"; "0B, owner u8 and start i32"
+unfoldable pub ownedOf : List ℕ → Owned
+ownedOf x = record { owner = getD x 1 0; start = valueAt x 2 }
 
 -- "06 connection: type u8 .. output port u8, input port u8, mask"
 unfoldable pub connectionOf : List ℕ → Connection
@@ -63,13 +67,14 @@ abbrev pub recordOfWhole : ℕ → List ℕ → Record
 recordOfWhole k x =
     cond (eqb k modelHead) (HeadRecord (headOf x))
     (cond (eqb k modelThread) (ThreadRecord (threadOf x))
-    (cond (eqb k modelInput) (InputRecord (getD x 1 0))
+    (cond (eqb k modelInput) (InputRecord (inputOf x))
+    (cond (eqb k modelWrittenInput) (InputRecord (ownedOf x))
     (cond (eqb k modelOutput) (OutputRecord (getD x 1 0))
-    (cond (eqb k modelLocal) (LocalRecord (localOf x))
+    (cond (eqb k modelLocal) (LocalRecord (ownedOf x))
     (cond (eqb k modelConnection) (ConnectionRecord (connectionOf x))
     (cond (eqb k modelSwitch) (ModeRecord (switchOf x))
     (cond (eqb k modelTransition) (TransitionRecord (transitionOf x))
-    (cond (eqb k modelAtom) (AtomRecord (atomOf x)) (AssignmentRecord (assignmentOf x))))))))))
+    (cond (eqb k modelAtom) (AtomRecord (atomOf x)) (AssignmentRecord (assignmentOf x)))))))))))
 
 -- the record that a part holds
 unfoldable pub recordOf : List ℕ → Record
@@ -77,7 +82,7 @@ recordOf x =
     let m = recordSize notations.Model (getD x 0 0) in
     cond (eqb m 0) Unknown (cond (ltb (length x) m) Cut (recordOfWhole (getD x 0 0) x))
 
--- ---- ranks: the places of records in the order that "Kinds 01 to 08 never fall" asks for, with those of 09 and 0A after them
+-- ---- ranks: the places of records in the order that "Kinds 01 to 08 never fall" asks for, with those of 09 and 0A after them; 0B "may stand wherever 03 may"
 abbrev pub headRank : ℕ
 headRank = 1
 
@@ -112,7 +117,7 @@ assignmentRank = 10
 unfoldable pub rankOf : Record → ℕ
 rankOf (HeadRecord x) = headRank
 rankOf (ThreadRecord x) = threadRank
-rankOf (InputRecord o) = inputRank
+rankOf (InputRecord x) = inputRank
 rankOf (OutputRecord o) = outputRank
 rankOf (LocalRecord x) = localRank
 rankOf (ConnectionRecord x) = connectionRank

@@ -10,3 +10,4 @@ pub mod Sound
 pub mod TimingSteps
 pub mod BehaviorSteps
 pub mod Accepted
+pub mod SameRecords

@@ -10,7 +10,7 @@ use Rattle.numbers.specs.Multiples.{lcmUpTo}
 use Rattle.records.specs.declared.Operand.{Operand}
 use Rattle.records.specs.Events.{lastClock}
 use Rattle.model_format.specs.declared.Thread.{Thread}
-use Rattle.model_format.specs.declared.Local.{Local}
+use Rattle.model_format.specs.declared.Owned.{Owned}
 use Rattle.model_format.specs.declared.Connection.{Connection}
 use Rattle.model_format.specs.declared.ModeTransition.{ModeTransition}
 use Rattle.model_format.specs.declared.Transition.{Transition}
@@ -53,8 +53,8 @@ maxTimes = maxTransitions * maxEach
 abbrev pub noThread : Thread
 noThread = record { period = duration 0; deadline = duration 0; bcet = duration 0; wcet = duration 0; modes = 0; critical = 0; first = 0 }
 
-abbrev pub noLocal : Local
-noLocal = record { owner = 0; start = natural 0 }
+abbrev pub noOwned : Owned
+noOwned = record { owner = 0; start = natural 0 }
 
 abbrev pub noConnection : Connection
 noConnection = record { kind = 0; source = 0; target = 0; modes = 0 }
@@ -77,14 +77,17 @@ noAssignment = record { tag = 0; number = 0; op = 0; first = noOperand; second =
 unfoldable pub threadAt : Timing → ℕ → Thread
 threadAt m t = item maxThreads (m .thread) t noThread
 
-unfoldable pub inputOwner : Timing → ℕ → ℕ
-inputOwner m i = item maxInputs (m .input) i 0
+unfoldable pub inputAt : Timing → ℕ → Owned
+inputAt m i = item maxInputs (m .input) i noOwned
+
+abbrev pub inputOwner : Timing → ℕ → ℕ
+inputOwner m i = inputAt m i .owner
 
 unfoldable pub outputOwner : Timing → ℕ → ℕ
 outputOwner m o = item maxOutputs (m .output) o 0
 
-unfoldable pub localAt : Timing → ℕ → Local
-localAt m v = item maxLocals (m .local) v noLocal
+unfoldable pub localAt : Timing → ℕ → Owned
+localAt m v = item maxLocals (m .local) v noOwned
 
 unfoldable pub connectionAt : Timing → ℕ → Connection
 connectionAt m c = item maxConnections (m .connection) c noConnection
@@ -106,13 +109,13 @@ assignmentAt b k j = item maxTimes (b .assignment) (k * maxEach + j) noAssignmen
 abbrev pub withThreads : Timing → ℕ → List Thread → Timing
 withThreads m n l = record { modes = m .modes; initial = m .initial; threads = n; thread = l; inputs = m .inputs; input = m .input; outputs = m .outputs; output = m .output; locals = m .locals; local = m .local; connections = m .connections; connection = m .connection; switches = m .switches; switch = m .switch }
 
-abbrev pub withInputs : Timing → ℕ → List ℕ → Timing
+abbrev pub withInputs : Timing → ℕ → List Owned → Timing
 withInputs m n l = record { modes = m .modes; initial = m .initial; threads = m .threads; thread = m .thread; inputs = n; input = l; outputs = m .outputs; output = m .output; locals = m .locals; local = m .local; connections = m .connections; connection = m .connection; switches = m .switches; switch = m .switch }
 
 abbrev pub withOutputs : Timing → ℕ → List ℕ → Timing
 withOutputs m n l = record { modes = m .modes; initial = m .initial; threads = m .threads; thread = m .thread; inputs = m .inputs; input = m .input; outputs = n; output = l; locals = m .locals; local = m .local; connections = m .connections; connection = m .connection; switches = m .switches; switch = m .switch }
 
-abbrev pub withLocals : Timing → ℕ → List Local → Timing
+abbrev pub withLocals : Timing → ℕ → List Owned → Timing
 withLocals m n l = record { modes = m .modes; initial = m .initial; threads = m .threads; thread = m .thread; inputs = m .inputs; input = m .input; outputs = m .outputs; output = m .output; locals = n; local = l; connections = m .connections; connection = m .connection; switches = m .switches; switch = m .switch }
 
 abbrev pub withConnections : Timing → ℕ → List Connection → Timing
@@ -129,11 +132,11 @@ emptyModel = record {
     threads = 0;
     thread = replicate maxThreads noThread;
     inputs = 0;
-    input = replicate maxInputs 0;
+    input = replicate maxInputs noOwned;
     outputs = 0;
     output = replicate maxOutputs 0;
     locals = 0;
-    local = replicate maxLocals noLocal;
+    local = replicate maxLocals noOwned;
     connections = 0;
     connection = replicate maxConnections noConnection;
     switches = 0;

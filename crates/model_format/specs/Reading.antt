@@ -15,7 +15,7 @@ use Rattle.records.specs.Refusals.{isNone, inModel, noRefusal}
 use Rattle.records.specs.Events.{lastClock}
 use Rattle.model_format.specs.declared.Head.{Head}
 use Rattle.model_format.specs.declared.Thread.{Thread}
-use Rattle.model_format.specs.declared.Local.{Local}
+use Rattle.model_format.specs.declared.Owned.{Owned}
 use Rattle.model_format.specs.declared.Connection.{Connection}
 use Rattle.model_format.specs.declared.ModeTransition.{ModeTransition}
 use Rattle.model_format.specs.declared.Transition.{Transition}
@@ -168,7 +168,7 @@ openTransition a = transitionAt (a .model .behavior) (lastTransition (a .model .
 unfoldable pub causeOf : Reading → Record → Cause
 causeOf a (HeadRecord x) = judged (headFaults (misplaced a (HeadRecord x)) x)
 causeOf a (ThreadRecord x) = judged (threadFaults (misplaced a (ThreadRecord x)) (a .model .timing) x)
-causeOf a (InputRecord o) = judged (portFaults (misplaced a (InputRecord o)) (a .model .timing .inputs) maxInputs (a .model .timing) o)
+causeOf a (InputRecord x) = judged (portFaults (misplaced a (InputRecord x)) (a .model .timing .inputs) maxInputs (a .model .timing) (x .owner))
 causeOf a (OutputRecord o) = judged (portFaults (misplaced a (OutputRecord o)) (a .model .timing .outputs) maxOutputs (a .model .timing) o)
 causeOf a (LocalRecord x) = judged (portFaults (misplaced a (LocalRecord x)) (a .model .timing .locals) maxLocals (a .model .timing) (x .owner))
 causeOf a (ConnectionRecord x) = judged (connectionFaults (misplaced a (ConnectionRecord x)) (a .model .timing) x)
@@ -186,13 +186,14 @@ addHead m x = record { modes = x .modes; initial = x .initial; threads = m .thre
 unfoldable pub addThread : Timing → Thread → Timing
 addThread m x = withThreads m (m .threads + 1) (store maxThreads (m .thread) (m .threads) x)
 
-unfoldable pub addInput : Timing → ℕ → Timing
-addInput m owner = withInputs m (m .inputs + 1) (store maxInputs (m .input) (m .inputs) owner)
+-- 0B "shares its numbering" with 03
+unfoldable pub addInput : Timing → Owned → Timing
+addInput m x = withInputs m (m .inputs + 1) (store maxInputs (m .input) (m .inputs) x)
 
 unfoldable pub addOutput : Timing → ℕ → Timing
 addOutput m owner = withOutputs m (m .outputs + 1) (store maxOutputs (m .output) (m .outputs) owner)
 
-unfoldable pub addLocal : Timing → Local → Timing
+unfoldable pub addLocal : Timing → Owned → Timing
 addLocal m x = withLocals m (m .locals + 1) (store maxLocals (m .local) (m .locals) x)
 
 unfoldable pub addConnection : Timing → Connection → Timing
@@ -232,7 +233,7 @@ withBehavior m b = record { timing = m .timing; behavior = b }
 unfoldable pub addRecord : Model → Record → Model
 addRecord m (HeadRecord x) = withTiming m (addHead (m .timing) x)
 addRecord m (ThreadRecord x) = withTiming m (addThread (m .timing) x)
-addRecord m (InputRecord o) = withTiming m (addInput (m .timing) o)
+addRecord m (InputRecord x) = withTiming m (addInput (m .timing) x)
 addRecord m (OutputRecord o) = withTiming m (addOutput (m .timing) o)
 addRecord m (LocalRecord x) = withTiming m (addLocal (m .timing) x)
 addRecord m (ConnectionRecord x) = withTiming m (addConnection (m .timing) x)

@@ -6,6 +6,7 @@ use mir.Syntax.{w32}
 use mir.Val.{SFits}
 use lib.ListN.{length-replicate}
 use Rattle.records.specs.Events.{lastClock}
+use Rattle.model_format.specs.declared.Owned.{Owned}
 use Rattle.model_format.specs.declared.Connection.{Connection}
 use Rattle.model_format.specs.declared.ModeTransition.{ModeTransition}
 use Rattle.model_format.specs.declared.Transition.{Transition}
@@ -14,12 +15,16 @@ use Rattle.model_format.specs.declared.Assignment.{Assignment}
 use Rattle.model_format.specs.declared.Timing.{Timing}
 use Rattle.model_format.specs.declared.Behavior.{Behavior}
 use Rattle.model_format.specs.declared.Reading.{Reading}
-use Rattle.model_format.specs.Model.{maxThreads, maxInputs, maxOutputs, maxLocals, maxConnections, maxSwitches, maxTransitions, maxEach, maxTimes, noThread, noLocal, noConnection, noSwitch, noTransition, noAtom, noAssignment, threadAt, inputOwner, outputOwner, localAt, connectionAt, switchAt, transitionAt, atomAt, assignmentAt, emptyModel}
+use Rattle.model_format.specs.Model.{maxThreads, maxInputs, maxOutputs, maxLocals, maxConnections, maxSwitches, maxTransitions, maxEach, maxTimes, noThread, noOwned, noConnection, noSwitch, noTransition, noAtom, noAssignment, threadAt, inputAt, outputOwner, localAt, connectionAt, switchAt, transitionAt, atomAt, assignmentAt, emptyModel}
 use Rattle.model_format.specs.Reading.{begin}
 use Rattle.model_format.specs.WellFormed.{GoodThread, GoodAtom, GoodAssignment, GoodTiming, GoodBehavior, WellFormed}
 use Rattle.model_format.specs.Arrays.{Filled, filled-none, Rows, rows-none}
 
 -- ---- items
+pub record GoodInput (threads : ℕ) (x : Owned) : Type 0 where
+  pub owner : x .owner < threads
+  pub start : SFits w32 (x .start .0)
+
 pub record GoodConnection (inputs outputs : ℕ) (x : Connection) : Type 0 where
   pub source : x .source < outputs
   pub target : x .target < inputs
@@ -48,9 +53,9 @@ Never a b = ⊥
 -- ---- the model so far
 pub record SoundTiming (m : Timing) : Type 0 where
   pub thread : Filled maxThreads noThread GoodThread (m .threads) (m .thread)
-  pub input : Filled maxInputs 0 (λ o. o < m .threads) (m .inputs) (m .input)
+  pub input : Filled maxInputs noOwned (GoodInput (m .threads)) (m .inputs) (m .input)
   pub output : Filled maxOutputs 0 (λ o. o < m .threads) (m .outputs) (m .output)
-  pub local : Filled maxLocals noLocal (λ x. SFits w32 (x .start .0)) (m .locals) (m .local)
+  pub local : Filled maxLocals noOwned (λ x. SFits w32 (x .start .0)) (m .locals) (m .local)
   pub connection : Filled maxConnections noConnection (GoodConnection (m .inputs) (m .outputs)) (m .connections) (m .connection)
   pub single : (c e : ℕ) → c < e → e < m .connections → connectionAt m c .target ≡ connectionAt m e .target → ⊥
   pub switch : Filled maxSwitches noSwitch (GoodSwitch (m .modes)) (m .switches) (m .switch)
@@ -83,9 +88,9 @@ sound-begin = record {
   late = λ h. absurd (omega arith);
   timing = record {
     thread = filled-none maxThreads noThread GoodThread;
-    input = filled-none maxInputs 0 (λ o. o < 0);
+    input = filled-none maxInputs noOwned (GoodInput 0);
     output = filled-none maxOutputs 0 (λ o. o < 0);
-    local = filled-none maxLocals noLocal (λ x. SFits w32 (x .start .0));
+    local = filled-none maxLocals noOwned (λ x. SFits w32 (x .start .0));
     connection = filled-none maxConnections noConnection (GoodConnection 0 0);
     single = λ c e h k. absurd (omega arith);
     switch = filled-none maxSwitches noSwitch (GoodSwitch 0);
@@ -99,7 +104,7 @@ sound-begin = record {
 
 -- ---- at the end
 good-timing : (m : Timing) → SoundHead m → SoundTiming m → GoodTiming m
-unfolding threadAt inputOwner outputOwner localAt connectionAt switchAt
+unfolding threadAt inputAt outputOwner localAt connectionAt switchAt
 good-timing m h s = record {
   initial = h .initial;
   modes = h .modes;
@@ -110,7 +115,8 @@ good-timing m h s = record {
   connections = s .connection .within;
   switches = s .switch .within;
   thread = s .thread .each;
-  input = s .input .each;
+  input = λ i k. s .input .each i k .owner;
+  start = λ i k. s .input .each i k .start;
   output = s .output .each;
   local = s .local .each;
   source = λ c k. s .connection .each c k .source;

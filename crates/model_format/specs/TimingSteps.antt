@@ -14,7 +14,7 @@ use Rattle.records.specs.Refusals.{isNone}
 use Rattle.records.specs.Events.{lastClock}
 use Rattle.model_format.specs.declared.Head.{Head}
 use Rattle.model_format.specs.declared.Thread.{Thread}
-use Rattle.model_format.specs.declared.Local.{Local}
+use Rattle.model_format.specs.declared.Owned.{Owned}
 use Rattle.model_format.specs.declared.Connection.{Connection}
 use Rattle.model_format.specs.declared.ModeTransition.{ModeTransition}
 use Rattle.model_format.specs.declared.Record.the-variants.{HeadRecord, ThreadRecord, InputRecord, OutputRecord, LocalRecord, ConnectionRecord, ModeRecord}
@@ -22,13 +22,13 @@ use Rattle.model_format.specs.declared.Timing.{Timing}
 use Rattle.model_format.specs.declared.Behavior.{Behavior}
 use Rattle.model_format.specs.declared.Reading.{Reading}
 use Rattle.model_format.specs.Format.{rankOf}
-use Rattle.model_format.specs.Model.{maxThreads, maxInputs, maxOutputs, maxLocals, maxConnections, maxSwitches, noThread, noLocal, noConnection, noSwitch, noAtom, noAssignment, threadAt, connectionAt, transitionAt, h1Of, h2Of}
+use Rattle.model_format.specs.Model.{maxThreads, maxInputs, maxOutputs, maxLocals, maxConnections, maxSwitches, noThread, noOwned, noConnection, noSwitch, noAtom, noAssignment, threadAt, connectionAt, transitionAt, h1Of, h2Of}
 use Rattle.model_format.specs.Reading.{inOrder, timesFit, longestTime, maskFits, isState, isConnected, misplaced, headFaults, threadFaults, portFaults, connectionFaults, switchFaults, causeOf, addHead, addThread, addInput, addOutput, addLocal, addConnection, addSwitch, addRecord, withHyperperiods, withTiming, nextReading}
 use Rattle.model_format.specs.WellFormed.{GoodThread, GoodAtom, GoodAssignment}
 use Rattle.model_format.specs.Arrays.{filled-as, filled-more, rows-none}
 use Rattle.model_format.specs.Hyperperiods.{hyperperiod-positive}
 use Rattle.model_format.specs.Faultless.{both-true, both-false, none-below, faultless, order-head, order-item}
-use Rattle.model_format.specs.Sound.{GoodConnection, GoodSwitch, SameTarget, Never, SoundTiming, SoundBehavior, SoundHead, Sound}
+use Rattle.model_format.specs.Sound.{GoodInput, GoodConnection, GoodSwitch, SameTarget, Never, SoundTiming, SoundBehavior, SoundHead, Sound}
 
 -- ---- a model without transitions, with other timing
 bare : (m n : Timing) (b : Behavior) → SoundBehavior m b → b .transitions ≡ 0 → SoundBehavior n b
@@ -105,7 +105,7 @@ thread-added : (m : Timing) (x : Thread) → SoundTiming m → m .threads < maxT
 unfolding addThread connectionAt
 thread-added m x s h g = record {
   thread = filled-more maxThreads noThread GoodThread (m .threads) (m .thread) x (s .thread) g h;
-  input = filled-as maxInputs 0 (λ o. o < m .threads) (λ o. o < m .threads + 1) (m .inputs) (m .input) (λ o k. omega arith) (s .input);
+  input = filled-as maxInputs noOwned (GoodInput (m .threads)) (GoodInput (m .threads + 1)) (m .inputs) (m .input) (λ x k. record { owner = let o = k .owner in omega arith; start = k .start }) (s .input);
   output = filled-as maxOutputs 0 (λ o. o < m .threads) (λ o. o < m .threads + 1) (m .outputs) (m .output) (λ o k. omega arith) (s .output);
   local = s .local;
   connection = s .connection;
@@ -123,16 +123,16 @@ thread-next a x s h =
     item-next a 2 (addThread m x) s (f .order) (omega arith) (omega arith) refl refl
     (thread-added m x (s .timing) (leb-false maxThreads (m .threads) (f .excess)) (good-thread x (not-false (timesFit x) (f .times)) (ltb-true (x .first) 8 (c .1))))
 
--- ---- 03 port in, 04 port out, 05 local
-input-added : (m : Timing) (o : ℕ) → SoundTiming m → m .inputs < maxInputs → o < m .threads → SoundTiming (addInput m o)
+-- ---- 03 and 0B port in, 04 port out, 05 local
+input-added : (m : Timing) (x : Owned) → SoundTiming m → m .inputs < maxInputs → GoodInput (m .threads) x → SoundTiming (addInput m x)
 unfolding addInput connectionAt
-input-added m o s h g = record {
+input-added m x s h g = record {
   thread = s .thread;
-  input = filled-more maxInputs 0 (λ i. i < m .threads) (m .inputs) (m .input) o (s .input) g h;
+  input = filled-more maxInputs noOwned (GoodInput (m .threads)) (m .inputs) (m .input) x (s .input) g h;
   output = s .output;
   local = s .local;
   connection = filled-as maxConnections noConnection (GoodConnection (m .inputs) (m .outputs)) (GoodConnection (m .inputs + 1) (m .outputs)) (m .connections) (m .connection)
-      (λ x k. record { source = k .source; target = let t = k .target in omega arith; kind = k .kind }) (s .connection);
+      (λ y k. record { source = k .source; target = let t = k .target in omega arith; kind = k .kind }) (s .connection);
   single = s .single;
   switch = s .switch;
 }
@@ -150,25 +150,25 @@ output-added m o s h g = record {
   switch = s .switch;
 }
 
-local-added : (m : Timing) (x : Local) → SoundTiming m → m .locals < maxLocals → SFits w32 (x .start .0) → SoundTiming (addLocal m x)
+local-added : (m : Timing) (x : Owned) → SoundTiming m → m .locals < maxLocals → SFits w32 (x .start .0) → SoundTiming (addLocal m x)
 unfolding addLocal connectionAt
 local-added m x s h g = record {
   thread = s .thread;
   input = s .input;
   output = s .output;
-  local = filled-more maxLocals noLocal (λ v. SFits w32 (v .start .0)) (m .locals) (m .local) x (s .local) g h;
+  local = filled-more maxLocals noOwned (λ v. SFits w32 (v .start .0)) (m .locals) (m .local) x (s .local) g h;
   connection = s .connection;
   single = s .single;
   switch = s .switch;
 }
 
-pub input-next : (a : Reading) (o : ℕ) → Sound a → isNone (causeOf a (InputRecord o)) ≡ true → Sound (nextReading a (InputRecord o))
+pub input-next : (a : Reading) (x : Owned) → SFits w32 (x .start .0) → Sound a → isNone (causeOf a (InputRecord x)) ≡ true → Sound (nextReading a (InputRecord x))
 unfolding causeOf addRecord rankOf addInput inOrder
-input-next a o s h =
+input-next a x w s h =
     let m = a .model .timing in
-    let f = faultless (portFaults (misplaced a (InputRecord o)) (m .inputs) maxInputs m o) h in
-    item-next a 3 (addInput m o) s (f .order) (omega arith) (omega arith) refl refl
-    (input-added m o (s .timing) (leb-false maxInputs (m .inputs) (f .excess)) (leb-false (m .threads) o (f .names)))
+    let f = faultless (portFaults (misplaced a (InputRecord x)) (m .inputs) maxInputs m (x .owner)) h in
+    item-next a 3 (addInput m x) s (f .order) (omega arith) (omega arith) refl refl
+    (input-added m x (s .timing) (leb-false maxInputs (m .inputs) (f .excess)) (record { owner = leb-false (m .threads) (x .owner) (f .names); start = w }))
 
 pub output-next : (a : Reading) (o : ℕ) → Sound a → isNone (causeOf a (OutputRecord o)) ≡ true → Sound (nextReading a (OutputRecord o))
 unfolding causeOf addRecord rankOf addOutput inOrder
@@ -178,7 +178,7 @@ output-next a o s h =
     item-next a 4 (addOutput m o) s (f .order) (omega arith) (omega arith) refl refl
     (output-added m o (s .timing) (leb-false maxOutputs (m .outputs) (f .excess)) (leb-false (m .threads) o (f .names)))
 
-pub local-next : (a : Reading) (x : Local) → SFits w32 (x .start .0) → Sound a → isNone (causeOf a (LocalRecord x)) ≡ true → Sound (nextReading a (LocalRecord x))
+pub local-next : (a : Reading) (x : Owned) → SFits w32 (x .start .0) → Sound a → isNone (causeOf a (LocalRecord x)) ≡ true → Sound (nextReading a (LocalRecord x))
 unfolding causeOf addRecord rankOf addLocal inOrder
 local-next a x w s h =
     let m = a .model .timing in

@@ -15,7 +15,7 @@ use Rattle.model_format.specs.declared.Assignment.{Assignment}
 use Rattle.model_format.specs.declared.Timing.{Timing}
 use Rattle.model_format.specs.declared.Behavior.{Behavior}
 use Rattle.model_format.specs.declared.Model.{Model}
-use Rattle.model_format.specs.Model.{maxThreads, maxInputs, maxOutputs, maxLocals, maxConnections, maxSwitches, maxTransitions, maxEach, threadAt, inputOwner, outputOwner, localAt, connectionAt, switchAt, transitionAt, atomAt, assignmentAt}
+use Rattle.model_format.specs.Model.{maxThreads, maxInputs, maxOutputs, maxLocals, maxConnections, maxSwitches, maxTransitions, maxEach, threadAt, inputAt, inputOwner, outputOwner, localAt, connectionAt, switchAt, transitionAt, atomAt, assignmentAt}
 use Rattle.model_format.specs.Reading.{longestTime, namesItem, leftTag, targetTag, operandTag}
 
 -- a list of bytes
@@ -61,6 +61,7 @@ pub record GoodTiming (m : Timing) : Type 0 where
   pub switches : m .switches ≤ maxSwitches
   pub thread : (t : ℕ) → t < m .threads → GoodThread (threadAt m t)
   pub input : (i : ℕ) → i < m .inputs → inputOwner m i < m .threads
+  pub start : (i : ℕ) → i < m .inputs → SFits w32 (inputAt m i .start .0)
   pub output : (o : ℕ) → o < m .outputs → outputOwner m o < m .threads
   pub local : (v : ℕ) → v < m .locals → SFits w32 (localAt m v .start .0)
   pub source : (c : ℕ) → c < m .connections → connectionAt m c .source < m .outputs

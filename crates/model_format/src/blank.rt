@@ -3,8 +3,8 @@
 use crate::Assignment;
 use crate::Atom;
 use crate::Connection;
-use crate::Local;
 use crate::ModeTransition;
+use crate::Owned;
 use crate::Thread;
 use crate::Transition;
 use numbers::Duration;
@@ -28,11 +28,11 @@ pub fn no_thread() -> Thread
     }
 }
 
-pub fn no_local() -> Local
-    ensures { λ r. ⌜ r ≡ model.noLocal ⌝ }
+pub fn no_owned() -> Owned
+    ensures { λ r. ⌜ r ≡ model.noOwned ⌝ }
 {
     let zero = Value(0);
-    Local {
+    Owned {
         owner: 0,
         start: zero,
     }

@@ -4,11 +4,12 @@ use crate::Assignment;
 use crate::Atom;
 use crate::Connection;
 use crate::Head;
-use crate::Local;
 use crate::ModeTransition;
+use crate::Owned;
 use crate::Thread;
 use crate::Transition;
 use numbers::Duration;
+use numbers::Value;
 use numbers::byte_at;
 use numbers::duration_at;
 use numbers::value_at;
@@ -48,12 +49,25 @@ pub fn thread_of(x: &[u8]) -> Thread
     }
 }
 
-pub fn local_of(x: &[u8]) -> Local
-    ensures { λ r. ⌜ r ≡ format.localOf (now (x .entry)) ⌝ }
+// An input port whose start value is not written.
+pub fn input_of(x: &[u8]) -> Owned
+    ensures { λ r. ⌜ r ≡ format.inputOf (now (x .entry)) ⌝ }
+{
+    let owner = byte_at(x, 1);
+    let zero = Value(0);
+    Owned {
+        owner: owner,
+        start: zero,
+    }
+}
+
+// An input port or a local with its start value.
+pub fn owned_of(x: &[u8]) -> Owned
+    ensures { λ r. ⌜ r ≡ format.ownedOf (now (x .entry)) ⌝ }
 {
     let owner = byte_at(x, 1);
     let start = value_at(x, 2);
-    Local {
+    Owned {
         owner: owner,
         start: start,
     }

@@ -10,7 +10,7 @@ mod ranks;
 pub use blank::no_assignment;
 pub use blank::no_atom;
 pub use blank::no_connection;
-pub use blank::no_local;
+pub use blank::no_owned;
 pub use blank::no_switch;
 pub use blank::no_thread;
 pub use blank::no_transition;
@@ -23,7 +23,8 @@ pub use format::assignment_of;
 pub use format::atom_of;
 pub use format::connection_of;
 pub use format::head_of;
-pub use format::local_of;
+pub use format::input_of;
+pub use format::owned_of;
 pub use format::switch_of;
 pub use format::thread_of;
 pub use format::transition_of;
@@ -74,8 +75,8 @@ pub struct Thread {
     pub first: u8,
 }
 
-// Kind 05.
-pub struct Local {
+// Kinds 03 and 0B, an input port, and kind 05, a local: the thread that it belongs to, and its value at the start.
+pub struct Owned {
     pub owner: u8,
     pub start: Value,
 }
@@ -126,9 +127,9 @@ pub struct Assignment {
 pub enum Record {
     HeadRecord(Head),
     ThreadRecord(Thread),
-    InputRecord(u8),
+    InputRecord(Owned),
     OutputRecord(u8),
-    LocalRecord(Local),
+    LocalRecord(Owned),
     ConnectionRecord(Connection),
     ModeRecord(ModeTransition),
     TransitionRecord(Transition),
@@ -139,18 +140,18 @@ pub enum Record {
 }
 
 // What the clock, the modes and the connections need of a model. `threads` is how many there are, and `thread` has them; likewise the
-// others. `input` and `output` are the ports' owners.
+// others. `output` has the owners of output ports.
 pub struct Timing {
     pub modes: u8,
     pub initial: u8,
     pub threads: usize,
     pub thread: [Thread; MAX_THREADS],
     pub inputs: usize,
-    pub input: [u8; MAX_INPUTS],
+    pub input: [Owned; MAX_INPUTS],
     pub outputs: usize,
     pub output: [u8; MAX_OUTPUTS],
     pub locals: usize,
-    pub local: [Local; MAX_LOCALS],
+    pub local: [Owned; MAX_LOCALS],
     pub connections: usize,
     pub connection: [Connection; MAX_CONNECTIONS],
     pub switches: usize,

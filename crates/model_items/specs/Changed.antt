@@ -7,16 +7,16 @@ use borrow.Author.Tests.{le-ltb}
 use Rattle.numbers.specs.Lists.{store}
 use Rattle.numbers.specs.ListLaws.{list-below-store}
 use Rattle.model_format.specs.declared.Thread.{Thread}
-use Rattle.model_format.specs.declared.Local.{Local}
+use Rattle.model_format.specs.declared.Owned.{Owned}
 use Rattle.model_format.specs.declared.Connection.{Connection}
 use Rattle.model_format.specs.declared.ModeTransition.{ModeTransition}
 use Rattle.model_format.specs.declared.Transition.{Transition}
 use Rattle.model_format.specs.declared.Atom.{Atom}
 use Rattle.model_format.specs.declared.Assignment.{Assignment}
 use Rattle.model_format.specs.Model.{maxThreads, maxInputs, maxOutputs, maxLocals, maxConnections, maxSwitches, maxTransitions, maxTimes}
-use Rattle.model_words.specs.Words.{modesPlace, initialPlace, threadsPlace, inputsPlace, outputsPlace, localsPlace, connectionsPlace, switchesPlace, transitionsPlace, threadSize, localSize, connectionSize, switchSize, transitionSize, atomSize, assignmentSize, threadsFrom, inputsFrom, outputsFrom, localsFrom, connectionsFrom, switchesFrom, transitionsFrom, atomsFrom, assignmentsFrom, modelWords, byteIn, threadIn, localIn, connectionIn, switchIn, transitionIn, atomIn, assignmentIn, threadsIn, inputsIn, outputsIn, localsIn, connectionsIn, switchesIn, transitionsIn, atomsIn, assignmentsIn, timingIn, behaviorIn, modelIn}
+use Rattle.model_words.specs.Words.{modesPlace, initialPlace, threadsPlace, inputsPlace, outputsPlace, localsPlace, connectionsPlace, switchesPlace, transitionsPlace, threadSize, ownedSize, connectionSize, switchSize, transitionSize, atomSize, assignmentSize, threadsFrom, inputsFrom, outputsFrom, localsFrom, connectionsFrom, switchesFrom, transitionsFrom, atomsFrom, assignmentsFrom, modelWords, byteIn, threadIn, ownedIn, connectionIn, switchIn, transitionIn, atomIn, assignmentIn, threadsIn, inputsIn, outputsIn, localsIn, connectionsIn, switchesIn, transitionsIn, atomsIn, assignmentsIn, timingIn, behaviorIn, modelIn}
 use Rattle.model_items.specs.Replaced.{withThread, withInput, withOutput, withLocal, withConnection, withSwitch, withTransition, withAtom, withAssignment}
-use Rattle.model_items.specs.Kept.{Changed, thread-same, local-same, connection-same, switch-same, transition-same, atom-same, assignment-same, number-kept, threads-kept, inputs-kept, outputs-kept, locals-kept, connections-kept, switches-kept, transitions-kept, atoms-kept, assignments-kept}
+use Rattle.model_items.specs.Kept.{Changed, thread-same, owned-same, connection-same, switch-same, transition-same, atom-same, assignment-same, number-kept, threads-kept, inputs-kept, outputs-kept, locals-kept, connections-kept, switches-kept, transitions-kept, atoms-kept, assignments-kept}
 
 pub thread-unchanged : (l : List ℕ) (i : ℕ) (x : Thread) → maxThreads ≤ i → modelIn l ≡ withThread (modelIn l) i x
 unfolding timingIn behaviorIn
@@ -34,16 +34,16 @@ module _ (l l′ : List ℕ) (i : ℕ) (x : Thread) where
       let wide : Changed l l′ threadsFrom inputsFrom = λ q n. w q (λ y z. n (omega arith) (omega arith)) in
       rw (number-kept l l′ threadsFrom inputsFrom wide modesPlace refl, number-kept l l′ threadsFrom inputsFrom wide initialPlace refl, number-kept l l′ threadsFrom inputsFrom wide threadsPlace refl, number-kept l l′ threadsFrom inputsFrom wide inputsPlace refl, number-kept l l′ threadsFrom inputsFrom wide outputsPlace refl, number-kept l l′ threadsFrom inputsFrom wide localsPlace refl, number-kept l l′ threadsFrom inputsFrom wide connectionsPlace refl, number-kept l l′ threadsFrom inputsFrom wide switchesPlace refl, number-kept l l′ threadsFrom inputsFrom wide transitionsPlace refl, own, inputs-kept l l′ threadsFrom inputsFrom wide refl, outputs-kept l l′ threadsFrom inputsFrom wide refl, locals-kept l l′ threadsFrom inputsFrom wide refl, connections-kept l l′ threadsFrom inputsFrom wide refl, switches-kept l l′ threadsFrom inputsFrom wide refl, transitions-kept l l′ threadsFrom inputsFrom wide refl, atoms-kept l l′ threadsFrom inputsFrom wide refl, assignments-kept l l′ threadsFrom inputsFrom wide refl)
 
-pub input-unchanged : (l : List ℕ) (i : ℕ) (x : ℕ) → maxInputs ≤ i → modelIn l ≡ withInput (modelIn l) i x
+pub input-unchanged : (l : List ℕ) (i : ℕ) (x : Owned) → maxInputs ≤ i → modelIn l ≡ withInput (modelIn l) i x
 unfolding timingIn behaviorIn
 input-unchanged l i x h = rw (le-ltb i maxInputs h)
 
-module _ (l l′ : List ℕ) (i : ℕ) (x : ℕ) where
-  input-stored : Changed l l′ (inputsFrom + i) (inputsFrom + i + 1) → byteIn l′ (inputsFrom + i) ≡ x → inputsIn l′ ≡ store maxInputs (inputsIn l) i x
+module _ (l l′ : List ℕ) (i : ℕ) (x : Owned) where
+  input-stored : Changed l l′ (inputsFrom + i * ownedSize) (inputsFrom + i * ownedSize + ownedSize) → ownedIn l′ (inputsFrom + i * ownedSize) ≡ x → inputsIn l′ ≡ store maxInputs (inputsIn l) i x
   unfolding inputsIn
-  input-stored w e = list-below-store maxInputs _ _ i x (λ h. e) (λ j h n. rw (w (inputsFrom + j) (λ y z. n (omega arith))))
+  input-stored w e = list-below-store maxInputs _ _ i x (λ h. e) (λ j h n. owned-same l l′ (inputsFrom + j * ownedSize) (λ q u v. w q (λ y z. n (omega arith))))
 
-  pub input-changed : i < maxInputs → Changed l l′ (inputsFrom + i) (inputsFrom + i + 1) → byteIn l′ (inputsFrom + i) ≡ x → modelIn l′ ≡ withInput (modelIn l) i x
+  pub input-changed : i < maxInputs → Changed l l′ (inputsFrom + i * ownedSize) (inputsFrom + i * ownedSize + ownedSize) → ownedIn l′ (inputsFrom + i * ownedSize) ≡ x → modelIn l′ ≡ withInput (modelIn l) i x
   unfolding timingIn behaviorIn
   input-changed h w e =
       let own = input-stored w e in
@@ -66,16 +66,16 @@ module _ (l l′ : List ℕ) (i : ℕ) (x : ℕ) where
       let wide : Changed l l′ outputsFrom localsFrom = λ q n. w q (λ y z. n (omega arith) (omega arith)) in
       rw (number-kept l l′ outputsFrom localsFrom wide modesPlace refl, number-kept l l′ outputsFrom localsFrom wide initialPlace refl, number-kept l l′ outputsFrom localsFrom wide threadsPlace refl, number-kept l l′ outputsFrom localsFrom wide inputsPlace refl, number-kept l l′ outputsFrom localsFrom wide outputsPlace refl, number-kept l l′ outputsFrom localsFrom wide localsPlace refl, number-kept l l′ outputsFrom localsFrom wide connectionsPlace refl, number-kept l l′ outputsFrom localsFrom wide switchesPlace refl, number-kept l l′ outputsFrom localsFrom wide transitionsPlace refl, threads-kept l l′ outputsFrom localsFrom wide refl, inputs-kept l l′ outputsFrom localsFrom wide refl, own, locals-kept l l′ outputsFrom localsFrom wide refl, connections-kept l l′ outputsFrom localsFrom wide refl, switches-kept l l′ outputsFrom localsFrom wide refl, transitions-kept l l′ outputsFrom localsFrom wide refl, atoms-kept l l′ outputsFrom localsFrom wide refl, assignments-kept l l′ outputsFrom localsFrom wide refl)
 
-pub local-unchanged : (l : List ℕ) (i : ℕ) (x : Local) → maxLocals ≤ i → modelIn l ≡ withLocal (modelIn l) i x
+pub local-unchanged : (l : List ℕ) (i : ℕ) (x : Owned) → maxLocals ≤ i → modelIn l ≡ withLocal (modelIn l) i x
 unfolding timingIn behaviorIn
 local-unchanged l i x h = rw (le-ltb i maxLocals h)
 
-module _ (l l′ : List ℕ) (i : ℕ) (x : Local) where
-  local-stored : Changed l l′ (localsFrom + i * localSize) (localsFrom + i * localSize + localSize) → localIn l′ (localsFrom + i * localSize) ≡ x → localsIn l′ ≡ store maxLocals (localsIn l) i x
+module _ (l l′ : List ℕ) (i : ℕ) (x : Owned) where
+  local-stored : Changed l l′ (localsFrom + i * ownedSize) (localsFrom + i * ownedSize + ownedSize) → ownedIn l′ (localsFrom + i * ownedSize) ≡ x → localsIn l′ ≡ store maxLocals (localsIn l) i x
   unfolding localsIn
-  local-stored w e = list-below-store maxLocals _ _ i x (λ h. e) (λ j h n. local-same l l′ (localsFrom + j * localSize) (λ q u v. w q (λ y z. n (omega arith))))
+  local-stored w e = list-below-store maxLocals _ _ i x (λ h. e) (λ j h n. owned-same l l′ (localsFrom + j * ownedSize) (λ q u v. w q (λ y z. n (omega arith))))
 
-  pub local-changed : i < maxLocals → Changed l l′ (localsFrom + i * localSize) (localsFrom + i * localSize + localSize) → localIn l′ (localsFrom + i * localSize) ≡ x → modelIn l′ ≡ withLocal (modelIn l) i x
+  pub local-changed : i < maxLocals → Changed l l′ (localsFrom + i * ownedSize) (localsFrom + i * ownedSize + ownedSize) → ownedIn l′ (localsFrom + i * ownedSize) ≡ x → modelIn l′ ≡ withLocal (modelIn l) i x
   unfolding timingIn behaviorIn
   local-changed h w e =
       let own = local-stored w e in

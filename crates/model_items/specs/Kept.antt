@@ -9,7 +9,7 @@ use lib.Dec.{leb}
 use borrow.Author.Tests.{leb-true}
 use Rattle.numbers.specs.ListLaws.{list-below-same}
 use Rattle.model_format.specs.Model.{maxThreads, maxInputs, maxOutputs, maxLocals, maxConnections, maxSwitches, maxTransitions, maxTimes}
-use Rattle.model_words.specs.Words.{threadSize, localSize, connectionSize, switchSize, transitionSize, atomSize, assignmentSize, threadsFrom, inputsFrom, outputsFrom, localsFrom, connectionsFrom, switchesFrom, transitionsFrom, atomsFrom, assignmentsFrom, modelWords, threadIn, localIn, connectionIn, switchIn, transitionIn, atomIn, assignmentIn, threadsIn, inputsIn, outputsIn, localsIn, connectionsIn, switchesIn, transitionsIn, atomsIn, assignmentsIn}
+use Rattle.model_words.specs.Words.{threadSize, ownedSize, connectionSize, switchSize, transitionSize, atomSize, assignmentSize, threadsFrom, inputsFrom, outputsFrom, localsFrom, connectionsFrom, switchesFrom, transitionsFrom, atomsFrom, assignmentsFrom, modelWords, threadIn, ownedIn, connectionIn, switchIn, transitionIn, atomIn, assignmentIn, threadsIn, inputsIn, outputsIn, localsIn, connectionsIn, switchesIn, transitionsIn, atomsIn, assignmentsIn}
 
 -- ---- an item by its numbers
 module _ (l l′ : List ℕ) (p : ℕ) where
@@ -17,9 +17,9 @@ module _ (l l′ : List ℕ) (p : ℕ) where
   unfolding threadIn
   thread-same h = rw (h p (omega arith) (omega arith), h (p + 1) (omega arith) (omega arith), h (p + 2) (omega arith) (omega arith), h (p + 3) (omega arith) (omega arith), h (p + 4) (omega arith) (omega arith), h (p + 5) (omega arith) (omega arith), h (p + 6) (omega arith) (omega arith))
 
-  pub local-same : ((q : ℕ) → p ≤ q → q < p + localSize → getD l′ q 0 ≡ getD l q 0) → localIn l′ p ≡ localIn l p
-  unfolding localIn
-  local-same h = rw (h p (omega arith) (omega arith), h (p + 1) (omega arith) (omega arith))
+  pub owned-same : ((q : ℕ) → p ≤ q → q < p + ownedSize → getD l′ q 0 ≡ getD l q 0) → ownedIn l′ p ≡ ownedIn l p
+  unfolding ownedIn
+  owned-same h = rw (h p (omega arith) (omega arith), h (p + 1) (omega arith) (omega arith))
 
   pub connection-same : ((q : ℕ) → p ≤ q → q < p + connectionSize → getD l′ q 0 ≡ getD l q 0) → connectionIn l′ p ≡ connectionIn l p
   unfolding connectionIn
@@ -70,7 +70,7 @@ module _ (l l′ : List ℕ) (a b : ℕ) (w : Changed l l′ a b) where
 
   pub inputs-kept : (leb b inputsFrom || leb outputsFrom a) ≡ true → inputsIn l′ ≡ inputsIn l
   unfolding inputsIn
-  inputs-kept h = list-below-same maxInputs _ _ (λ i k. rw (kept inputsFrom outputsFrom h (inputsFrom + i) (omega arith) (omega arith)))
+  inputs-kept h = list-below-same maxInputs _ _ (λ i k. owned-same l l′ (inputsFrom + i * ownedSize) (λ q u v. kept inputsFrom outputsFrom h q (omega arith) (omega arith)))
 
   pub outputs-kept : (leb b outputsFrom || leb localsFrom a) ≡ true → outputsIn l′ ≡ outputsIn l
   unfolding outputsIn
@@ -78,7 +78,7 @@ module _ (l l′ : List ℕ) (a b : ℕ) (w : Changed l l′ a b) where
 
   pub locals-kept : (leb b localsFrom || leb connectionsFrom a) ≡ true → localsIn l′ ≡ localsIn l
   unfolding localsIn
-  locals-kept h = list-below-same maxLocals _ _ (λ i k. local-same l l′ (localsFrom + i * localSize) (λ q u v. kept localsFrom connectionsFrom h q (omega arith) (omega arith)))
+  locals-kept h = list-below-same maxLocals _ _ (λ i k. owned-same l l′ (localsFrom + i * ownedSize) (λ q u v. kept localsFrom connectionsFrom h q (omega arith) (omega arith)))
 
   pub connections-kept : (leb b connectionsFrom || leb switchesFrom a) ≡ true → connectionsIn l′ ≡ connectionsIn l
   unfolding connectionsIn

@@ -2,7 +2,7 @@
 use Prim.Native.Nat.{ℕ}
 use Rattle.numbers.specs.Lists.{store}
 use Rattle.model_format.specs.declared.Thread.{Thread}
-use Rattle.model_format.specs.declared.Local.{Local}
+use Rattle.model_format.specs.declared.Owned.{Owned}
 use Rattle.model_format.specs.declared.Connection.{Connection}
 use Rattle.model_format.specs.declared.ModeTransition.{ModeTransition}
 use Rattle.model_format.specs.declared.Transition.{Transition}
@@ -15,13 +15,13 @@ use Rattle.model_format.specs.Model.{transitionAt, withThreads, withInputs, wit
 abbrev pub withThread : Model → ℕ → Thread → Model
 withThread m i x = withTiming m (withThreads (m .timing) (m .timing .threads) (store maxThreads (m .timing .thread) i x))
 
-abbrev pub withInput : Model → ℕ → ℕ → Model
+abbrev pub withInput : Model → ℕ → Owned → Model
 withInput m i x = withTiming m (withInputs (m .timing) (m .timing .inputs) (store maxInputs (m .timing .input) i x))
 
 abbrev pub withOutput : Model → ℕ → ℕ → Model
 withOutput m i x = withTiming m (withOutputs (m .timing) (m .timing .outputs) (store maxOutputs (m .timing .output) i x))
 
-abbrev pub withLocal : Model → ℕ → Local → Model
+abbrev pub withLocal : Model → ℕ → Owned → Model
 withLocal m i x = withTiming m (withLocals (m .timing) (m .timing .locals) (store maxLocals (m .timing .local) i x))
 
 abbrev pub withConnection : Model → ℕ → Connection → Model

@@ -9,14 +9,14 @@ use lib.Seq.{sets, drop-cons, drop-length}
 use Rattle.numbers.specs.ListLaws.{sets-before, sets-after, sets-at}
 use Rattle.numbers.specs.Values.{signed, bitsOf}
 use Rattle.model_format.specs.declared.Thread.{Thread}
-use Rattle.model_format.specs.declared.Local.{Local}
+use Rattle.model_format.specs.declared.Owned.{Owned}
 use Rattle.model_format.specs.declared.Connection.{Connection}
 use Rattle.model_format.specs.declared.ModeTransition.{ModeTransition}
 use Rattle.model_format.specs.declared.Transition.{Transition}
 use Rattle.model_format.specs.declared.Atom.{Atom}
 use Rattle.model_format.specs.declared.Assignment.{Assignment}
 use Rattle.model_format.specs.Model.{maxThreads, maxInputs, maxOutputs, maxLocals, maxConnections, maxSwitches, maxTransitions, maxTimes}
-use Rattle.model_words.specs.Words.{threadSize, localSize, connectionSize, switchSize, transitionSize, atomSize, assignmentSize, threadsFrom, inputsFrom, outputsFrom, localsFrom, connectionsFrom, switchesFrom, transitionsFrom, atomsFrom, assignmentsFrom, modelWords, threadIn, localIn, connectionIn, switchIn, transitionIn, atomIn, assignmentIn, modelIn}
+use Rattle.model_words.specs.Words.{threadSize, ownedSize, connectionSize, switchSize, transitionSize, atomSize, assignmentSize, threadsFrom, inputsFrom, outputsFrom, localsFrom, connectionsFrom, switchesFrom, transitionsFrom, atomsFrom, assignmentsFrom, modelWords, threadIn, ownedIn, connectionIn, switchIn, transitionIn, atomIn, assignmentIn, modelIn}
 use Rattle.model_items.specs.Replaced.{withThread, withInput, withOutput, withLocal, withConnection, withSwitch, withTransition, withAtom, withAssignment}
 use Rattle.model_items.specs.Kept.{Changed}
 use Rattle.model_items.specs.Changed.{thread-changed, input-changed, output-changed, local-changed, connection-changed, switch-changed, transition-changed, atom-changed, assignment-changed}
@@ -73,19 +73,23 @@ module _ (l l′ : List ℕ) (p i : ℕ) (x : Thread) (z : modelWords ≤ length
   pub thread-put : modelIn l′ ≡ withThread (modelIn l) i x
   thread-put = thread-changed l l′ i x h (rw (← a) (put-changed l l′ (x .period .0 ∷ x .deadline .0 ∷ x .bcet .0 ∷ x .wcet .0 ∷ x .modes ∷ x .critical ∷ x .first ∷ []) p e)) (rw (← a) thread-reads)
 
-module _ (l l′ : List ℕ) (p i : ℕ) (x : Local) (b : ℕ) (z : modelWords ≤ length l) (h : i < maxLocals) (a : p ≡ localsFrom + i * localSize)
+-- an input port or a local
+module _ (l l′ : List ℕ) (p i : ℕ) (x : Owned) (b : ℕ) (z : modelWords ≤ length l)
     (e : l′ ≡ sets l p (x .owner ∷ b ∷ []))
     (d₀ : x .owner < 256) (d₁ : b ≡ bitsOf (x .start .0)) (f₁ : signed (bitsOf (x .start .0)) ≡ x .start .0) where
-  local-reads : localIn l′ p ≡ x
-  unfolding localIn
-  local-reads =
+  owned-reads : p + ownedSize ≤ modelWords → ownedIn l′ p ≡ x
+  unfolding ownedIn
+  owned-reads y =
       let vs : List ℕ = x .owner ∷ b ∷ [] in
-      let at : (k q : ℕ) → q ≡ p + k → k < localSize → getD l′ q 0 ≡ getD vs k 0 = λ k q w v. put-at l l′ vs p e k q w v (omega arith) in
+      let at : (k q : ℕ) → q ≡ p + k → k < ownedSize → getD l′ q 0 ≡ getD vs k 0 = λ k q w v. put-at l l′ vs p e k q w v (omega arith) in
       let r₀ : x .owner % 256 ≡ x .owner = omega arith in
       rw (at 0 p (omega arith) (omega arith), at 1 (p + 1) (omega arith) (omega arith), r₀, d₁, f₁)
 
-  pub local-put : modelIn l′ ≡ withLocal (modelIn l) i x
-  local-put = local-changed l l′ i x h (rw (← a) (put-changed l l′ (x .owner ∷ b ∷ []) p e)) (rw (← a) local-reads)
+  pub input-put : i < maxInputs → p ≡ inputsFrom + i * ownedSize → modelIn l′ ≡ withInput (modelIn l) i x
+  input-put h a = input-changed l l′ i x h (rw (← a) (put-changed l l′ (x .owner ∷ b ∷ []) p e)) (rw (← a) (owned-reads (omega arith)))
+
+  pub local-put : i < maxLocals → p ≡ localsFrom + i * ownedSize → modelIn l′ ≡ withLocal (modelIn l) i x
+  local-put h a = local-changed l l′ i x h (rw (← a) (put-changed l l′ (x .owner ∷ b ∷ []) p e)) (rw (← a) (owned-reads (omega arith)))
 
 module _ (l l′ : List ℕ) (p i : ℕ) (x : Connection) (z : modelWords ≤ length l) (h : i < maxConnections) (a : p ≡ connectionsFrom + i * connectionSize)
     (e : l′ ≡ sets l p (x .kind ∷ x .source ∷ x .target ∷ x .modes ∷ []))
@@ -171,12 +175,6 @@ module _ (l l′ : List ℕ) (p i : ℕ) (x : Assignment) (b c : ℕ) (z : model
 
   pub assignment-put : modelIn l′ ≡ withAssignment (modelIn l) i x
   assignment-put = assignment-changed l l′ i x h (rw (← a) (put-changed l l′ (x .tag ∷ x .number ∷ x .op ∷ x .first .tag ∷ b ∷ x .second .tag ∷ c ∷ []) p e)) (rw (← a) assignment-reads)
-
-module _ (l l′ : List ℕ) (i x : ℕ) (z : modelWords ≤ length l) (h : i < maxInputs) (e : l′ ≡ set l (inputsFrom + i) x) (d : x < 256) where
-  pub input-put : modelIn l′ ≡ withInput (modelIn l) i x
-  input-put =
-      let r : x % 256 ≡ x = omega arith in
-      input-changed l l′ i x h (put-changed l l′ (x ∷ []) (inputsFrom + i) e) (rw (put-at l l′ (x ∷ []) (inputsFrom + i) e 0 (inputsFrom + i) (omega arith) (omega arith) (omega arith)) r)
 
 module _ (l l′ : List ℕ) (i x : ℕ) (z : modelWords ≤ length l) (h : i < maxOutputs) (e : l′ ≡ set l (outputsFrom + i) x) (d : x < 256) where
   pub output-put : modelIn l′ ≡ withOutput (modelIn l) i x

@@ -3,7 +3,6 @@
 use model_format::Assignment;
 use model_format::Atom;
 use model_format::Connection;
-use model_format::Local;
 use model_format::MAX_CONNECTIONS;
 use model_format::MAX_INPUTS;
 use model_format::MAX_LOCALS;
@@ -13,6 +12,7 @@ use model_format::MAX_THREADS;
 use model_format::MAX_TIMES;
 use model_format::MAX_TRANSITIONS;
 use model_format::ModeTransition;
+use model_format::Owned;
 use model_format::Thread;
 use model_format::Transition;
 use model_words::ASSIGNMENT_SIZE;
@@ -22,9 +22,9 @@ use model_words::ATOMS_FROM;
 use model_words::CONNECTION_SIZE;
 use model_words::CONNECTIONS_FROM;
 use model_words::INPUTS_FROM;
-use model_words::LOCAL_SIZE;
 use model_words::LOCALS_FROM;
 use model_words::OUTPUTS_FROM;
+use model_words::OWNED_SIZE;
 use model_words::SWITCH_SIZE;
 use model_words::SWITCHES_FROM;
 use model_words::THREAD_SIZE;
@@ -84,14 +84,15 @@ pub fn put_thread(model: &mut [u32], i: usize, thread: Thread)
     put_numbers(model, THREADS_FROM + i * THREAD_SIZE, &fields);
 }
 
-pub fn put_input(model: &mut [u32], i: usize, owner: u8)
+pub fn put_input(model: &mut [u32], i: usize, input: Owned)
     requires { ⌜ modelWords ≤ length (now model) ⌝ }
-    ensures { λ _. ⌜ modelIn (now (model .exit)) ≡ replaced.withInput (modelIn (now (model .entry))) i owner ⌝ }
+    ensures { λ _. ⌜ modelIn (now (model .exit)) ≡ replaced.withInput (modelIn (now (model .entry))) i input ⌝ }
 {
     if MAX_INPUTS <= i {
         return;
     }
-    put_word(model, INPUTS_FROM + i, owner as u32);
+    let fields = [input.owner as u32, bits_of(input.start)];
+    put_numbers(model, INPUTS_FROM + i * OWNED_SIZE, &fields);
 }
 
 pub fn put_output(model: &mut [u32], i: usize, owner: u8)
@@ -104,7 +105,7 @@ pub fn put_output(model: &mut [u32], i: usize, owner: u8)
     put_word(model, OUTPUTS_FROM + i, owner as u32);
 }
 
-pub fn put_local(model: &mut [u32], i: usize, local: Local)
+pub fn put_local(model: &mut [u32], i: usize, local: Owned)
     requires { ⌜ modelWords ≤ length (now model) ⌝ }
     ensures { λ _. ⌜ modelIn (now (model .exit)) ≡ replaced.withLocal (modelIn (now (model .entry))) i local ⌝ }
 {
@@ -112,7 +113,7 @@ pub fn put_local(model: &mut [u32], i: usize, local: Local)
         return;
     }
     let fields = [local.owner as u32, bits_of(local.start)];
-    put_numbers(model, LOCALS_FROM + i * LOCAL_SIZE, &fields);
+    put_numbers(model, LOCALS_FROM + i * OWNED_SIZE, &fields);
 }
 
 pub fn put_connection(model: &mut [u32], i: usize, connection: Connection)

@@ -28,7 +28,7 @@ use Rattle.model_reader.specs.Reads.{readAs}
 use Rattle.model_takes.specs.Took.{taken, Took}
 use Rattle.model_takes.specs.Taken.{took-as, took-unknown, took-cut}
 use Rattle.model_reader.specs.Places.{endAt, recordAt, record-slice, kind-slice, end-unknown, end-cut, end-whole}
-use Rattle.model_reader.specs.Ranks.{rank-of-part}
+use Rattle.model_reader.specs.Ranks.{rankOfKind, rank-of-part}
 
 -- the code's &s[p..q]
 slice-length : (q : ℕ) (s : List ℕ) (p : ℕ) → p ≤ q → q ≤ length s → length (take (q - p) (drop p s)) ≡ q - p
@@ -63,12 +63,12 @@ module _ (s : List ℕ) (p q last : ℕ) (l : List ℕ) (c : Cause) (l′ : List
   took-at : Took last l (recordAt s p) c l′
   took-at = took-as last l _ _ c l′ t (record-slice s p q e)
 
-  read-on : (k : ℕ) → k ≡ getD (take (q - p) (drop p s)) 0 0 → isNone c ≡ true → readAt s q (readingIn k l′) ≡ readAt s p (readingIn last l)
+  read-on : (k : ℕ) → k ≡ getD (take (q - p) (drop p s)) 0 0 → isNone c ≡ true → readAt s q (readingIn (rankOfKind k) l′) ≡ readAt s p (readingIn last l)
   unfolding readFrom taken
   read-on k i n =
       let g = took-at .0 in
-      let f : k ≡ rankOf (recordAt s p) = rank-of-part (readingIn last l) _ k i (rw (← t .0) n) ∙ ap rankOf (record-slice s p q e) in
-      let b : readingIn k l′ ≡ nextReading (readingIn last l) (recordAt s p) = rw f (ap (λ (m : Model). record { last = rankOf (recordAt s p); model = m }) (took-at .1 ∙ rw n)) in
+      let f : rankOfKind k ≡ rankOf (recordAt s p) = rank-of-part (readingIn last l) _ k i (rw (← t .0) n) ∙ ap rankOf (record-slice s p q e) in
+      let b : readingIn (rankOfKind k) l′ ≡ nextReading (readingIn last l) (recordAt s p) = rw f (ap (λ (m : Model). record { last = rankOf (recordAt s p); model = m }) (took-at .1 ∙ rw n)) in
       rw (e, parts-at notations.Model s p _ h refl, ← g, n, part-size notations.Model s p _ h refl, b)
 
   read-refused : (y : Refusal) → isNone c ≡ false → y ≡ inModel c p q → readWith y l′ ≡ readAt s p (readingIn last l)
@@ -107,8 +107,8 @@ module _ (s : List ℕ) (p k m last : ℕ) (l : List ℕ) (h : p < length s) (b 
       took-whole : Took last l (recordOf (take (q - p) (drop p s))) c l′
       took-whole = took-as last l _ _ c l′ t (record-whole _ k m (b ∙ kind-slice s p q h whole-end) f z (omega (arith, whole-part .0, f)))
 
-      pub whole-on : isNone c ≡ true → readAt s q (readingIn k l′) ≡ readAt s p (readingIn last l)
-      whole-on n = read-on s p q last l c l′ h whole-end took-whole k (b ∙ kind-slice s p q h whole-end) n
+      pub whole-on : (r : ℕ) → r ≡ rankOfKind k → isNone c ≡ true → readAt s q (readingIn r l′) ≡ readAt s p (readingIn last l)
+      whole-on r g n = rw g (read-on s p q last l c l′ h whole-end took-whole k (b ∙ kind-slice s p q h whole-end) n)
 
       pub whole-refused : (y : Refusal) → isNone c ≡ false → y ≡ inModel c p q → readWith y l′ ≡ readAt s p (readingIn last l)
       whole-refused y n i = read-refused s p q last l c l′ h whole-end took-whole y n i

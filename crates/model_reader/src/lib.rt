@@ -3,10 +3,12 @@
 mod parts;
 
 use crate::parts::take_whole;
+use model_format::INPUT_RANK;
 use model_words::MODEL_WORDS;
 use model_writer::clear;
 use records::Cause;
 use records::Holder;
+use records::MODEL_WRITTEN_INPUT;
 use records::Notation;
 use records::Refusal;
 use records::is_none;
@@ -18,7 +20,19 @@ ghost use Rattle.model_format.specs.Model.{emptyModel};
 ghost use Rattle.model_format.specs.Reading as reading;
 ghost use Rattle.model_words.specs.Words as words;
 ghost use Rattle.model_reader.specs.Reads as into;
+ghost use Rattle.model_reader.specs.Ranks.{rankOfKind};
 ghost use Rattle.model_reader.specs.Walk.{readWith};
+
+// The rank of records of a kind.
+fn rank_of(kind: u8) -> u8
+    ensures { λ r. ⌜ r ≡ rankOfKind kind ⌝ }
+{
+    if kind == MODEL_WRITTEN_INPUT {
+        INPUT_RANK
+    } else {
+        kind
+    }
+}
 
 fn refused(cause: Cause, start: usize, end: usize) -> Refusal
     ensures { λ r. ⌜ r ≡ refusals.inModel cause start end ⌝ }
@@ -55,7 +69,7 @@ fn read_records(bytes: &[u8], model: &mut [u32]) -> Refusal
         if !is_none(cause) {
             return refused(cause, at, end);
         }
-        last = kind;
+        last = rank_of(kind);
         at = end;
     }
     if last == 0 {

@@ -4,7 +4,8 @@ use model_format::assignment_of;
 use model_format::atom_of;
 use model_format::connection_of;
 use model_format::head_of;
-use model_format::local_of;
+use model_format::input_of;
+use model_format::owned_of;
 use model_format::switch_of;
 use model_format::thread_of;
 use model_format::transition_of;
@@ -38,6 +39,8 @@ use records::MODEL_THREAD;
 use records::MODEL_THREAD_SIZE;
 use records::MODEL_TRANSITION;
 use records::MODEL_TRANSITION_SIZE;
+use records::MODEL_WRITTEN_INPUT;
+use records::MODEL_WRITTEN_INPUT_SIZE;
 ghost use mathlib.Core.Path.{_≡_};
 ghost use Prim.Native.Nat.{_<_, _≤_};
 ghost use lib.ListN.{length};
@@ -57,9 +60,10 @@ pub fn take_whole(model: &mut [u32], last: u8, kind: u8, part: &[u8]) -> Cause
     match kind {
         MODEL_HEAD => take_head(model, last, head_of(&part[..MODEL_HEAD_SIZE])),
         MODEL_THREAD => take_thread(model, last, thread_of(&part[..MODEL_THREAD_SIZE])),
-        MODEL_INPUT => take_input(model, last, byte_at(&part[..MODEL_PORT_SIZE], 1)),
+        MODEL_INPUT => take_input(model, last, input_of(&part[..MODEL_PORT_SIZE])),
+        MODEL_WRITTEN_INPUT => take_input(model, last, owned_of(&part[..MODEL_WRITTEN_INPUT_SIZE])),
         MODEL_OUTPUT => take_output(model, last, byte_at(&part[..MODEL_PORT_SIZE], 1)),
-        MODEL_LOCAL => take_local(model, last, local_of(&part[..MODEL_LOCAL_SIZE])),
+        MODEL_LOCAL => take_local(model, last, owned_of(&part[..MODEL_LOCAL_SIZE])),
         MODEL_CONNECTION => take_connection(
             model,
             last,

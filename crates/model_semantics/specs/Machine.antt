@@ -7,21 +7,26 @@ use lib.Dec.{eqb, ltb}
 use Rattle.numbers.specs.Lists.{store, foldBelow}
 use Rattle.numbers.specs.Values.{duration, natural}
 use Rattle.records.specs.declared.Cause.{Cause}
+use Rattle.numbers.specs.declared.Value.{Value}
 use Rattle.records.specs.declared.Cause.the-variants.{None, BrokenEvent, NotEnabled, LastClock}
 use Rattle.records.specs.declared.Event.{Event}
 use Rattle.records.specs.Events.{activateKind, deactivateKind, dispatchKind, startKind, completeKind, deadlineKind, missKind, requestKind, enterKind, leaveKind, tickKind, isBroken, lastClock}
 use Rattle.records.specs.Run.{Machine, Ended, Stage, run, stages}
 use Rattle.model_format.specs.declared.Timing.{Timing}
 use Rattle.model_format.specs.declared.Model.{Model}
-use Rattle.model_format.specs.Model.{maxThreads, maxInputs, maxOutputs, maxLocals, maxConnections, threadAt, localAt}
+use Rattle.model_format.specs.Model.{maxThreads, maxInputs, maxOutputs, maxLocals, maxConnections, threadAt, inputAt, localAt}
 use Rattle.model_semantics.specs.declared.State.{State}
 use Rattle.model_semantics.specs.declared.Stepped.{Stepped}
 use Rattle.model_semantics.specs.State.{none, nowOf, withCode}
 use Rattle.model_semantics.specs.Tests.{waitingMode, waitingDispatch, canActivate, canDeactivate, canDispatch, canStart, canComplete, canMeetDeadline, canMiss, canEnter, canLeave, isBusy}
 use Rattle.model_semantics.specs.Effects.{dispatch, start, complete, meetDeadline, miss, request, activeIn, liveIn, enter, leave, tick}
 
+-- "owner u8 and start i32 .. Kind 03 still means 0": the start values of the input ports
+abbrev pub portStarts : Timing → List Value
+portStarts m = foldBelow (m .inputs) (λ i l. store maxInputs l i (inputAt m i .start)) (replicate maxInputs (natural 0))
+
 -- "All starts at 0 but: Mode initial, Pending and Cpu 255 (none), Active and Flag (connection live) 1 where the mask holds the initial
--- mode, behaviour state and locals as given."
+-- mode, behaviour state and locals as given." "Port and buffer both begin at that value."
 unfoldable pub startState : Timing → State
 startState m = record {
   clock = record { now = duration 0; entered = duration 0; mode = m .initial; phase = 0; pending = none; cpu = none };
@@ -36,8 +41,8 @@ startState m = record {
   };
   live = liveIn m (m .initial) (m .initial) (replicate maxConnections false);
   ports = record {
-    input = replicate maxInputs (natural 0);
-    buffer = replicate maxInputs (natural 0);
+    input = portStarts m;
+    buffer = portStarts m;
     output = replicate maxOutputs (natural 0);
     local = foldBelow (m .locals) (λ v l. store maxLocals l v (localAt m v .start)) (replicate maxLocals (natural 0));
   };

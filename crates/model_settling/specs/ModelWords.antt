@@ -1,15 +1,13 @@
 -- A model as the numbers of a list, all of them in order: the inverse of what a list of numbers stands for.
 use mathlib.Core.List.{List, [], _∷_, _++_}
 use Prim.Native.Nat.{ℕ}
-use Rattle.records.specs.declared.Operand.{Operand}
 use Rattle.model_format.specs.declared.Thread.{Thread}
-use Rattle.model_format.specs.declared.Local.{Local}
+use Rattle.model_format.specs.declared.Owned.{Owned}
 use Rattle.model_format.specs.declared.Connection.{Connection}
 use Rattle.model_format.specs.declared.ModeTransition.{ModeTransition}
 use Rattle.model_format.specs.declared.Transition.{Transition}
 use Rattle.model_format.specs.declared.Atom.{Atom}
 use Rattle.model_format.specs.declared.Assignment.{Assignment}
-use Rattle.model_format.specs.declared.Timing.{Timing}
 use Rattle.model_format.specs.declared.Model.{Model}
 use Rattle.state_settling.specs.Words.{valueNumber}
 
@@ -17,8 +15,8 @@ use Rattle.state_settling.specs.Words.{valueNumber}
 unfoldable pub threadFields : Thread → List ℕ
 threadFields t = t .period .0 ∷ t .deadline .0 ∷ t .bcet .0 ∷ t .wcet .0 ∷ t .modes ∷ t .critical ∷ t .first ∷ []
 
-unfoldable pub localFields : Local → List ℕ
-localFields v = v .owner ∷ valueNumber (v .start) ∷ []
+unfoldable pub ownedFields : Owned → List ℕ
+ownedFields v = v .owner ∷ valueNumber (v .start) ∷ []
 
 unfoldable pub connectionFields : Connection → List ℕ
 connectionFields c = c .kind ∷ c .source ∷ c .target ∷ c .modes ∷ []
@@ -46,9 +44,9 @@ headFields m =
     m .timing .modes ∷ m .timing .initial ∷ m .timing .threads ∷ m .timing .inputs ∷ m .timing .outputs ∷ m .timing .locals ∷ m .timing .connections ∷
     m .timing .switches ∷ m .behavior .transitions ∷ []
 
--- ---- the model: its head, then the items of each kind; of a port, the thread that it belongs to
+-- ---- the model: its head, then the items of each kind; of an output port, the thread that it belongs to
 unfoldable pub wordsOfModel : Model → List ℕ
 wordsOfModel m =
-    headFields m ++ joined threadFields (m .timing .thread) ++ m .timing .input ++ m .timing .output ++ joined localFields (m .timing .local) ++
+    headFields m ++ joined threadFields (m .timing .thread) ++ joined ownedFields (m .timing .input) ++ m .timing .output ++ joined ownedFields (m .timing .local) ++
     joined connectionFields (m .timing .connection) ++ joined switchFields (m .timing .switch) ++ joined transitionFields (m .behavior .transition) ++
     joined atomFields (m .behavior .atom) ++ joined assignmentFields (m .behavior .assignment)

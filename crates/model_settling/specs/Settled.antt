@@ -1,7 +1,7 @@
 -- Laws of a settled model: its items cut kind by kind are the numbers of the model.
-use mathlib.Core.Path.{_≡_, refl, sym, _∙_, ap}
+use mathlib.Core.Path.{_≡_, refl, _∙_}
 use mathlib.Core.List.{List, [], _∷_, _++_, append-nil}
-use Prim.Native.Nat.{ℕ, _+_, _*_, _<_, _≤_}
+use Prim.Native.Nat.{ℕ, _+_, _*_, _≤_}
 use native.Mathlib.Omega.{arith}
 use native.Mathlib.Nat.{add-zero}
 use lib.ListN.{getD, take, drop, length, drop-of-length-le}
@@ -10,9 +10,9 @@ use mir.Val.{Fits}
 use mir.ValLaws.{ofZ-toZ}
 use Rattle.numbers.specs.Lists.{listBelow}
 use Rattle.model_format.specs.Model.{maxThreads, maxInputs, maxOutputs, maxLocals, maxConnections, maxSwitches, maxTransitions, maxTimes}
-use Rattle.model_words.specs.Words.{threadsFrom, inputsFrom, outputsFrom, localsFrom, connectionsFrom, switchesFrom, transitionsFrom, atomsFrom, assignmentsFrom, modelWords, byteIn, threadIn, localIn, connectionIn, switchIn, transitionIn, atomIn, assignmentIn, threadsIn, inputsIn, outputsIn, localsIn, connectionsIn, switchesIn, transitionsIn, atomsIn, assignmentsIn, timingIn, behaviorIn, modelIn}
+use Rattle.model_words.specs.Words.{threadsFrom, inputsFrom, outputsFrom, localsFrom, connectionsFrom, switchesFrom, transitionsFrom, atomsFrom, assignmentsFrom, modelWords, byteIn, threadIn, ownedIn, connectionIn, switchIn, transitionIn, atomIn, assignmentIn, threadsIn, inputsIn, outputsIn, localsIn, connectionsIn, switchesIn, transitionsIn, atomsIn, assignmentsIn, timingIn, behaviorIn, modelIn}
 use Rattle.state_settling.specs.Words.{valueNumber}
-use Rattle.model_settling.specs.ModelWords.{threadFields, localFields, connectionFields, switchFields, transitionFields, atomFields, assignmentFields, joined, headFields, wordsOfModel}
+use Rattle.model_settling.specs.ModelWords.{threadFields, ownedFields, connectionFields, switchFields, transitionFields, atomFields, assignmentFields, joined, headFields, wordsOfModel}
 use Rattle.state_settling.specs.Settled.{partPut}
 use Rattle.model_settling.specs.Cut.{cutTo, CutBy, itemCut, Upto, from-start, one-done, kind-done, owners-done}
 
@@ -26,8 +26,8 @@ threadWidths = 0 ∷ 0 ∷ 0 ∷ 0 ∷ 256 ∷ 256 ∷ 256 ∷ []
 abbrev pub ownerWidths : List ℕ
 ownerWidths = 256 ∷ []
 
-abbrev pub localWidths : List ℕ
-localWidths = 256 ∷ 0 ∷ []
+abbrev pub ownedWidths : List ℕ
+ownedWidths = 256 ∷ 0 ∷ []
 
 abbrev pub connectionWidths : List ℕ
 connectionWidths = 256 ∷ 65536 ∷ 65536 ∷ 256 ∷ []
@@ -67,9 +67,9 @@ module _ (l : List ℕ) (q : ℕ) where
   transition-fields = rw (add-zero q)
 
   module _ (f : (p : ℕ) → Fits w32 (getD l p 0)) where
-    local-fields : itemCut localWidths l q ≡ localFields (localIn l q)
-    unfolding listBelow cutTo localFields localIn valueNumber
-    local-fields = rw (add-zero q, ofZ-toZ w32 (getD l (q + 1) 0) (f (q + 1)))
+    owned-fields : itemCut ownedWidths l q ≡ ownedFields (ownedIn l q)
+    unfolding listBelow cutTo ownedFields ownedIn valueNumber
+    owned-fields = rw (add-zero q, ofZ-toZ w32 (getD l (q + 1) 0) (f (q + 1)))
 
     atom-fields : itemCut atomWidths l q ≡ atomFields (atomIn l q)
     unfolding listBelow cutTo atomFields atomIn valueNumber
@@ -93,10 +93,10 @@ pub record Whole (l : List ℕ) : Type 0 where
   pub fits : (p : ℕ) → Fits w32 (getD l p 0)
 
 pub record ThreadsCut (x y : List ℕ) : Type 0 where
-  pub cut : (l p : List ℕ) → Whole l → Upto 0 l x p → Upto localsFrom l y (p ++ headFields (modelIn l) ++ joined threadFields (threadsIn l) ++ inputsIn l ++ outputsIn l)
+  pub cut : (l p : List ℕ) → Whole l → Upto 0 l x p → Upto localsFrom l y (p ++ headFields (modelIn l) ++ joined threadFields (threadsIn l) ++ joined ownedFields (inputsIn l) ++ outputsIn l)
 
 pub record LinksCut (x y : List ℕ) : Type 0 where
-  pub cut : (l p : List ℕ) → Whole l → Upto localsFrom l x p → Upto transitionsFrom l y (p ++ joined localFields (localsIn l) ++ joined connectionFields (connectionsIn l) ++ joined switchFields (switchesIn l))
+  pub cut : (l p : List ℕ) → Whole l → Upto localsFrom l x p → Upto transitionsFrom l y (p ++ joined ownedFields (localsIn l) ++ joined connectionFields (connectionsIn l) ++ joined switchFields (switchesIn l))
 
 pub record BehaviorCut (x y : List ℕ) : Type 0 where
   pub cut : (l p : List ℕ) → Whole l → Upto transitionsFrom l x p → Upto modelWords l y (p ++ joined transitionFields (transitionsIn l) ++ joined atomFields (atomsIn l) ++ joined assignmentFields (assignmentsIn l))
@@ -104,8 +104,8 @@ pub record BehaviorCut (x y : List ℕ) : Type 0 where
 pub threads-cut : {x y₁ y₂ y₃ y₄ : List ℕ} →
     let a = partPut 0 threadsFrom x y₁ in
     let b = partPut threadsFrom (maxThreads * 7) a y₂ in
-    let c = partPut inputsFrom maxInputs b y₃ in
-    CutBy headWidths (take threadsFrom (drop 0 x)) y₁ → CutBy threadWidths (take (maxThreads * 7) (drop threadsFrom a)) y₂ → CutBy ownerWidths (take maxInputs (drop inputsFrom b)) y₃ →
+    let c = partPut inputsFrom (maxInputs * 2) b y₃ in
+    CutBy headWidths (take threadsFrom (drop 0 x)) y₁ → CutBy threadWidths (take (maxThreads * 7) (drop threadsFrom a)) y₂ → CutBy ownedWidths (take (maxInputs * 2) (drop inputsFrom b)) y₃ →
     CutBy ownerWidths (take maxOutputs (drop outputsFrom c)) y₄ → ThreadsCut x (partPut outputsFrom maxOutputs c y₄)
 unfolding threadsIn inputsIn outputsIn
 threads-cut c₁ c₂ c₃ c₄ = record {
@@ -113,20 +113,20 @@ threads-cut c₁ c₂ c₃ c₄ = record {
       let n = w .size in
       let u₁ = one-done headWidths 0 u (omega arith) (λ k h. omega arith) c₁ (head-fields l) in
       let u₂ = kind-done threadWidths threadsFrom maxThreads u₁ (omega arith) (λ i k h. omega arith) (λ i h. omega arith) c₂ threadFields (λ i. threadIn l (threadsFrom + i * 7)) (λ i. thread-fields l (threadsFrom + i * 7)) in
-      let u₃ = owners-done ownerWidths inputsFrom maxInputs u₂ (omega arith) (λ i k h. omega arith) (λ i h. omega arith) c₃ (λ i. byteIn l (inputsFrom + i)) (λ i. owner-at l inputsFrom i) in
+      let u₃ = kind-done ownedWidths inputsFrom maxInputs u₂ (omega arith) (λ i k h. omega arith) (λ i h. omega arith) c₃ ownedFields (λ i. ownedIn l (inputsFrom + i * 2)) (λ i. owned-fields l (inputsFrom + i * 2) (w .fits)) in
       owners-done ownerWidths outputsFrom maxOutputs u₃ (omega arith) (λ i k h. omega arith) (λ i h. omega arith) c₄ (λ i. byteIn l (outputsFrom + i)) (λ i. owner-at l outputsFrom i);
 }
 
 pub links-cut : {x y₁ y₂ y₃ : List ℕ} →
     let a = partPut localsFrom (maxLocals * 2) x y₁ in
     let b = partPut connectionsFrom (maxConnections * 4) a y₂ in
-    CutBy localWidths (take (maxLocals * 2) (drop localsFrom x)) y₁ → CutBy connectionWidths (take (maxConnections * 4) (drop connectionsFrom a)) y₂ →
+    CutBy ownedWidths (take (maxLocals * 2) (drop localsFrom x)) y₁ → CutBy connectionWidths (take (maxConnections * 4) (drop connectionsFrom a)) y₂ →
     CutBy switchWidths (take (maxSwitches * 4) (drop switchesFrom b)) y₃ → LinksCut x (partPut switchesFrom (maxSwitches * 4) b y₃)
 unfolding localsIn connectionsIn switchesIn
 links-cut c₁ c₂ c₃ = record {
   cut = λ l p w u.
       let n = w .size in
-      let u₁ = kind-done localWidths localsFrom maxLocals u (omega arith) (λ i k h. omega arith) (λ i h. omega arith) c₁ localFields (λ i. localIn l (localsFrom + i * 2)) (λ i. local-fields l (localsFrom + i * 2) (w .fits)) in
+      let u₁ = kind-done ownedWidths localsFrom maxLocals u (omega arith) (λ i k h. omega arith) (λ i h. omega arith) c₁ ownedFields (λ i. ownedIn l (localsFrom + i * 2)) (λ i. owned-fields l (localsFrom + i * 2) (w .fits)) in
       let u₂ = kind-done connectionWidths connectionsFrom maxConnections u₁ (omega arith) (λ i k h. omega arith) (λ i h. omega arith) c₂ connectionFields (λ i. connectionIn l (connectionsFrom + i * 4)) (λ i. connection-fields l (connectionsFrom + i * 4)) in
       kind-done switchWidths switchesFrom maxSwitches u₂ (omega arith) (λ i k h. omega arith) (λ i h. omega arith) c₃ switchFields (λ i. switchIn l (switchesFrom + i * 4)) (λ i. switch-fields l (switchesFrom + i * 4));
 }

@@ -1,15 +1,16 @@
 // A list of numbers as the model that it stands for has them: each is cut to its field, so that lists which stand for one model are the same
 // list.
 
-use model_format::MAX_CONNECTIONS;
-use model_format::MAX_INPUTS;
-use model_format::MAX_LOCALS;
-use model_format::MAX_OUTPUTS;
-use model_format::MAX_SWITCHES;
-use model_format::MAX_THREADS;
-use model_format::MAX_TIMES;
-use model_format::MAX_TRANSITIONS;
+use model_words::ASSIGNMENTS_FROM;
+use model_words::ATOMS_FROM;
+use model_words::CONNECTIONS_FROM;
+use model_words::INPUTS_FROM;
+use model_words::LOCALS_FROM;
 use model_words::MODEL_WORDS;
+use model_words::OUTPUTS_FROM;
+use model_words::SWITCHES_FROM;
+use model_words::THREADS_FROM;
+use model_words::TRANSITIONS_FROM;
 use numbers::word_at;
 ghost use mathlib.Core.Path.{_≡_};
 ghost use Prim.Native.Nat.{_<_};
@@ -25,25 +26,6 @@ const BYTE: u32 = 256;
 const SHORT: u32 = 65536;
 
 const WHOLE: u32 = 0;
-
-// Where the items of each kind begin.
-const THREADS: usize = 9;
-
-const INPUTS: usize = THREADS + 7 * MAX_THREADS;
-
-const OUTPUTS: usize = INPUTS + MAX_INPUTS;
-
-const LOCALS: usize = OUTPUTS + MAX_OUTPUTS;
-
-const CONNECTIONS: usize = LOCALS + 2 * MAX_LOCALS;
-
-const SWITCHES: usize = CONNECTIONS + 4 * MAX_CONNECTIONS;
-
-const TRANSITIONS: usize = SWITCHES + 4 * MAX_SWITCHES;
-
-const ATOMS: usize = TRANSITIONS + 5 * MAX_TRANSITIONS;
-
-const ASSIGNMENTS: usize = ATOMS + 5 * MAX_TIMES;
 
 fn cut(number: u32, width: u32) -> u32
     ensures { λ r. ⌜ r ≡ cuts.cutTo width number ⌝ }
@@ -70,11 +52,12 @@ fn cut_threads(model: &mut [u32])
 {
     let head = [BYTE, BYTE, WHOLE, WHOLE, WHOLE, WHOLE, WHOLE, WHOLE, WHOLE];
     let thread = [WHOLE, WHOLE, WHOLE, WHOLE, BYTE, BYTE, BYTE];
+    let input = [BYTE, WHOLE];
     let owner = [BYTE];
-    cut_items(&mut model[0..THREADS], &head);
-    cut_items(&mut model[THREADS..INPUTS], &thread);
-    cut_items(&mut model[INPUTS..OUTPUTS], &owner);
-    cut_items(&mut model[OUTPUTS..LOCALS], &owner);
+    cut_items(&mut model[0..THREADS_FROM], &head);
+    cut_items(&mut model[THREADS_FROM..INPUTS_FROM], &thread);
+    cut_items(&mut model[INPUTS_FROM..OUTPUTS_FROM], &input);
+    cut_items(&mut model[OUTPUTS_FROM..LOCALS_FROM], &owner);
 }
 
 // Its locals, connections and mode transitions.
@@ -85,9 +68,9 @@ fn cut_links(model: &mut [u32])
     let local = [BYTE, WHOLE];
     let connection = [BYTE, SHORT, SHORT, BYTE];
     let switch = [BYTE, BYTE, WHOLE, WHOLE];
-    cut_items(&mut model[LOCALS..CONNECTIONS], &local);
-    cut_items(&mut model[CONNECTIONS..SWITCHES], &connection);
-    cut_items(&mut model[SWITCHES..TRANSITIONS], &switch);
+    cut_items(&mut model[LOCALS_FROM..CONNECTIONS_FROM], &local);
+    cut_items(&mut model[CONNECTIONS_FROM..SWITCHES_FROM], &connection);
+    cut_items(&mut model[SWITCHES_FROM..TRANSITIONS_FROM], &switch);
 }
 
 // Its transitions with their atoms and assignments.
@@ -98,9 +81,9 @@ fn cut_behavior(model: &mut [u32])
     let transition = [BYTE, BYTE, BYTE, BYTE, BYTE];
     let atom = [BYTE, BYTE, SHORT, BYTE, WHOLE];
     let assignment = [BYTE, SHORT, BYTE, BYTE, WHOLE, BYTE, WHOLE];
-    cut_items(&mut model[TRANSITIONS..ATOMS], &transition);
-    cut_items(&mut model[ATOMS..ASSIGNMENTS], &atom);
-    cut_items(&mut model[ASSIGNMENTS..MODEL_WORDS], &assignment);
+    cut_items(&mut model[TRANSITIONS_FROM..ATOMS_FROM], &transition);
+    cut_items(&mut model[ATOMS_FROM..ASSIGNMENTS_FROM], &atom);
+    cut_items(&mut model[ASSIGNMENTS_FROM..MODEL_WORDS], &assignment);
 }
 
 pub fn settle_model(model: &mut [u32])

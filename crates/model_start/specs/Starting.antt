@@ -1,11 +1,10 @@
 -- The start state, part by part, and the laws of the code that makes it.
 use mathlib.Core.Path.{_≡_, refl, sym, _∙_, ap}
-use mathlib.Core.Bool.{Bool, false}
+use mathlib.Core.Bool.{false}
 use mathlib.Core.List.{List, map}
-use Prim.Native.Nat.{ℕ, zero, suc, _+_, _-_, _<_, _≤_, min}
+use Prim.Native.Nat.{ℕ, _+_, _-_, _<_, _≤_, min}
 use native.Mathlib.Omega.{arith}
 use native.Mathlib.Decide.{ℕ-discrete, decLt}
-use lib.Dec.{ltb}
 use lib.ListN.{getD, set, length, replicate, take, drop, length-set, length-map, length-drop, length-replicate, getD-replicate, List·getD-map, List·getD-eq-default}
 use lib.Seq.{getD-set-same, getD-set-other, getD-take, getD-drop, length-take-le, ext-getD}
 use borrow.Author.Tests.{le-ltb}
@@ -14,15 +13,15 @@ use Rattle.numbers.specs.Lists.{store, foldBelow}
 use Rattle.numbers.specs.ListLaws.{fold-next}
 use Rattle.numbers.specs.Values.{duration, natural}
 use Rattle.model_format.specs.declared.Thread.{Thread}
-use Rattle.model_format.specs.declared.Local.{Local}
+use Rattle.model_format.specs.declared.Owned.{Owned}
 use Rattle.model_format.specs.declared.Timing.{Timing}
-use Rattle.model_format.specs.Model.{maxThreads, maxInputs, maxOutputs, maxLocals, maxConnections, threadAt, localAt}
+use Rattle.model_format.specs.Model.{maxThreads, maxInputs, maxOutputs, maxLocals, maxConnections, threadAt, inputAt, localAt}
 use Rattle.model_semantics.specs.declared.State.{State}
 use Rattle.model_semantics.specs.State.{none, withThreads, withLive, withPorts, withMode, withPhase, withCpu, withActive, withBehavior}
 use Rattle.model_semantics.specs.Effects.{activeIn, liveIn}
 use Rattle.model_semantics.specs.Machine.{startState}
 use Rattle.model_state.specs.Words.{nowPlace, enteredPlace, modePlace, phasePlace, pendingPlace, cpuPlace, activeBase, codeBase, dispatchedBase, lengthBase, spentBase, behaviorBase, missedBase, liveBase, inputBase, bufferBase, outputBase, localBase, stateWords, byteIn, markIn, durationIn, valueIn, numberIn, section, clockIn, threadsIn, portsIn, stateIn}
-use Rattle.model_state.specs.Parts.{withLocal, putLocal}
+use Rattle.model_state.specs.Parts.{withInput, withBuffer, withLocal, putInput, putBuffer, putLocal}
 use Rattle.model_tests.specs.Rooms.{fold-end}
 
 -- ---- the first n numbers are 0
@@ -138,7 +137,7 @@ module _ (m : Timing) (s : State) where
   unfolding localsBelow foldBelow withLocal withPorts
   locals-none = refl
 
-  pub locals-next : (v : ℕ) (x : Local) (q r : State) → q ≡ localsBelow m s v → x ≡ localAt m v → r ≡ putLocal q v (x .start) → r ≡ localsBelow m s (v + 1)
+  pub locals-next : (v : ℕ) (x : Owned) (q r : State) → q ≡ localsBelow m s v → x ≡ localAt m v → r ≡ putLocal q v (x .start) → r ≡ localsBelow m s (v + 1)
   unfolding localsBelow putLocal withLocal withPorts
   locals-next v x q r e f g = g ∙ rw (e, f, fold-next v (locating m) (s .ports .local))
 
@@ -147,8 +146,32 @@ module _ (m : Timing) (s : State) where
   locals-all n v q e h k f =
       f ∙ ap (withLocal s) (fold-end (m .locals) maxLocals n v (locating m) (s .ports .local) e h k (λ j x b. rw (le-ltb j maxLocals b)))
 
+-- the input ports and their buffers
+abbrev pub feeding : Timing → ℕ → List Value → List Value
+feeding m i l = store maxInputs l i (inputAt m i .start)
+
+unfoldable pub inputsBelow : Timing → State → ℕ → State
+inputsBelow m s n = withBuffer (withInput s (foldBelow n (feeding m) (s .ports .input))) (foldBelow n (feeding m) (s .ports .buffer))
+
+module _ (m : Timing) (s : State) where
+  pub inputs-none : s ≡ inputsBelow m s 0
+  unfolding inputsBelow foldBelow withInput withBuffer withPorts
+  inputs-none = refl
+
+  pub inputs-next : (i : ℕ) (x : Owned) (q r z : State) → q ≡ inputsBelow m s i → x ≡ inputAt m i → r ≡ putInput q i (x .start) → z ≡ putBuffer r i (x .start) → z ≡ inputsBelow m s (i + 1)
+  unfolding inputsBelow putInput putBuffer withInput withBuffer withPorts
+  inputs-next i x q r z e f g h = h ∙ rw (g, e, f, fold-next i (feeding m) (s .ports .input), fold-next i (feeding m) (s .ports .buffer))
+
+  pub inputs-all : (n i : ℕ) (q : State) → n ≡ min (m .inputs) maxInputs → i ≤ n → n ≤ i → q ≡ inputsBelow m s i → q ≡ inputsBelow m s (m .inputs)
+  unfolding inputsBelow
+  inputs-all n i q e h k f =
+      f ∙ rw (fold-end (m .inputs) maxInputs n i (feeding m) (s .ports .input) e h k (λ j x b. rw (le-ltb j maxInputs b)), fold-end (m .inputs) maxInputs n i (feeding m) (s .ports .buffer) e h k (λ j x b. rw (le-ltb j maxInputs b)))
+
+abbrev pub valuesSet : Timing → State → State
+valuesSet m s = inputsBelow m (localsBelow m s (m .locals)) (m .inputs)
+
 -- ---- all of it
 pub started : (m : Timing) (l : List ℕ) (a b c d e f g : State) (mode : ℕ) → Cleared l stateWords → stateWords ≤ length l → mode ≡ m .initial → a ≡ withMode (stateIn l) mode → b ≡ withPhase a 0 none → c ≡ withCpu m b 0 none →
-    d ≡ withActive c (activeIn m mode (c .threads .active)) → e ≡ behaviorsBelow m d (m .threads) → f ≡ withLive e (liveIn m mode mode (e .live)) → g ≡ localsBelow m f (m .locals) → g ≡ startState m
-unfolding startState blankState withMode withPhase withCpu withActive withLive behaviorsBelow localsBelow withLocal withPorts
+    d ≡ withActive c (activeIn m mode (c .threads .active)) → e ≡ behaviorsBelow m d (m .threads) → f ≡ withLive e (liveIn m mode mode (e .live)) → g ≡ valuesSet m f → g ≡ startState m
+unfolding startState blankState withMode withPhase withCpu withActive withLive behaviorsBelow localsBelow inputsBelow withLocal withInput withBuffer withPorts
 started m l a b c d e f g mode k w z h₁ h₂ h₃ h₄ h₅ h₆ h₇ = h₇ ∙ rw (h₆, h₅, h₄, h₃, h₂, h₁, cleared-is l k w, z)

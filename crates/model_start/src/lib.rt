@@ -1,5 +1,6 @@
 // The state that a model starts in, made in a lent list of numbers.
 
+use model_format::MAX_INPUTS;
 use model_format::MAX_LOCALS;
 use model_format::MAX_THREADS;
 use model_modes::set_active;
@@ -8,12 +9,16 @@ use model_semantics::NONE;
 use model_semantics::STEADY;
 use model_state::STATE_WORDS;
 use model_state::put_behavior;
+use model_state::put_buffer;
 use model_state::put_cpu;
+use model_state::put_input;
 use model_state::put_local;
 use model_state::put_mode;
 use model_state::put_phase;
 use model_tests::within;
 use model_words::initial;
+use model_words::input_at;
+use model_words::inputs;
 use model_words::local_at;
 use model_words::locals;
 use model_words::thread_at;
@@ -62,6 +67,28 @@ fn set_locals(model: &[u32], state: &mut [u32])
     }
 }
 
+// The value of every input port, and of its buffer.
+fn set_inputs(model: &[u32], state: &mut [u32])
+    ensures { λ r. ⌜ stateIn (now (state .exit)) ≡ starting.inputsBelow (timingIn (now (model .entry))) (stateIn (now (state .entry))) (timingIn (now (model .entry)) .inputs) ⌝ }
+{
+    let count = within(inputs(model), MAX_INPUTS);
+    let mut i: usize = 0;
+    while i < count {
+        let input = input_at(model, i);
+        put_input(state, i, input.start);
+        put_buffer(state, i, input.start);
+        i += 1;
+    }
+}
+
+// The values that a model gives: of its locals and input ports.
+fn set_values(model: &[u32], state: &mut [u32])
+    ensures { λ r. ⌜ stateIn (now (state .exit)) ≡ starting.valuesSet (timingIn (now (model .entry))) (stateIn (now (state .entry))) ⌝ }
+{
+    set_locals(model, state);
+    set_inputs(model, state);
+}
+
 pub fn start_in(model: &[u32], state: &mut [u32])
     requires { ⌜ stateWords ≤ length (now state) ⌝ }
     ensures { λ r. ⌜ stateIn (now (state .exit)) ≡ machine.startState (timingIn (now (model .entry))) ⌝ }
@@ -74,5 +101,5 @@ pub fn start_in(model: &[u32], state: &mut [u32])
     set_active(model, state, mode);
     set_behaviors(model, state);
     set_live(model, state, mode, mode);
-    set_locals(model, state);
+    set_values(model, state);
 }

@@ -10,7 +10,7 @@ use Rattle.records.specs.declared.Cause.{Cause}
 use Rattle.records.specs.Refusals.{isNone}
 use Rattle.records.specs.Events.{lastClock}
 use Rattle.model_format.specs.declared.Thread.{Thread}
-use Rattle.model_format.specs.declared.Local.{Local}
+use Rattle.model_format.specs.declared.Owned.{Owned}
 use Rattle.model_format.specs.declared.Connection.{Connection}
 use Rattle.model_format.specs.declared.ModeTransition.{ModeTransition}
 use Rattle.model_format.specs.declared.Transition.{Transition}
@@ -34,7 +34,7 @@ module _ (last : ℕ) (l : List ℕ) (r : Record) (c : Cause) (e : c ≡ causeOf
   unfolding causeOf
   thread-room x d = leb-false _ _ (faultless _ (rw d at passed) .excess)
 
-  pub input-room : (x : ℕ) → r ≡ InputRecord x → timingIn l .inputs < maxInputs
+  pub input-room : (x : Owned) → r ≡ InputRecord x → timingIn l .inputs < maxInputs
   unfolding causeOf
   input-room x d = leb-false _ _ (faultless _ (rw d at passed) .excess)
 
@@ -42,7 +42,7 @@ module _ (last : ℕ) (l : List ℕ) (r : Record) (c : Cause) (e : c ≡ causeOf
   unfolding causeOf
   output-room x d = leb-false _ _ (faultless _ (rw d at passed) .excess)
 
-  pub local-room : (x : Local) → r ≡ LocalRecord x → timingIn l .locals < maxLocals
+  pub local-room : (x : Owned) → r ≡ LocalRecord x → timingIn l .locals < maxLocals
   unfolding causeOf
   local-room x d = leb-false _ _ (faultless _ (rw d at passed) .excess)
 

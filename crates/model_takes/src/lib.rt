@@ -18,8 +18,8 @@ use model_format::Atom;
 use model_format::Connection;
 use model_format::HEAD_RANK;
 use model_format::Head;
-use model_format::Local;
 use model_format::ModeTransition;
+use model_format::Owned;
 use model_format::Thread;
 use model_format::Transition;
 use model_writer::add_assignment;
@@ -69,15 +69,15 @@ pub fn take_thread(model: &mut [u32], last: u8, thread: Thread) -> Cause
     cause
 }
 
-pub fn take_input(model: &mut [u32], last: u8, owner: u8) -> Cause
+pub fn take_input(model: &mut [u32], last: u8, input: Owned) -> Cause
     requires { ⌜ words.modelWords ≤ length (now model) ⌝ }
-    ensures { λ cause. ⌜ Took last (now (model .entry)) (variants.InputRecord owner) cause (now (model .exit)) ⌝ }
+    ensures { λ cause. ⌜ Took last (now (model .entry)) (variants.InputRecord input) cause (now (model .exit)) ⌝ }
 {
-    let cause = cause_of_input(model, last, owner);
+    let cause = cause_of_input(model, last, input);
     if !is_none(cause) {
         return cause;
     }
-    add_input(model, owner);
+    add_input(model, input);
     cause
 }
 
@@ -93,7 +93,7 @@ pub fn take_output(model: &mut [u32], last: u8, owner: u8) -> Cause
     cause
 }
 
-pub fn take_local(model: &mut [u32], last: u8, local: Local) -> Cause
+pub fn take_local(model: &mut [u32], last: u8, local: Owned) -> Cause
     requires { ⌜ words.modelWords ≤ length (now model) ⌝ }
     ensures { λ cause. ⌜ Took last (now (model .entry)) (variants.LocalRecord local) cause (now (model .exit)) ⌝ }
 {

@@ -1,5 +1,5 @@
 -- Laws of a model in a list: its items by number.
-use mathlib.Core.Path.{_≡_, sym, _∙_}
+use mathlib.Core.Path.{_≡_, refl, sym, _∙_, ap}
 use mathlib.Core.List.{List}
 use Prim.Native.Nat.{ℕ, _+_, _*_, _<_, _≤_, min}
 use native.Mathlib.Omega.{arith}
@@ -7,14 +7,14 @@ use borrow.Author.Tests.{lt-ltb}
 use Rattle.numbers.specs.Lists.{item, listBelow}
 use Rattle.numbers.specs.ListLaws.{item-past, item-below}
 use Rattle.model_format.specs.declared.Thread.{Thread}
-use Rattle.model_format.specs.declared.Local.{Local}
+use Rattle.model_format.specs.declared.Owned.{Owned}
 use Rattle.model_format.specs.declared.Connection.{Connection}
 use Rattle.model_format.specs.declared.ModeTransition.{ModeTransition}
 use Rattle.model_format.specs.declared.Transition.{Transition}
 use Rattle.model_format.specs.declared.Atom.{Atom}
 use Rattle.model_format.specs.declared.Assignment.{Assignment}
-use Rattle.model_format.specs.Model.{maxThreads, maxInputs, maxOutputs, maxLocals, maxConnections, maxSwitches, maxTransitions, maxEach, maxTimes, noThread, noLocal, noConnection, noSwitch, noTransition, noAtom, noAssignment, threadAt, inputOwner, outputOwner, localAt, connectionAt, switchAt, transitionAt, atomAt, assignmentAt}
-use Rattle.model_words.specs.Words.{threadSize, localSize, connectionSize, switchSize, transitionSize, atomSize, assignmentSize, threadsFrom, inputsFrom, outputsFrom, localsFrom, connectionsFrom, switchesFrom, transitionsFrom, atomsFrom, assignmentsFrom, byteIn, threadIn, localIn, connectionIn, switchIn, transitionIn, atomIn, assignmentIn, threadsIn, inputsIn, outputsIn, localsIn, connectionsIn, switchesIn, transitionsIn, atomsIn, assignmentsIn, timingIn, behaviorIn}
+use Rattle.model_format.specs.Model.{maxThreads, maxInputs, maxOutputs, maxLocals, maxConnections, maxSwitches, maxTransitions, maxEach, maxTimes, noThread, noOwned, noConnection, noSwitch, noTransition, noAtom, noAssignment, threadAt, inputAt, inputOwner, outputOwner, localAt, connectionAt, switchAt, transitionAt, atomAt, assignmentAt}
+use Rattle.model_words.specs.Words.{threadSize, ownedSize, connectionSize, switchSize, transitionSize, atomSize, assignmentSize, threadsFrom, inputsFrom, outputsFrom, localsFrom, connectionsFrom, switchesFrom, transitionsFrom, atomsFrom, assignmentsFrom, byteIn, threadIn, ownedIn, connectionIn, switchIn, transitionIn, atomIn, assignmentIn, threadsIn, inputsIn, outputsIn, localsIn, connectionsIn, switchesIn, transitionsIn, atomsIn, assignmentsIn, timingIn, behaviorIn}
 
 -- ---- items by number
 module _ {A : Type 0} (room : ℕ) (d x : A) (i : ℕ) where
@@ -33,13 +33,20 @@ module _ (l : List ℕ) (i : ℕ) where
   unfolding threadAt timingIn
   thread-missing x h e = missing maxThreads noThread x i (threadsIn l) h e
 
-  pub input-there : (x : ℕ) → i < maxInputs → x ≡ byteIn l (inputsFrom + i) → x ≡ inputOwner (timingIn l) i
-  unfolding inputOwner timingIn inputsIn
-  input-there x h e = there maxInputs 0 x i (λ j. byteIn l (inputsFrom + j)) h e
+  pub input-there : (x : Owned) → i < maxInputs → x ≡ ownedIn l (inputsFrom + i * ownedSize) → x ≡ inputAt (timingIn l) i
+  unfolding inputAt timingIn inputsIn
+  input-there x h e = there maxInputs noOwned x i (λ j. ownedIn l (inputsFrom + j * ownedSize)) h e
 
-  pub input-missing : (x : ℕ) → maxInputs ≤ i → x ≡ 0 → x ≡ inputOwner (timingIn l) i
-  unfolding inputOwner timingIn
-  input-missing x h e = missing maxInputs 0 x i (inputsIn l) h e
+  pub input-missing : (x : Owned) → maxInputs ≤ i → x ≡ noOwned → x ≡ inputAt (timingIn l) i
+  unfolding inputAt timingIn
+  input-missing x h e = missing maxInputs noOwned x i (inputsIn l) h e
+
+  pub owner-there : (x : ℕ) → i < maxInputs → x ≡ byteIn l (inputsFrom + i * ownedSize) → x ≡ inputOwner (timingIn l) i
+  unfolding ownedIn
+  owner-there x h e = e ∙ ap (λ (y : Owned). y .owner) (input-there (ownedIn l (inputsFrom + i * ownedSize)) h refl)
+
+  pub owner-missing : (x : ℕ) → maxInputs ≤ i → x ≡ 0 → x ≡ inputOwner (timingIn l) i
+  owner-missing x h e = e ∙ ap (λ (y : Owned). y .owner) (input-missing noOwned h refl)
 
   pub output-there : (x : ℕ) → i < maxOutputs → x ≡ byteIn l (outputsFrom + i) → x ≡ outputOwner (timingIn l) i
   unfolding outputOwner timingIn outputsIn
@@ -49,13 +56,13 @@ module _ (l : List ℕ) (i : ℕ) where
   unfolding outputOwner timingIn
   output-missing x h e = missing maxOutputs 0 x i (outputsIn l) h e
 
-  pub local-there : (x : Local) → i < maxLocals → x ≡ localIn l (localsFrom + i * localSize) → x ≡ localAt (timingIn l) i
+  pub local-there : (x : Owned) → i < maxLocals → x ≡ ownedIn l (localsFrom + i * ownedSize) → x ≡ localAt (timingIn l) i
   unfolding localAt timingIn localsIn
-  local-there x h e = there maxLocals noLocal x i (λ j. localIn l (localsFrom + j * localSize)) h e
+  local-there x h e = there maxLocals noOwned x i (λ j. ownedIn l (localsFrom + j * ownedSize)) h e
 
-  pub local-missing : (x : Local) → maxLocals ≤ i → x ≡ noLocal → x ≡ localAt (timingIn l) i
+  pub local-missing : (x : Owned) → maxLocals ≤ i → x ≡ noOwned → x ≡ localAt (timingIn l) i
   unfolding localAt timingIn
-  local-missing x h e = missing maxLocals noLocal x i (localsIn l) h e
+  local-missing x h e = missing maxLocals noOwned x i (localsIn l) h e
 
   pub connection-there : (x : Connection) → i < maxConnections → x ≡ connectionIn l (connectionsFrom + i * connectionSize) → x ≡ connectionAt (timingIn l) i
   unfolding connectionAt timingIn connectionsIn

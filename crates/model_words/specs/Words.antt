@@ -9,7 +9,7 @@ use Rattle.numbers.specs.Lists.{listBelow}
 use Rattle.numbers.specs.Values.{duration, value, signed}
 use Rattle.records.specs.declared.Operand.{Operand}
 use Rattle.model_format.specs.declared.Thread.{Thread}
-use Rattle.model_format.specs.declared.Local.{Local}
+use Rattle.model_format.specs.declared.Owned.{Owned}
 use Rattle.model_format.specs.declared.Connection.{Connection}
 use Rattle.model_format.specs.declared.ModeTransition.{ModeTransition}
 use Rattle.model_format.specs.declared.Transition.{Transition}
@@ -52,8 +52,8 @@ transitionsPlace = 8
 abbrev pub threadSize : ℕ
 threadSize = 7
 
-abbrev pub localSize : ℕ
-localSize = 2
+abbrev pub ownedSize : ℕ
+ownedSize = 2
 
 abbrev pub connectionSize : ℕ
 connectionSize = 4
@@ -78,13 +78,13 @@ abbrev pub inputsFrom : ℕ
 inputsFrom = threadsFrom + maxThreads * threadSize
 
 abbrev pub outputsFrom : ℕ
-outputsFrom = inputsFrom + maxInputs
+outputsFrom = inputsFrom + maxInputs * ownedSize
 
 abbrev pub localsFrom : ℕ
 localsFrom = outputsFrom + maxOutputs
 
 abbrev pub connectionsFrom : ℕ
-connectionsFrom = localsFrom + maxLocals * localSize
+connectionsFrom = localsFrom + maxLocals * ownedSize
 
 abbrev pub switchesFrom : ℕ
 switchesFrom = connectionsFrom + maxConnections * connectionSize
@@ -129,8 +129,8 @@ threadIn l p = record {
   first = byteIn l (p + 6);
 }
 
-unfoldable pub localIn : List ℕ → ℕ → Local
-localIn l p = record { owner = byteIn l p; start = valueIn l (p + 1) }
+unfoldable pub ownedIn : List ℕ → ℕ → Owned
+ownedIn l p = record { owner = byteIn l p; start = valueIn l (p + 1) }
 
 unfoldable pub connectionIn : List ℕ → ℕ → Connection
 connectionIn l p = record { kind = byteIn l p; source = shortIn l (p + 1); target = shortIn l (p + 2); modes = byteIn l (p + 3) }
@@ -151,14 +151,14 @@ assignmentIn l p = record { tag = byteIn l p; number = shortIn l (p + 1); op = b
 unfoldable pub threadsIn : List ℕ → List Thread
 threadsIn l = listBelow maxThreads (λ i. threadIn l (threadsFrom + i * threadSize))
 
-unfoldable pub inputsIn : List ℕ → List ℕ
-inputsIn l = listBelow maxInputs (λ i. byteIn l (inputsFrom + i))
+unfoldable pub inputsIn : List ℕ → List Owned
+inputsIn l = listBelow maxInputs (λ i. ownedIn l (inputsFrom + i * ownedSize))
 
 unfoldable pub outputsIn : List ℕ → List ℕ
 outputsIn l = listBelow maxOutputs (λ i. byteIn l (outputsFrom + i))
 
-unfoldable pub localsIn : List ℕ → List Local
-localsIn l = listBelow maxLocals (λ i. localIn l (localsFrom + i * localSize))
+unfoldable pub localsIn : List ℕ → List Owned
+localsIn l = listBelow maxLocals (λ i. ownedIn l (localsFrom + i * ownedSize))
 
 unfoldable pub connectionsIn : List ℕ → List Connection
 connectionsIn l = listBelow maxConnections (λ i. connectionIn l (connectionsFrom + i * connectionSize))

@@ -15,12 +15,12 @@ use crate::layout::CONNECTIONS_PLACE;
 use crate::layout::INITIAL_PLACE;
 use crate::layout::INPUTS_FROM;
 use crate::layout::INPUTS_PLACE;
-use crate::layout::LOCAL_SIZE;
 use crate::layout::LOCALS_FROM;
 use crate::layout::LOCALS_PLACE;
 use crate::layout::MODES_PLACE;
 use crate::layout::OUTPUTS_FROM;
 use crate::layout::OUTPUTS_PLACE;
+use crate::layout::OWNED_SIZE;
 use crate::layout::SWITCH_SIZE;
 use crate::layout::SWITCHES_FROM;
 use crate::layout::SWITCHES_PLACE;
@@ -33,7 +33,6 @@ use crate::layout::TRANSITIONS_PLACE;
 use model_format::Assignment;
 use model_format::Atom;
 use model_format::Connection;
-use model_format::Local;
 use model_format::MAX_CONNECTIONS;
 use model_format::MAX_INPUTS;
 use model_format::MAX_LOCALS;
@@ -43,12 +42,13 @@ use model_format::MAX_THREADS;
 use model_format::MAX_TIMES;
 use model_format::MAX_TRANSITIONS;
 use model_format::ModeTransition;
+use model_format::Owned;
 use model_format::Thread;
 use model_format::Transition;
 use model_format::no_assignment;
 use model_format::no_atom;
 use model_format::no_connection;
-use model_format::no_local;
+use model_format::no_owned;
 use model_format::no_switch;
 use model_format::no_thread;
 use model_format::no_transition;
@@ -57,7 +57,6 @@ use numbers::usize_of_u32;
 use numbers::word_at;
 ghost use mathlib.Core.Path.{_≡_};
 ghost use Prim.Native.Nat.{_+_, _≤_};
-ghost use lib.ListN.{getD};
 ghost use Rattle.model_format.specs.Model as items;
 ghost use Rattle.model_format.specs.Reading as reading;
 ghost use Rattle.model_words.specs.Words as words;
@@ -140,13 +139,13 @@ fn thread_in(model: &[u32], at: usize) -> Thread
     }
 }
 
-fn local_in(model: &[u32], at: usize) -> Local
-    requires { ⌜ at + words.localSize ≤ words.modelWords ⌝ }
-    ensures { λ r. ⌜ r ≡ words.localIn (now (model .entry)) at ⌝ }
+fn owned_in(model: &[u32], at: usize) -> Owned
+    requires { ⌜ at + words.ownedSize ≤ words.modelWords ⌝ }
+    ensures { λ r. ⌜ r ≡ words.ownedIn (now (model .entry)) at ⌝ }
 {
     let owner = byte_in(model, at);
     let start = value_in(model, at + 1);
-    Local {
+    Owned {
         owner: owner,
         start: start,
     }
@@ -246,13 +245,13 @@ pub fn thread_at(model: &[u32], thread: usize) -> Thread
     thread_in(model, THREADS_FROM + thread * THREAD_SIZE)
 }
 
-pub fn local_at(model: &[u32], local: usize) -> Local
+pub fn local_at(model: &[u32], local: usize) -> Owned
     ensures { λ r. ⌜ r ≡ items.localAt (words.timingIn (now (model .entry))) local ⌝ }
 {
     if MAX_LOCALS <= local {
-        return no_local();
+        return no_owned();
     }
-    local_in(model, LOCALS_FROM + local * LOCAL_SIZE)
+    owned_in(model, LOCALS_FROM + local * OWNED_SIZE)
 }
 
 pub fn connection_at(model: &[u32], connection: usize) -> Connection
@@ -282,13 +281,22 @@ pub fn transition_at(model: &[u32], transition: usize) -> Transition
     transition_in(model, TRANSITIONS_FROM + transition * TRANSITION_SIZE)
 }
 
+pub fn input_at(model: &[u32], port: usize) -> Owned
+    ensures { λ r. ⌜ r ≡ items.inputAt (words.timingIn (now (model .entry))) port ⌝ }
+{
+    if MAX_INPUTS <= port {
+        return no_owned();
+    }
+    owned_in(model, INPUTS_FROM + port * OWNED_SIZE)
+}
+
 pub fn input_owner(model: &[u32], port: usize) -> u8
     ensures { λ r. ⌜ r ≡ items.inputOwner (words.timingIn (now (model .entry))) port ⌝ }
 {
     if MAX_INPUTS <= port {
         return 0;
     }
-    byte_in(model, INPUTS_FROM + port)
+    byte_in(model, INPUTS_FROM + port * OWNED_SIZE)
 }
 
 pub fn output_owner(model: &[u32], port: usize) -> u8

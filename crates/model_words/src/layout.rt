@@ -31,7 +31,7 @@ pub const TRANSITIONS_PLACE: usize = 8;
 // How many numbers an item has.
 pub const THREAD_SIZE: usize = 7;
 
-pub const LOCAL_SIZE: usize = 2;
+pub const OWNED_SIZE: usize = 2;
 
 pub const CONNECTION_SIZE: usize = 4;
 
@@ -48,11 +48,11 @@ pub const THREADS_FROM: usize = 9;
 
 pub const INPUTS_FROM: usize = THREADS_FROM + MAX_THREADS * THREAD_SIZE;
 
-pub const OUTPUTS_FROM: usize = INPUTS_FROM + MAX_INPUTS;
+pub const OUTPUTS_FROM: usize = INPUTS_FROM + MAX_INPUTS * OWNED_SIZE;
 
 pub const LOCALS_FROM: usize = OUTPUTS_FROM + MAX_OUTPUTS;
 
-pub const CONNECTIONS_FROM: usize = LOCALS_FROM + MAX_LOCALS * LOCAL_SIZE;
+pub const CONNECTIONS_FROM: usize = LOCALS_FROM + MAX_LOCALS * OWNED_SIZE;
 
 pub const SWITCHES_FROM: usize = CONNECTIONS_FROM + MAX_CONNECTIONS * CONNECTION_SIZE;
 

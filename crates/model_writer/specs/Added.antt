@@ -11,7 +11,7 @@ use Rattle.numbers.specs.Lists.{store}
 use Rattle.numbers.specs.ListLaws.{store-past}
 use Rattle.model_format.specs.declared.Head.{Head}
 use Rattle.model_format.specs.declared.Thread.{Thread}
-use Rattle.model_format.specs.declared.Local.{Local}
+use Rattle.model_format.specs.declared.Owned.{Owned}
 use Rattle.model_format.specs.declared.Connection.{Connection}
 use Rattle.model_format.specs.declared.ModeTransition.{ModeTransition}
 use Rattle.model_format.specs.declared.Transition.{Transition}
@@ -53,7 +53,7 @@ module _ (l l₁ l₂ : List ℕ) (n : ℕ) where
       let c = threads-counted l₁ l₂ (n + 1) z d in
       rw (c .0, c .1, timing-of _ _ f, behavior-of _ _ f, e)
 
-  pub input-added : (x : ℕ) → n ≡ timingIn l .inputs → modelIn l₁ ≡ withInput (modelIn l) n x → l₂ ≡ set l₁ inputsPlace (n + 1) → modelWords ≤ length l₁ → modelIn l₂ ≡ addRecord (modelIn l) (InputRecord x)
+  pub input-added : (x : Owned) → n ≡ timingIn l .inputs → modelIn l₁ ≡ withInput (modelIn l) n x → l₂ ≡ set l₁ inputsPlace (n + 1) → modelWords ≤ length l₁ → modelIn l₂ ≡ addRecord (modelIn l) (InputRecord x)
   unfolding addRecord addInput
   input-added x e f d z =
       let c = inputs-counted l₁ l₂ (n + 1) z d in
@@ -65,7 +65,7 @@ module _ (l l₁ l₂ : List ℕ) (n : ℕ) where
       let c = outputs-counted l₁ l₂ (n + 1) z d in
       rw (c .0, c .1, timing-of _ _ f, behavior-of _ _ f, e)
 
-  pub local-added : (x : Local) → n ≡ timingIn l .locals → modelIn l₁ ≡ withLocal (modelIn l) n x → l₂ ≡ set l₁ localsPlace (n + 1) → modelWords ≤ length l₁ → modelIn l₂ ≡ addRecord (modelIn l) (LocalRecord x)
+  pub local-added : (x : Owned) → n ≡ timingIn l .locals → modelIn l₁ ≡ withLocal (modelIn l) n x → l₂ ≡ set l₁ localsPlace (n + 1) → modelWords ≤ length l₁ → modelIn l₂ ≡ addRecord (modelIn l) (LocalRecord x)
   unfolding addRecord addLocal
   local-added x e f d z =
       let c = locals-counted l₁ l₂ (n + 1) z d in

@@ -7,8 +7,8 @@ use native.Mathlib.Decide.{decLt}
 use lib.ListN.{getD, set, length, replicate, List·getD-eq-default}
 use lib.Seq.{getD-set-same, getD-set-other}
 use Rattle.numbers.specs.ListLaws.{list-below-replicate}
-use Rattle.model_format.specs.Model.{maxThreads, maxInputs, maxOutputs, maxLocals, maxConnections, maxSwitches, maxTransitions, maxTimes, noThread, noLocal, noConnection, noSwitch, noTransition, noAtom, noAssignment, emptyModel}
-use Rattle.model_words.specs.Words.{modesPlace, initialPlace, threadsPlace, inputsPlace, outputsPlace, localsPlace, connectionsPlace, switchesPlace, transitionsPlace, threadSize, localSize, connectionSize, switchSize, transitionSize, atomSize, assignmentSize, threadsFrom, inputsFrom, outputsFrom, localsFrom, connectionsFrom, switchesFrom, transitionsFrom, atomsFrom, assignmentsFrom, threadIn, localIn, connectionIn, switchIn, transitionIn, atomIn, assignmentIn, threadsIn, inputsIn, outputsIn, localsIn, connectionsIn, switchesIn, transitionsIn, atomsIn, assignmentsIn, timingIn, behaviorIn, modelIn}
+use Rattle.model_format.specs.Model.{maxThreads, maxInputs, maxOutputs, maxLocals, maxConnections, maxSwitches, maxTransitions, maxTimes, noThread, noOwned, noConnection, noSwitch, noTransition, noAtom, noAssignment, emptyModel}
+use Rattle.model_words.specs.Words.{modesPlace, initialPlace, threadsPlace, inputsPlace, outputsPlace, localsPlace, connectionsPlace, switchesPlace, transitionsPlace, threadSize, ownedSize, connectionSize, switchSize, transitionSize, atomSize, assignmentSize, threadsFrom, inputsFrom, outputsFrom, localsFrom, connectionsFrom, switchesFrom, transitionsFrom, atomsFrom, assignmentsFrom, threadIn, ownedIn, connectionIn, switchIn, transitionIn, atomIn, assignmentIn, threadsIn, inputsIn, outputsIn, localsIn, connectionsIn, switchesIn, transitionsIn, atomsIn, assignmentsIn, timingIn, behaviorIn, modelIn}
 
 module _ (l : List ℕ) (h : (q : ℕ) → getD l q 0 ≡ 0) where
   thread-blank : (p : ℕ) → threadIn l p ≡ noThread
@@ -19,21 +19,21 @@ module _ (l : List ℕ) (h : (q : ℕ) → getD l q 0 ≡ 0) where
   unfolding threadsIn
   threads-blank = list-below-replicate maxThreads _ noThread (λ i b. thread-blank (threadsFrom + i * threadSize))
 
-  inputs-blank : inputsIn l ≡ replicate maxInputs 0
+  owned-blank : (p : ℕ) → ownedIn l p ≡ noOwned
+  unfolding ownedIn
+  owned-blank p = rw (h p, h (p + 1))
+
+  inputs-blank : inputsIn l ≡ replicate maxInputs noOwned
   unfolding inputsIn
-  inputs-blank = list-below-replicate maxInputs _ 0 (λ i b. rw (h (inputsFrom + i)))
+  inputs-blank = list-below-replicate maxInputs _ noOwned (λ i b. owned-blank (inputsFrom + i * ownedSize))
 
   outputs-blank : outputsIn l ≡ replicate maxOutputs 0
   unfolding outputsIn
   outputs-blank = list-below-replicate maxOutputs _ 0 (λ i b. rw (h (outputsFrom + i)))
 
-  local-blank : (p : ℕ) → localIn l p ≡ noLocal
-  unfolding localIn
-  local-blank p = rw (h p, h (p + 1))
-
-  locals-blank : localsIn l ≡ replicate maxLocals noLocal
+  locals-blank : localsIn l ≡ replicate maxLocals noOwned
   unfolding localsIn
-  locals-blank = list-below-replicate maxLocals _ noLocal (λ i b. local-blank (localsFrom + i * localSize))
+  locals-blank = list-below-replicate maxLocals _ noOwned (λ i b. owned-blank (localsFrom + i * ownedSize))
 
   connection-blank : (p : ℕ) → connectionIn l p ≡ noConnection
   unfolding connectionIn

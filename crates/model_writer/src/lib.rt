@@ -4,8 +4,8 @@ use model_format::Assignment;
 use model_format::Atom;
 use model_format::Connection;
 use model_format::Head;
-use model_format::Local;
 use model_format::ModeTransition;
+use model_format::Owned;
 use model_format::Thread;
 use model_format::Transition;
 use model_format::place;
@@ -84,12 +84,12 @@ pub fn add_thread(model: &mut [u32], thread: Thread)
     put_count(model, THREADS_PLACE, count + 1);
 }
 
-pub fn add_input(model: &mut [u32], owner: u8)
+pub fn add_input(model: &mut [u32], input: Owned)
     requires { ⌜ (words.modelWords ≤ length (now model)) × (words.timingIn (now model) .inputs < models.maxInputs) ⌝ }
-    ensures { λ _. ⌜ words.modelIn (now (model .exit)) ≡ reading.addRecord (words.modelIn (now (model .entry))) (variants.InputRecord owner) ⌝ }
+    ensures { λ _. ⌜ words.modelIn (now (model .exit)) ≡ reading.addRecord (words.modelIn (now (model .entry))) (variants.InputRecord input) ⌝ }
 {
     let count = inputs(model);
-    put_input(model, count, owner);
+    put_input(model, count, input);
     put_count(model, INPUTS_PLACE, count + 1);
 }
 
@@ -102,7 +102,7 @@ pub fn add_output(model: &mut [u32], owner: u8)
     put_count(model, OUTPUTS_PLACE, count + 1);
 }
 
-pub fn add_local(model: &mut [u32], local: Local)
+pub fn add_local(model: &mut [u32], local: Owned)
     requires { ⌜ (words.modelWords ≤ length (now model)) × (words.timingIn (now model) .locals < models.maxLocals) ⌝ }
     ensures { λ _. ⌜ words.modelIn (now (model .exit)) ≡ reading.addRecord (words.modelIn (now (model .entry))) (variants.LocalRecord local) ⌝ }
 {

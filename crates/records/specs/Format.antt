@@ -8,7 +8,7 @@ use Rattle.numbers.specs.Values.{valueAt}
 use Rattle.records.specs.declared.Notation.{Notation}
 use Rattle.records.specs.declared.Notation.the-variants.{Model, Table, Script}
 use Rattle.records.specs.declared.Operand.{Operand}
-use Rattle.records.specs.Kinds.{modelHead, modelThread, modelInput, modelOutput, modelLocal, modelConnection, modelSwitch, modelTransition, modelAtom, modelAssignment, tableStart, tableRule, tableClause, tableAtom, tableUpdate, activateKind, deactivateKind, dispatchKind, startKind, completeKind, deadlineKind, missKind, requestKind, enterKind, leaveKind, tickKind}
+use Rattle.records.specs.Kinds.{modelHead, modelThread, modelInput, modelOutput, modelLocal, modelConnection, modelSwitch, modelTransition, modelAtom, modelAssignment, modelWrittenInput, tableStart, tableRule, tableClause, tableAtom, tableUpdate, activateKind, deactivateKind, dispatchKind, startKind, completeKind, deadlineKind, missKind, requestKind, enterKind, leaveKind, tickKind}
 
 -- with the kind byte: the records of a rule, which walks over a table cut out by themselves
 abbrev pub headSize : ℕ
@@ -36,7 +36,8 @@ recordSize Model k =
     (cond (eqb k modelSwitch) 3
     (cond (eqb k modelTransition) 4
     (cond (eqb k modelAtom) 9
-    (cond (eqb k modelAssignment) 14 0)))))))))
+    (cond (eqb k modelAssignment) 14
+    (cond (eqb k modelWrittenInput) 6 0))))))))))
 recordSize Table k =
     cond (eqb k tableStart) 7
     (cond (eqb k tableRule) headSize

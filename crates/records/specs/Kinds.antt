@@ -32,6 +32,10 @@ modelAtom = 9
 abbrev pub modelAssignment : ℕ
 modelAssignment = 10
 
+-- "A new model kind 0B, owner u8 and start i32": an input port whose start value is written
+abbrev pub modelWrittenInput : ℕ
+modelWrittenInput = 11
+
 -- "20 start .. 24 update", of tables
 abbrev pub tableStart : ℕ
 tableStart = 32

@@ -20,6 +20,8 @@ pub const MODEL_ATOM: u8 = 9;
 
 pub const MODEL_ASSIGNMENT: u8 = 10;
 
+pub const MODEL_WRITTEN_INPUT: u8 = 11;
+
 pub const TABLE_START: u8 = 32;
 
 pub const TABLE_RULE: u8 = 33;
@@ -70,6 +72,8 @@ pub const MODEL_TRANSITION_SIZE: usize = 4;
 pub const MODEL_ATOM_SIZE: usize = 9;
 
 pub const MODEL_ASSIGNMENT_SIZE: usize = 14;
+
+pub const MODEL_WRITTEN_INPUT_SIZE: usize = 6;
 
 pub const RULE_SIZE: usize = 11;
 

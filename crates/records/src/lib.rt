@@ -31,6 +31,8 @@ pub use kinds::MODEL_THREAD;
 pub use kinds::MODEL_THREAD_SIZE;
 pub use kinds::MODEL_TRANSITION;
 pub use kinds::MODEL_TRANSITION_SIZE;
+pub use kinds::MODEL_WRITTEN_INPUT;
+pub use kinds::MODEL_WRITTEN_INPUT_SIZE;
 pub use kinds::REQUEST;
 pub use kinds::RULE_SIZE;
 pub use kinds::START;
@@ -44,7 +46,7 @@ pub use kinds::TICK;
 pub use kinds::UPDATE_SIZE;
 use numbers::Value;
 ghost use mathlib.Core.Path.{_≡_};
-ghost use Prim.Native.Nat.{_-_, _≤_, _<_, min};
+ghost use Prim.Native.Nat.{_-_, _<_, min};
 ghost use lib.ListN.{take, drop};
 ghost use Rattle.records.specs.declared.Notation.the-variants as notations;
 ghost use Rattle.records.specs.Format.{recordSize, partLength, partLengthAt, isWhole, operandAt};
@@ -118,6 +120,7 @@ fn model_size(kind: u8) -> usize
         MODEL_TRANSITION => MODEL_TRANSITION_SIZE,
         MODEL_ATOM => MODEL_ATOM_SIZE,
         MODEL_ASSIGNMENT => MODEL_ASSIGNMENT_SIZE,
+        MODEL_WRITTEN_INPUT => MODEL_WRITTEN_INPUT_SIZE,
         _ => 0,
     }
 }

@@ -16,7 +16,7 @@ use Rattle.numbers.specs.ListLaws.{length-store, item-store-same, item-store-ot
 use Rattle.numbers.specs.Values.{value, duration, natural, bitsOf, sameValue}
 use Rattle.model_format.specs.declared.Timing.{Timing}
 use Rattle.model_format.specs.declared.Model.{Model}
-use Rattle.model_format.specs.Model.{maxThreads, maxInputs, maxOutputs, maxLocals, maxConnections, threadAt, localAt, connectionAt, inMode}
+use Rattle.model_format.specs.Model.{maxThreads, maxInputs, maxOutputs, maxLocals, maxConnections, threadAt, inputAt, localAt, connectionAt, inMode}
 use Rattle.model_format.specs.WellFormed.{GoodTiming, WellFormed}
 use Rattle.model_semantics.specs.declared.State.{State}
 use Rattle.model_semantics.specs.State.{isActive, codeOf, dispatchTime, behaviorOf, missedOf, isLive, inputValue, bufferValue, outputValue, localValue}
@@ -96,8 +96,8 @@ module _ (m : Timing) where
     behavior = λ t. filled-blank maxThreads 0 (λ c. threadAt m c .first) (m .threads) t;
     missed = λ t l. item-blank maxThreads 0 t;
     live = λ c. filled-blank maxConnections false (λ e. inBoth (connectionAt m e .modes) (m .initial) (m .initial)) (m .connections) c;
-    input = λ i l. item-blank maxInputs (natural 0) i;
-    buffer = λ i l. item-blank maxInputs (natural 0) i;
+    input = λ i. filled-blank maxInputs (natural 0) (λ c. inputAt m c .start) (m .inputs) i;
+    buffer = λ i. filled-blank maxInputs (natural 0) (λ c. inputAt m c .start) (m .inputs) i;
     output = λ o l. item-blank maxOutputs (natural 0) o;
     local = λ i. filled-blank maxLocals (natural 0) (λ c. localAt m c .start) (m .locals) i;
   }
@@ -137,8 +137,8 @@ module _ (m : Timing) where
       where
         ports-plain : (i : ℕ) → Plain (inputValue (begins .ports) i) × Plain (bufferValue (begins .ports) i) × Plain (outputValue (begins .ports) i) × Plain (localValue (begins .ports) i)
         ports-plain i = unfold startState inputValue bufferValue outputValue localValue in (
-          rw (item-blank maxInputs (natural 0) i) (plain-natural 0),
-          rw (item-blank maxInputs (natural 0) i) (plain-natural 0),
+          filled-each maxInputs (natural 0) (λ c. inputAt m c .start) Plain (plain-natural 0) (m .inputs) (λ c l. plain-fits (inputAt m c .start) (g .start c l)) i,
+          filled-each maxInputs (natural 0) (λ c. inputAt m c .start) Plain (plain-natural 0) (m .inputs) (λ c l. plain-fits (inputAt m c .start) (g .start c l)) i,
           rw (item-blank maxOutputs (natural 0) i) (plain-natural 0),
           filled-each maxLocals (natural 0) (λ c. localAt m c .start) Plain (plain-natural 0) (m .locals) (λ c l. plain-fits (localAt m c .start) (g .local c l)) i,
         )
@@ -230,8 +230,8 @@ module _ (m : Timing) (g : GoodTiming m) (v : List Value) (size : length v ≡ v
       shows = λ c l. stands (flagVar c) (omega arith) ∙ stands-flag m g s b c l;
     };
     ports = record {
-      input = record { sized = refl; blank = b .input; shows = λ i l. stands (inputVar i) (omega arith) ∙ stands-input m g s b i l };
-      buffer = record { sized = refl; blank = b .buffer; shows = λ i l. stands (bufferVar i) (omega arith) ∙ stands-buffer m g s b i l };
+      input = record { sized = filled-length maxInputs (natural 0) (λ c. inputAt m c .start) (m .inputs); blank = b .input; shows = λ i l. stands (inputVar i) (omega arith) ∙ stands-input m g s b i l };
+      buffer = record { sized = filled-length maxInputs (natural 0) (λ c. inputAt m c .start) (m .inputs); blank = b .buffer; shows = λ i l. stands (bufferVar i) (omega arith) ∙ stands-buffer m g s b i l };
       output = record { sized = refl; blank = b .output; shows = λ i l. stands (outputVar i) (omega arith) ∙ stands-output m g s b i l };
       local = record {
         sized = filled-length maxLocals (natural 0) (λ c. localAt m c .start) (m .locals);

@@ -1,4 +1,5 @@
--- The starred examples of document 01, as a group. Those that are runs are proved of the model's run and of the run of its table.
+-- The starred examples of document 01, as a group, and one of each change that has none. Those that are runs are proved of the model's run and of
+-- the run of its table.
 use mathlib.Core.Path.{_≡_, refl}
 use mathlib.Core.List.{List, [], _∷_, _++_}
 use Prim.Native.Nat.{ℕ}
@@ -7,10 +8,11 @@ use Prim.Native.String as strings
 use Prim.Native.String.{String}
 use lib.IntN.{negsuc}
 use Rattle.numbers.specs.Values.{u16To, u32To, value, natural, minus}
+use Rattle.numbers.specs.declared.Value.{Value}
 use Rattle.records.specs.declared.Cause.the-variants.{None}
 use Rattle.table_format.specs.declared.Atom.{Atom}
 use Rattle.table_format.specs.Variables.{nowVar, phaseVar, pendingVar}
-use Rattle.spec_examples.specs.Evaluate.{steps, rules, modelCause, tableCause, modelLocal, tableLocal, firstH1, firstEnter, modelAt, tableAt}
+use Rattle.spec_examples.specs.Evaluate.{steps, rules, modelCause, tableCause, modelLocal, tableLocal, modelPort, tablePort, firstH1, firstEnter, modelAt, tableAt}
 
 -- ---- notation
 abbrev ascii : String → List ℕ
@@ -179,3 +181,22 @@ head-alone-tick-1 = (refl, refl)
 head-alone-tick-2 : (modelAt head 999999999 (tick 2) ≡ ascii "end 0 11 999999999\n") × (tableAt head 999999999 (tick 2) ≡ ascii "end 0 11 999999999\n")
 unfolding modelAt tableAt
 head-alone-tick-2 = (refl, refl)
+
+-- ---- "Written start values for input ports": 0B with -1 between two of 03, and 0B with 0. "Port and buffer both begin at that value. Kind 03 still
+-- means 0"; after DISPATCH the port still has it, since its buffer had it.
+abbrev offThePage : List ℕ
+offThePage = M ++ (3 ∷ 0 ∷ []) ++ (11 ∷ 0 ∷ u32To 4294967295 []) ++ (3 ∷ 0 ∷ []) ++ (11 ∷ 0 ∷ u32To 0 [])
+
+abbrev both : Value → Value × Value
+both x = (x, x)
+
+abbrev Begins : ℕ → Value → Type 0
+Begins i x = (modelPort offThePage [] i ≡ both x) × (tablePort offThePage [] i ≡ both x)
+
+ports-begin : Accepted offThePage × Begins 0 (natural 0) × Begins 1 (value (negsuc 0)) × Begins 2 (natural 0) × Begins 3 (natural 0)
+unfolding modelCause tableCause modelPort tablePort
+ports-begin = ((refl, refl), (refl, refl), (refl, refl), (refl, refl), (refl, refl))
+
+port-taken : (modelPort offThePage (activate ++ dispatch) 1 ≡ both (value (negsuc 0))) × (tablePort offThePage (activate ++ dispatch) 1 ≡ both (value (negsuc 0)))
+unfolding modelPort tablePort
+port-taken = (refl, refl)

@@ -1,21 +1,22 @@
 -- What one item adds, as the code tells it.
-use mathlib.Core.Path.{_≡_, refl, sym, _∙_, ap}
+use mathlib.Core.Path.{_≡_, sym, _∙_, ap}
 use mathlib.Core.Bool.{Bool, true, false, not}
 use Prim.Native.Nat.{ℕ, _+_, _*_, _≤_}
 use native.Mathlib.Omega.{arith}
 use lib.Dec.{eqb}
-use borrow.Author.Tests.{eq-eqb, ne-eqb}
+use borrow.Author.Tests.{ne-eqb}
+use Rattle.numbers.specs.declared.Value.{Value}
 use Rattle.numbers.specs.Values.{natural, sameValue}
 use Rattle.model_format.specs.declared.Thread.{Thread}
-use Rattle.model_format.specs.declared.Local.{Local}
+use Rattle.model_format.specs.declared.Owned.{Owned}
 use Rattle.model_format.specs.declared.Connection.{Connection}
 use Rattle.model_format.specs.declared.Timing.{Timing}
-use Rattle.model_format.specs.Model.{threadAt, localAt, connectionAt, inMode, immediate, delayed}
+use Rattle.model_format.specs.Model.{threadAt, inputAt, localAt, connectionAt, inMode, immediate, delayed}
 use Rattle.translation.specs.Shown.{bit}
 use Rattle.translation_sizes.specs.declared.Counts.{Counts}
 use Rattle.translation_sizes.specs.Counts.{counts, nothing, countBelow, bytesBy, sizeBy}
 use Rattle.translation_sizes.specs.CountLaws.{updates-each}
-use Rattle.translation_sizes.specs.Items.{threadCounts, inputCounts, connectionCounts, switchCounts, headStarts, threadStarts, connectionStarts, localStarts}
+use Rattle.translation_sizes.specs.Items.{threadCounts, inputCounts, connectionCounts, switchCounts, headStarts, threadStarts, connectionStarts, inputStarts, localStarts}
 
 module _ (m : Timing) {r : Counts} where
   pub thread-told : (t : ℕ) → r ≡ counts 11 32 32 25 → r ≡ threadCounts m t
@@ -58,14 +59,23 @@ module _ (m : Timing) {i : ℕ} (h : i ≡ m .initial) where
   unfolding connectionStarts
   connection-begun c e q k = k ∙ rw (← e, ← h, ← q)
 
-module _ (m : Timing) (v : ℕ) {x : Local} {p : Bool} (e : x ≡ localAt m v) (h : p ≡ sameValue (x .start) (natural 0)) where
-  pub local-blank : p ≡ true → 0 ≡ localStarts m v
-  unfolding localStarts
-  local-blank k = rw (← e, ← h, k)
+-- a start value x
+module _ (x : Value) {p : Bool} (h : p ≡ sameValue x (natural 0)) where
+  pub value-blank : p ≡ true → (0 ≡ bit (not (sameValue x (natural 0)))) × (0 ≤ 1)
+  value-blank k = (rw (← h, k), omega arith)
 
-  pub local-begun : p ≡ false → 1 ≡ localStarts m v
+  pub value-begun : p ≡ false → (1 ≡ bit (not (sameValue x (natural 0)))) × (1 ≤ 1)
+  value-begun k = (rw (← h, k), omega arith)
+
+-- n is whether it is not 0, of an input port or a local
+module _ (m : Timing) (i : ℕ) {x : Owned} {n : ℕ} (h : n ≡ bit (not (sameValue (x .start) (natural 0)))) where
+  pub input-begun : x ≡ inputAt m i → n + n ≡ inputStarts m i
+  unfolding inputStarts
+  input-begun e = rw (← e, ← h)
+
+  pub local-begun : x ≡ localAt m i → n ≡ localStarts m i
   unfolding localStarts
-  local-begun k = rw (← e, ← h, k)
+  local-begun e = h ∙ rw (← e)
 
 pub within-two : {n : ℕ} → n ≤ 1 → n ≤ 2
 within-two h = omega arith

@@ -1,5 +1,5 @@
 -- What all items add, and the table's size, from their parts as the code has them: each sum is small, and is what it should be.
-use mathlib.Core.Path.{_≡_, refl, sym, _∙_, ap}
+use mathlib.Core.Path.{_≡_, refl, sym, _∙_}
 use Prim.Native.Nat.{ℕ, _+_, _*_, _≤_}
 use native.Mathlib.Omega.{arith}
 use lib.Dec.{eqb}
@@ -14,8 +14,8 @@ use Rattle.translation_sizes.specs.declared.TableSize.{TableSize}
 use Rattle.translation_sizes.specs.declared.Counts.{Counts}
 use Rattle.translation_sizes.specs.Sizes.{sizeOf}
 use Rattle.translation_sizes.specs.Counts.{_and_, countBelow, sizeBy}
-use Rattle.translation_sizes.specs.Items.{threadCounts, inputCounts, connectionCounts, switchCounts, transitionCounts, itemCounts, headStarts, threadStarts, connectionStarts, localStarts, itemStarts}
-use Rattle.translation_sizes.specs.Longest.{bit-few, thread-few, connection-few, local-few}
+use Rattle.translation_sizes.specs.Items.{threadCounts, inputCounts, connectionCounts, switchCounts, transitionCounts, itemCounts, headStarts, threadStarts, connectionStarts, inputStarts, localStarts, itemStarts}
+use Rattle.translation_sizes.specs.Longest.{bit-few, thread-few, connection-few, input-few, local-few}
 use Rattle.translation_sizes.specs.MadeTable.{size-total}
 use Rattle.table_sizes.specs.Leaves.{within-two}
 use Rattle.table_counts.specs.Bounds.{AtMost, itemMost, kindMost, most, Small, at-most, and-most, threads-most, inputs-most, connections-most, switches-most, transitions-most}
@@ -80,8 +80,8 @@ items-small m w =
 begun-few : (n : ℕ) (f : ℕ → ℕ) → n ≤ 1024 → ((i : ℕ) → f i ≤ 2) → sumBelow n f ≤ 2048
 begun-few n f l h = omega (arith, sum-most n 2 f (λ i k. h i))
 
-module _ (m : Timing) (g : GoodTiming m) {h t c v : ℕ} (eh : h ≡ headStarts m) (et : t ≡ sumBelow (m .threads) (threadStarts m)) (ec : c ≡ sumBelow (m .connections) (connectionStarts m))
-    (ev : v ≡ sumBelow (m .locals) (localStarts m)) where
+module _ (m : Timing) (g : GoodTiming m) {h t c i v : ℕ} (eh : h ≡ headStarts m) (et : t ≡ sumBelow (m .threads) (threadStarts m)) (ec : c ≡ sumBelow (m .connections) (connectionStarts m))
+    (ei : i ≡ sumBelow (m .inputs) (inputStarts m)) (ev : v ≡ sumBelow (m .locals) (localStarts m)) where
   pub head-few : h ≤ 3
   unfolding headStarts
   head-few = omega (arith, eh, bit-few (not (eqb (m .initial) 0)))
@@ -92,20 +92,31 @@ module _ (m : Timing) (g : GoodTiming m) {h t c v : ℕ} (eh : h ≡ headStarts 
   pub connections-few : c ≤ 2048
   connections-few = let n = g .connections in rw ec (begun-few (m .connections) (connectionStarts m) (omega arith) (λ c. within-two (connection-few m c)))
 
+  pub inputs-few : i ≤ 2048
+  inputs-few = let n = g .inputs in rw ei (begun-few (m .inputs) (inputStarts m) (omega arith) (input-few m))
+
   pub locals-few : v ≤ 2048
   locals-few = let n = g .locals in rw ev (begun-few (m .locals) (localStarts m) (omega arith) (λ v. within-two (local-few m v)))
 
-  pub starts-told : h + t + c + v ≡ itemStarts m
+  pub starts-told : h + t + c + i + v ≡ itemStarts m
   unfolding itemStarts
-  starts-told = rw (← eh, ← et, ← ec, ← ev)
+  starts-told = rw (← eh, ← et, ← ec, ← ei, ← ev)
 
-starts-few : (m : Timing) → GoodTiming m → itemStarts m ≤ 2 * itemMost
+starts-few : (m : Timing) → GoodTiming m → itemStarts m ≤ 3 * itemMost
 unfolding itemStarts
-starts-few m g = omega (arith, head-few m g refl refl refl refl, threads-few m g refl refl refl refl, connections-few m g refl refl refl refl, locals-few m g refl refl refl refl)
+starts-few m g =
+    omega (
+      arith,
+      head-few m g refl refl refl refl refl,
+      threads-few m g refl refl refl refl refl,
+      connections-few m g refl refl refl refl refl,
+      inputs-few m g refl refl refl refl refl,
+      locals-few m g refl refl refl refl refl,
+    )
 
 -- ---- the table
 module _ (m : Model) (w : WellFormed m) {s : ℕ} {x : Counts} (es : s ≡ itemStarts (m .timing)) (ex : x ≡ itemCounts m) where
-  pub size-small : (s ≤ 2 * itemMost) × Small x
+  pub size-small : (s ≤ 3 * itemMost) × Small x
   size-small = (rw es (starts-few (m .timing) (w .timing)), rw ex (items-small m w))
 
   pub size-known : {r : TableSize} → r ≡ sizeBy s x → r ≡ sizeOf (tableBytes m)

@@ -50,7 +50,7 @@ fn item_counts(model: &[u32]) -> Counts
 const START_SIZE: usize = 7;
 
 fn size_by(starts: usize, x: Counts) -> TableSize
-    requires { ⌜ (starts ≤ 2 * itemMost) × Small x ⌝ }
+    requires { ⌜ (starts ≤ 3 * itemMost) × Small x ⌝ }
     ensures { λ r. ⌜ r ≡ sizeBy starts x ⌝ }
 {
     let bytes = START_SIZE * starts

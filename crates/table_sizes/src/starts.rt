@@ -4,13 +4,17 @@ use model_format::in_mode;
 use model_words::connection_at;
 use model_words::connections;
 use model_words::initial;
+use model_words::input_at;
+use model_words::inputs;
 use model_words::local_at;
 use model_words::locals;
 use model_words::thread_at;
 use model_words::threads;
 use numbers::Value;
 ghost use mathlib.Core.Path.{_≡_};
+ghost use mathlib.Core.Bool.{not};
 ghost use Prim.Native.Nat.{_≤_};
+ghost use Rattle.numbers.specs.Values.{natural, sameValue};
 ghost use Rattle.model_format.specs.WellFormed.{GoodTiming};
 ghost use Rattle.model_words.specs.Words.{timingIn};
 ghost use Rattle.translation_sizes.specs.Sums.{sumBelow};
@@ -74,16 +78,45 @@ fn connections_starts(model: &[u32]) -> usize
     sum
 }
 
-fn local_starts(model: &[u32], v: usize) -> usize
-    ensures { λ r. ⌜ r ≡ items.localStarts (timingIn (now (model .entry))) v ⌝ }
+// A start value that is not 0.
+fn value_starts(start: Value) -> usize
+    ensures { λ r. ⌜ (r ≡ bit (not (sameValue start (natural 0)))) × (r ≤ 1) ⌝ }
 {
-    let local = local_at(model, v);
-    let start = local.start;
     let zero = Value(0);
     if numbers::same(start, zero) {
         return 0;
     }
     1
+}
+
+// Of an input port, and as many of its buffer.
+fn input_starts(model: &[u32], i: usize) -> usize
+    ensures { λ r. ⌜ r ≡ items.inputStarts (timingIn (now (model .entry))) i ⌝ }
+{
+    let input = input_at(model, i);
+    let own = value_starts(input.start);
+    own + own
+}
+
+fn inputs_starts(model: &[u32]) -> usize
+    requires { ⌜ GoodTiming (timingIn (now model)) ⌝ }
+    ensures { λ r. ⌜ r ≡ sumBelow (timingIn (now (model .entry)) .inputs) (items.inputStarts (timingIn (now (model .entry)))) ⌝ }
+{
+    let n = inputs(model);
+    let mut sum: usize = 0;
+    let mut i: usize = 0;
+    while i < n {
+        sum += input_starts(model, i);
+        i += 1;
+    }
+    sum
+}
+
+fn local_starts(model: &[u32], v: usize) -> usize
+    ensures { λ r. ⌜ r ≡ items.localStarts (timingIn (now (model .entry))) v ⌝ }
+{
+    let local = local_at(model, v);
+    value_starts(local.start)
 }
 
 fn locals_starts(model: &[u32]) -> usize
@@ -107,6 +140,7 @@ pub fn item_starts(model: &[u32]) -> usize
     let head = head_starts(model);
     let threads = threads_starts(model);
     let connections = connections_starts(model);
+    let inputs = inputs_starts(model);
     let locals = locals_starts(model);
-    head + threads + connections + locals
+    head + threads + connections + inputs + locals
 }

@@ -1,5 +1,5 @@
 -- The start records of a well-formed model's table: numbers that rise, values of 32 bits.
-use mathlib.Core.Path.{_≡_, refl}
+use mathlib.Core.Path.{refl}
 use mathlib.Core.Bool.{Bool, not}
 use mathlib.Core.List.{List, [], _∷_}
 use Prim.Native.Nat.{ℕ, _-_, _<_}
@@ -10,11 +10,11 @@ use mir.Syntax.{w32}
 use mir.Val.{SFits}
 use Rattle.numbers.specs.declared.Duration.{Duration}
 use Rattle.numbers.specs.declared.Value.{Value}
-use Rattle.numbers.specs.Lists.{store}
+use Rattle.numbers.specs.Lists.{item, store, foldBelow}
 use Rattle.numbers.specs.Values.{duration, natural, sameValue}
 use Rattle.model_format.specs.declared.Timing.{Timing}
 use Rattle.model_format.specs.declared.Model.{Model}
-use Rattle.model_format.specs.Model.{maxThreads, maxInputs, maxOutputs, maxLocals, threadAt, localAt}
+use Rattle.model_format.specs.Model.{maxThreads, maxInputs, maxOutputs, maxLocals, threadAt, inputAt, localAt}
 use Rattle.model_format.specs.WellFormed.{GoodTiming, WellFormed}
 use Rattle.model_semantics.specs.State.{none, isActive, codeOf, dispatchTime, behaviorOf, missedOf, isLive, inputValue, bufferValue, outputValue, localValue}
 use Rattle.model_semantics.specs.declared.State.{State}
@@ -42,6 +42,15 @@ unfolding shownIn
 shown-all P s j z [] h = z
 shown-all P s j z (b ∷ l) h = one-cond P (inBlock (b .base) (b .count) j) _ _ (λ e. h .0 (j - b .base)) (λ e. shown-all P s j z l (h .1))
 
+-- an array that begins at 0, with a c stored at c for each c below n
+stored-fits : (room n : ℕ) (a : ℕ → Value) → ((c : ℕ) → c < n → FitsValue (a c)) → (i : ℕ) →
+    FitsValue (item room (foldBelow n (λ c l. store room l c (a c)) (replicate room (natural 0))) i (natural 0))
+stored-fits room n a h i =
+    all-item FitsValue room (foldBelow n (λ c l. store room l c (a c)) (replicate room (natural 0))) i (natural 0)
+    (fold-keeps (All FitsValue) n (λ c l. store room l c (a c)) (replicate room (natural 0)) (all-replicate FitsValue room (natural 0) (small-fits 0 (omega arith)))
+    (λ c l k f. all-store FitsValue room l c (a c) f (h c k)))
+    (small-fits 0 (omega arith))
+
 module _ (m : Timing) (g : GoodTiming m) where
   code-small : (t : ℕ) → codeOf (startState m) t < 256
   unfolding codeOf startState
@@ -66,20 +75,15 @@ module _ (m : Timing) (g : GoodTiming m) where
 
   local-fits : (v : ℕ) → FitsValue (localValue (startState m .ports) v)
   unfolding localValue startState
-  local-fits v =
-      all-item FitsValue maxLocals (startState m .ports .local) v (natural 0)
-      (fold-keeps (All FitsValue) (m .locals) (λ v l. store maxLocals l v (localAt m v .start)) (replicate maxLocals (natural 0))
-      (all-replicate FitsValue maxLocals (natural 0) (small-fits 0 (omega arith)))
-      (λ v l h k. all-store FitsValue maxLocals l v (localAt m v .start) k (g .local v h)))
-      (small-fits 0 (omega arith))
+  local-fits v = stored-fits maxLocals (m .locals) (λ c. localAt m c .start) (g .local) v
 
   input-fits : (i : ℕ) → FitsValue (inputValue (startState m .ports) i)
   unfolding inputValue startState
-  input-fits i = blank-item FitsValue maxInputs i (natural 0) (small-fits 0 (omega arith))
+  input-fits i = stored-fits maxInputs (m .inputs) (λ c. inputAt m c .start) (g .start) i
 
   buffer-fits : (i : ℕ) → FitsValue (bufferValue (startState m .ports) i)
   unfolding bufferValue startState
-  buffer-fits i = blank-item FitsValue maxInputs i (natural 0) (small-fits 0 (omega arith))
+  buffer-fits i = stored-fits maxInputs (m .inputs) (λ c. inputAt m c .start) (g .start) i
 
   output-fits : (o : ℕ) → FitsValue (outputValue (startState m .ports) o)
   unfolding outputValue startState

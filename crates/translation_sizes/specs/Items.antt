@@ -6,7 +6,7 @@ use Rattle.numbers.specs.Values.{natural, sameValue}
 use Rattle.model_format.specs.declared.Timing.{Timing}
 use Rattle.model_format.specs.declared.Behavior.{Behavior}
 use Rattle.model_format.specs.declared.Model.{Model}
-use Rattle.model_format.specs.Model.{threadAt, localAt, connectionAt, transitionAt, inMode, immediate, delayed, isKind, sourceThread}
+use Rattle.model_format.specs.Model.{threadAt, inputAt, localAt, connectionAt, transitionAt, inMode, immediate, delayed, isKind, sourceThread}
 use Rattle.translation_sizes.specs.Sums.{sumBelow}
 use Rattle.translation.specs.Shown.{bit}
 use Rattle.translation_sizes.specs.declared.Counts.{Counts}
@@ -90,7 +90,8 @@ leaveOwn m = counts 1 4 4 (3 + m .connections)
 unfoldable pub switchCounts : Timing → ℕ → Counts
 switchCounts m q = requestOwn m and enterOwn m and leaveOwn m
 
--- ---- start records: Pending, Cpu and a Mode that is not 0; of a thread Active and a behaviour state that is not 0; Flags; locals that are not 0
+-- ---- start records: Pending, Cpu and a Mode that is not 0; of a thread Active and a behaviour state that is not 0; Flags; input ports that are
+-- not 0, each with its buffer; locals that are not 0
 unfoldable pub headStarts : Timing → ℕ
 headStarts m = 2 + bit (not (eqb (m .initial) 0))
 
@@ -100,11 +101,16 @@ threadStarts m t = bit (inMode (threadAt m t .modes) (m .initial)) + bit (not (e
 unfoldable pub connectionStarts : Timing → ℕ → ℕ
 connectionStarts m c = bit (inMode (connectionAt m c .modes) (m .initial))
 
+unfoldable pub inputStarts : Timing → ℕ → ℕ
+inputStarts m i = let n = bit (not (sameValue (inputAt m i .start) (natural 0))) in n + n
+
 unfoldable pub localStarts : Timing → ℕ → ℕ
 localStarts m v = bit (not (sameValue (localAt m v .start) (natural 0)))
 
 unfoldable pub itemStarts : Timing → ℕ
-itemStarts m = headStarts m + sumBelow (m .threads) (threadStarts m) + sumBelow (m .connections) (connectionStarts m) + sumBelow (m .locals) (localStarts m)
+itemStarts m =
+    headStarts m + sumBelow (m .threads) (threadStarts m) + sumBelow (m .connections) (connectionStarts m) + sumBelow (m .inputs) (inputStarts m) +
+    sumBelow (m .locals) (localStarts m)
 
 -- ---- all items
 unfoldable pub itemCounts : Model → Counts

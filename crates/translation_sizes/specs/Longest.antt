@@ -9,7 +9,7 @@ use Rattle.numbers.specs.Lists.{foldBelow}
 use Rattle.numbers.specs.Values.{natural, sameValue}
 use Rattle.model_format.specs.declared.Timing.{Timing}
 use Rattle.model_format.specs.declared.Model.{Model}
-use Rattle.model_format.specs.Model.{maxThreads, maxInputs, maxConnections, maxLocals, maxSwitches, maxTransitions, threadAt, localAt, connectionAt, transitionAt, inMode, immediate, delayed, isKind, sourceThread}
+use Rattle.model_format.specs.Model.{maxThreads, maxInputs, maxConnections, maxLocals, maxSwitches, maxTransitions, threadAt, inputAt, localAt, connectionAt, transitionAt, inMode, immediate, delayed, isKind, sourceThread}
 use Rattle.model_format.specs.WellFormed.{GoodTiming, WellFormed}
 use Rattle.table_format.specs.Reading.{longestTable}
 use Rattle.translation.specs.Shown.{bit}
@@ -19,13 +19,13 @@ use Rattle.translation_sizes.specs.Counts.{counts, nothing, countBelow, 
 use Rattle.translation_sizes.specs.Sums.{sumBelow}
 use Rattle.translation_sizes.specs.SumLaws.{sum-within, sum-wider}
 use Rattle.translation_sizes.specs.TableCounts.{table-bytes}
-use Rattle.translation_sizes.specs.Items.{threadCounts, inputCounts, delayedCounts, immediateCounts, connectionCounts, earlierAt, earlierCounts, sentAt, sentCounts, transitionCounts, switchCounts, itemCounts, headStarts, threadStarts, connectionStarts, localStarts, itemStarts}
+use Rattle.translation_sizes.specs.Items.{threadCounts, inputCounts, delayedCounts, immediateCounts, connectionCounts, earlierAt, earlierCounts, sentAt, sentCounts, transitionCounts, switchCounts, itemCounts, headStarts, threadStarts, connectionStarts, inputStarts, localStarts, itemStarts}
 use Rattle.translation_sizes.specs.Starts.{starts-total}
 use Rattle.translation_sizes.specs.Total.{rules-total}
 
--- No made table is longer. A model with the most of everything, all of its transitions those of one thread in one behaviour state, has one as long.
+-- No made table is longer. A model with the most of everything, no start value 0, all of its transitions those of one thread in one behaviour state, has one as long.
 abbrev pub longestMadeTable : ℕ
-longestMadeTable = 171189
+longestMadeTable = 171637
 
 -- ---- many items
 bytes-below : (n : ℕ) (f : ℕ → Counts) (g : ℕ → ℕ) → ((i : ℕ) → i < n → bytesBy (f i) ≤ g i) → bytesBy (countBelow n f) ≤ sumBelow n g
@@ -114,11 +114,15 @@ module _ (m : Timing) where
   unfolding connectionStarts
   connection-few c = bit-few (inMode (connectionAt m c .modes) (m .initial))
 
+  pub input-few : (i : ℕ) → inputStarts m i ≤ 2
+  unfolding inputStarts
+  input-few i = omega (arith, bit-few (not (sameValue (inputAt m i .start) (natural 0))))
+
   pub local-few : (v : ℕ) → localStarts m v ≤ 1
   unfolding localStarts
   local-few v = bit-few (not (sameValue (localAt m v .start) (natural 0)))
 
-  starts-most : GoodTiming m → itemStarts m ≤ 99
+  starts-most : GoodTiming m → itemStarts m ≤ 163
   unfolding itemStarts headStarts
   starts-most g =
       omega (
@@ -126,6 +130,7 @@ module _ (m : Timing) where
         bit-few (not (eqb (m .initial) 0)),
         sum-within (m .threads) maxThreads 2 (threadStarts m) (g .threads) (λ t l. thread-few t),
         sum-within (m .connections) maxConnections 1 (connectionStarts m) (g .connections) (λ c l. connection-few c),
+        sum-within (m .inputs) maxInputs 2 (inputStarts m) (g .inputs) (λ i l. input-few i),
         sum-within (m .locals) maxLocals 1 (localStarts m) (g .locals) (λ v l. local-few v),
       )
 

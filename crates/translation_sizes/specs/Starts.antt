@@ -14,7 +14,7 @@ use Rattle.numbers.specs.ListLaws.{length-store, item-store-same, item-store-ot
 use Rattle.numbers.specs.Values.{duration, natural, sameValue}
 use Rattle.model_format.specs.declared.Timing.{Timing}
 use Rattle.model_format.specs.declared.Model.{Model}
-use Rattle.model_format.specs.Model.{maxThreads, maxInputs, maxOutputs, maxLocals, maxConnections, threadAt, localAt, connectionAt, inMode}
+use Rattle.model_format.specs.Model.{maxThreads, maxInputs, maxOutputs, maxLocals, maxConnections, threadAt, inputAt, localAt, connectionAt, inMode}
 use Rattle.model_format.specs.WellFormed.{GoodTiming}
 use Rattle.model_semantics.specs.declared.State.{State}
 use Rattle.model_semantics.specs.State.{isActive, codeOf, dispatchTime, behaviorOf, missedOf, isLive, inputValue, bufferValue, outputValue, localValue}
@@ -26,7 +26,7 @@ use Rattle.translation_sizes.specs.SumLaws.{length-join, sum-plus}
 use Rattle.translation.specs.Shown.{bit, inBlock, Block, clockNumber, blocksOf, shownIn, standsFor}
 use Rattle.translation.specs.ShownLaws.{in-block, out-block, Avoids, shown-none}
 use Rattle.translation.specs.Translate.{initialOf}
-use Rattle.translation_sizes.specs.Items.{headStarts, threadStarts, connectionStarts, localStarts, itemStarts}
+use Rattle.translation_sizes.specs.Items.{headStarts, threadStarts, connectionStarts, inputStarts, localStarts, itemStarts}
 
 sum-same : (n : ℕ) (f g : ℕ → ℕ) → ((i : ℕ) → i < n → f i ≡ g i) → sumBelow n f ≡ sumBelow n g
 unfolding foldBelow
@@ -157,6 +157,14 @@ module _ (m : Timing) (g : GoodTiming m) where
       bit-started (isLive begins c) ∙
       ap bit (filled-item maxConnections false (λ e. inBoth (connectionAt m e .modes) (m .initial) (m .initial)) (m .connections) c (g .connections) l ∙ and-same (inMode (connectionAt m c .modes) (m .initial)))
 
+  input-started : (i : ℕ) → i < m .inputs → started (inputValue (begins .ports) i) ≡ started (inputAt m i .start)
+  unfolding startState inputValue
+  input-started i l = ap started (filled-item maxInputs (natural 0) (λ c. inputAt m c .start) (m .inputs) i (g .inputs) l)
+
+  buffer-started : (i : ℕ) → i < m .inputs → started (bufferValue (begins .ports) i) ≡ started (inputAt m i .start)
+  unfolding startState bufferValue
+  buffer-started i l = ap started (filled-item maxInputs (natural 0) (λ c. inputAt m c .start) (m .inputs) i (g .inputs) l)
+
   local-started : (v : ℕ) → v < m .locals → started (localValue (begins .ports) v) ≡ localStarts m v
   unfolding startState localValue localStarts
   local-started v l = ap started (filled-item maxLocals (natural 0) (λ c. localAt m c .start) (m .locals) v (g .locals) l)
@@ -170,23 +178,20 @@ module _ (m : Timing) (g : GoodTiming m) where
     ap (λ n. started (natural n)) (blank-item maxThreads 0 t),
   )
 
-  ports-blank : (i : ℕ) → (started (inputValue (begins .ports) i) ≡ 0) × (started (bufferValue (begins .ports) i) ≡ 0) × (started (outputValue (begins .ports) i) ≡ 0)
-  unfolding startState inputValue bufferValue outputValue
-  ports-blank i = (
-    ap started (blank-item maxInputs (natural 0) i),
-    ap started (blank-item maxInputs (natural 0) i),
-    ap started (blank-item maxOutputs (natural 0) i),
-  )
+  output-blank : (o : ℕ) → started (outputValue (begins .ports) o) ≡ 0
+  unfolding startState outputValue
+  output-blank o = ap started (blank-item maxOutputs (natural 0) o)
 
   clock-started : sumBelow clockVars (λ j. started (natural (clockNumber (begins .clock) j))) ≡ headStarts m
   unfolding startState foldBelow headStarts
   clock-started = omega arith
 
   blocks-begun : startedIn begins (blocksOf m) ≡ itemStarts m
-  unfolding startedIn blocksOf itemStarts threadStarts
+  unfolding startedIn blocksOf itemStarts threadStarts inputStarts
   blocks-begun =
       let active : ℕ → ℕ = λ t. bit (inMode (threadAt m t .modes) (m .initial)) in
       let first : ℕ → ℕ = λ t. bit (not (eqb (threadAt m t .first) 0)) in
+      let port : ℕ → ℕ = λ i. started (inputAt m i .start) in
       omega (
         arith,
         clock-started,
@@ -196,11 +201,12 @@ module _ (m : Timing) (g : GoodTiming m) where
         sum-same (m .threads) (λ t. started (natural (behaviorOf begins t))) first behavior-started,
         sum-zero (m .threads) (λ t. started (natural (missedOf begins t))) (λ t l. threads-blank t .2),
         sum-same (m .connections) (λ c. started (natural (bit (isLive begins c)))) (connectionStarts m) live-started,
-        sum-zero (m .inputs) (λ i. started (inputValue (begins .ports) i)) (λ i l. ports-blank i .0),
-        sum-zero (m .inputs) (λ i. started (bufferValue (begins .ports) i)) (λ i l. ports-blank i .1),
-        sum-zero (m .outputs) (λ i. started (outputValue (begins .ports) i)) (λ i l. ports-blank i .2),
+        sum-same (m .inputs) (λ i. started (inputValue (begins .ports) i)) port input-started,
+        sum-same (m .inputs) (λ i. started (bufferValue (begins .ports) i)) port buffer-started,
+        sum-zero (m .outputs) (λ o. started (outputValue (begins .ports) o)) (λ o l. output-blank o),
         sum-same (m .locals) (λ v. started (localValue (begins .ports) v)) (localStarts m) local-started,
         sum-plus (m .threads) active first,
+        sum-plus (m .inputs) port port,
       )
 
 only-length : {A : Type 0} (b : Bool) (a : A) → length (only b a) ≡ bit b

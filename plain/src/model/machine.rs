@@ -56,9 +56,11 @@ pub struct State {
 }
 
 /// Everything starts at 0 but the mode, the two figures that mean none, what
-/// the initial mode makes active, behaviour states and locals.
+/// the initial mode makes active, behaviour states, locals, and input ports with
+/// their buffers.
 pub fn start_state(model: &Model) -> State {
     let initial = model.initial_mode;
+    let port_starts: Vec<Value> = model.input_ports.iter().map(|port| port.start).collect();
     State {
         now: Duration(0),
         mode: initial,
@@ -85,8 +87,8 @@ pub fn start_state(model: &Model) -> State {
             .iter()
             .map(|connection| holds_mode(connection.mode_mask, initial))
             .collect(),
-        input_ports: vec![Value(0); model.input_ports.len()],
-        port_buffers: vec![Value(0); model.input_ports.len()],
+        input_ports: port_starts.clone(),
+        port_buffers: port_starts,
         output_ports: vec![Value(0); model.output_ports.len()],
         locals: model.locals.iter().map(|local| local.start).collect(),
     }

@@ -53,9 +53,17 @@ pub struct Thread {
     pub first_behavior_state: u8,
 }
 
-/// Kinds 03 and 04.
+/// Kinds 03 and 0B.
 #[derive(Clone, Copy, Debug, PartialEq, Eq)]
-pub struct Port {
+pub struct InputPort {
+    pub owner: usize,
+    /// Of the port and of its buffer; 0 unless it is written.
+    pub start: Value,
+}
+
+/// Kind 04.
+#[derive(Clone, Copy, Debug, PartialEq, Eq)]
+pub struct OutputPort {
     pub owner: usize,
 }
 
@@ -136,14 +144,15 @@ pub struct BehaviorTransition {
     pub assignments: Vec<Assignment>,
 }
 
-/// An accepted model. An item's number is its place in the list of its kind.
+/// An accepted model. An item's number is its place in the list of its kind, or
+/// of both kinds where two share a list.
 #[derive(Clone, Debug, Default, PartialEq, Eq)]
 pub struct Model {
     pub mode_count: u8,
     pub initial_mode: u8,
     pub threads: Vec<Thread>,
-    pub input_ports: Vec<Port>,
-    pub output_ports: Vec<Port>,
+    pub input_ports: Vec<InputPort>,
+    pub output_ports: Vec<OutputPort>,
     pub locals: Vec<Local>,
     pub connections: Vec<Connection>,
     pub mode_transitions: Vec<ModeTransition>,

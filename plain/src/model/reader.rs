@@ -1,8 +1,8 @@
 //! Reading a model from bytes.
 
 use super::{
-    holds_mode, Assignment, BehaviorTransition, Connection, Duration, GuardAtom, Local,
-    ModeTransition, Model, Operand, Port, Target, Thread, Timing, Value,
+    holds_mode, Assignment, BehaviorTransition, Connection, Duration, GuardAtom, InputPort, Local,
+    ModeTransition, Model, Operand, OutputPort, Target, Thread, Timing, Value,
 };
 use crate::bytes::{extent, i32_at, operand_at, u32_at, u8_at, Extent};
 use crate::refusal::{Refusal, CUT, HYPERPERIOD, ORDER, OWNER, RANGE, TOO_MANY, TWICE};
@@ -18,6 +18,8 @@ const MODE_TRANSITION: u8 = 0x07;
 const BEHAVIOR_TRANSITION: u8 = 0x08;
 const GUARD_ATOM: u8 = 0x09;
 const ASSIGNMENT: u8 = 0x0A;
+/// An input port with a start of its own.
+const STARTED_INPUT_PORT: u8 = 0x0B;
 
 /// The tag of a local, as an operand, a left side or a target.
 const TAG_LOCAL: u8 = 2;
@@ -33,7 +35,7 @@ fn body_length(kind: u8) -> Option<usize> {
         HEAD => Some(2),
         THREAD => Some(19),
         INPUT_PORT | OUTPUT_PORT => Some(1),
-        LOCAL => Some(5),
+        LOCAL | STARTED_INPUT_PORT => Some(5),
         CONNECTION => Some(4),
         MODE_TRANSITION => Some(2),
         BEHAVIOR_TRANSITION => Some(3),
@@ -106,8 +108,8 @@ fn cause(model: &Model, previous: Option<u8>, kind: u8, body: &[u8]) -> Option<u
     }
 }
 
-/// One head, first; kinds up to 08 never fall; atoms and assignments stand
-/// behind a behaviour transition, the atoms before the assignments.
+/// One head, first; places up to that of 08 never fall; atoms and assignments
+/// stand behind a behaviour transition, the atoms before the assignments.
 fn in_order(previous: Option<u8>, kind: u8) -> bool {
     match (previous, kind) {
         (None, _) => kind == HEAD,
@@ -117,7 +119,16 @@ fn in_order(previous: Option<u8>, kind: u8) -> bool {
             matches!(previous, BEHAVIOR_TRANSITION | GUARD_ATOM | ASSIGNMENT)
         }
         (Some(GUARD_ATOM | ASSIGNMENT), _) => kind == BEHAVIOR_TRANSITION,
-        (Some(previous), _) => kind >= previous,
+        (Some(previous), _) => place(kind) >= place(previous),
+    }
+}
+
+/// Where a kind stands: in the order of the kinds, but that input ports with and
+/// without a written start stand in one place.
+fn place(kind: u8) -> u8 {
+    match kind {
+        STARTED_INPUT_PORT => INPUT_PORT,
+        _ => kind,
     }
 }
 
@@ -126,7 +137,7 @@ fn one_too_many(model: &Model, kind: u8) -> bool {
     let last = model.behavior_transitions.last();
     match kind {
         THREAD => model.threads.len() == 16,
-        INPUT_PORT => model.input_ports.len() == 32,
+        INPUT_PORT | STARTED_INPUT_PORT => model.input_ports.len() == 32,
         OUTPUT_PORT => model.output_ports.len() == 32,
         LOCAL => model.locals.len() == 32,
         CONNECTION => model.connections.len() == 32,
@@ -143,7 +154,9 @@ fn in_range(model: &Model, kind: u8, body: &[u8]) -> bool {
     match kind {
         HEAD => head_in_range(body),
         THREAD => thread_in_range(model, body),
-        INPUT_PORT | OUTPUT_PORT | LOCAL => names_thread(model, u8_at(body, 0)),
+        INPUT_PORT | STARTED_INPUT_PORT | OUTPUT_PORT | LOCAL => {
+            names_thread(model, u8_at(body, 0))
+        }
         CONNECTION => connection_in_range(model, body),
         MODE_TRANSITION => names_mode(model, u8_at(body, 0)) && names_mode(model, u8_at(body, 1)),
         BEHAVIOR_TRANSITION => {
@@ -357,10 +370,9 @@ fn add(model: &mut Model, kind: u8, body: &[u8]) {
             model.initial_mode = u8_at(body, 1);
         }
         THREAD => model.threads.push(thread(body)),
-        INPUT_PORT => model.input_ports.push(Port {
-            owner: usize::from(u8_at(body, 0)),
-        }),
-        OUTPUT_PORT => model.output_ports.push(Port {
+        INPUT_PORT => model.input_ports.push(input_port(body, 0)),
+        STARTED_INPUT_PORT => model.input_ports.push(input_port(body, i32_at(body, 1))),
+        OUTPUT_PORT => model.output_ports.push(OutputPort {
             owner: usize::from(u8_at(body, 0)),
         }),
         LOCAL => model.locals.push(local(body)),
@@ -394,6 +406,13 @@ fn thread(body: &[u8]) -> Thread {
         mode_mask: u8_at(body, 16),
         critical: u8_at(body, 17) == 1,
         first_behavior_state: u8_at(body, 18),
+    }
+}
+
+fn input_port(body: &[u8], start: i32) -> InputPort {
+    InputPort {
+        owner: usize::from(u8_at(body, 0)),
+        start: Value(start),
     }
 }
 

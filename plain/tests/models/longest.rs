@@ -18,7 +18,7 @@ pub fn longest_model() -> Vec<u8> {
     [
         &[0x01, 8, 1][..],
         &thread.concat().repeat(16),
-        &[0x03, 0].repeat(32),
+        &[0x0B, 0, 7, 0, 0, 0].repeat(32),
         &[0x04, 15].repeat(32),
         &[0x05, 15, 7, 0, 0, 0].repeat(32),
         &connections,

@@ -70,7 +70,9 @@ fn random_items(random: &mut Random) -> Draft {
             .collect()
     };
     let (input_owners, output_owners, local_owners) = (owners(6), owners(5), owners(4));
-    bytes.extend(input_owners.iter().flat_map(|&owner| [0x03, owner as u8]));
+    for &owner in &input_owners {
+        random_input_port(random, owner, &mut bytes);
+    }
     bytes.extend(output_owners.iter().flat_map(|&owner| [0x04, owner as u8]));
     for &owner in &local_owners {
         bytes.extend([0x05, owner as u8]);
@@ -83,6 +85,16 @@ fn random_items(random: &mut Random) -> Draft {
         output_owners,
         local_owners,
         bytes,
+    }
+}
+
+/// With or without a written start.
+fn random_input_port(random: &mut Random, owner: usize, bytes: &mut Vec<u8>) {
+    if random.chance(50) {
+        bytes.extend([0x03, owner as u8]);
+    } else {
+        bytes.extend([0x0B, owner as u8]);
+        bytes.extend(random_value(random).to_le_bytes());
     }
 }
 
@@ -194,7 +206,9 @@ fn random_operand(random: &mut Random, readable: &[(u8, u8)], bytes: &mut Vec<u8
 /// Changes, drops or adds a few bytes.
 pub fn damage(random: &mut Random, bytes: &mut Vec<u8>) {
     for _ in 0..random.within(1, 2) {
-        let byte = random.one_of(&[0, 1, 1, 2, 2, 3, 3, 4, 5, 6, 7, 8, 9, 10, 16, 32, 36, 255]);
+        let byte = random.one_of(&[
+            0, 1, 1, 2, 2, 3, 3, 4, 5, 6, 7, 8, 9, 10, 11, 16, 32, 36, 255,
+        ]);
         let at = random.below(bytes.len() + 1);
         match random.below(12) {
             0 => bytes.insert(at, byte),

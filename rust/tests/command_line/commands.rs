@@ -187,7 +187,7 @@ fn room_for_the_table() {
         "\
 refused 8 {length} {length} {model}
   cause: the output is shorter than the table
-  what to do: give more room: 'futonkestrel size MODEL' tells how much, at most 171,189 bytes
+  what to do: give more room: 'futonkestrel size MODEL' tells how much, at most 171,637 bytes
 "
     );
     assert_eq!(done.refused(), wanted);
@@ -212,7 +212,7 @@ fn size() {
     let folder = Folder::new("size");
     let table = folder.path("table.bin");
     for (name, bytes, records) in [
-        ("lesson", 5235, "rules 55 clauses 166 atoms 183 updates 162"),
+        ("lesson", 5249, "rules 55 clauses 166 atoms 183 updates 162"),
         ("m", 887, "rules 11 clauses 32 atoms 32 updates 25"),
     ] {
         let model = example(&format!("{name}/model.bin"));
@@ -260,7 +260,7 @@ fn compare() {
     let done = run(&["compare", &model, &table]);
     let wanted = format!(
         "\
-{table} is not the table of {model}: they part at byte 484, in record 64
+{table} is not the table of {model}: they part at byte 498, in record 66
   behind         rule 8 DISPATCH thread 0
   of the model   Now mod 10 = 0
   in the table   Now mod 11 = 0
@@ -338,7 +338,7 @@ thread 0 period 10 deadline 10 min 1 max 3 modes 0,1 critical
 thread 1 period 10 deadline 10 min 1 max 4 modes 0,1 critical
 thread 2 period 20 deadline 20 min 2 max 6 modes 0,1
 thread 3 period 20 deadline 15 min 1 max 5 modes 0
-input 0 thread 1
+input 0 thread 1 start -1
 input 1 thread 2
 input 2 thread 3
 output 0 thread 0
@@ -393,6 +393,7 @@ start Cpu := none
 start Active(0) := 1
 ";
     assert!(text.starts_with(start), "{text}");
+    assert!(text.contains("\nstart Input(0) := -1\n"), "{text}");
     let rule = "
 
 rule 13 START thread 1 length 1..4

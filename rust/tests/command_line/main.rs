@@ -10,6 +10,7 @@ mod promela;
 mod random;
 mod refusals;
 mod round_trips;
+mod start_values;
 mod timeline;
 mod tools;
 mod vectors;

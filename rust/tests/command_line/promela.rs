@@ -257,7 +257,12 @@ pub fn small_model(random: &mut Random) -> Vec<u8> {
     }
     let thread = |random: &mut Random| random.below(threads.into()) as u8;
     let [receiver, sender] = [thread(random), thread(random)];
-    model.extend([3, receiver, 4, sender]);
+    // The port of a model with two modes has a start value, -2.
+    match modes {
+        1 => model.extend([0x03, receiver]),
+        _ => model.extend([0x0B, receiver, 0xFE, 0xFF, 0xFF, 0xFF]),
+    }
+    model.extend([4, sender]);
     model.extend([5, sender, random.below(3) as u8, 0, 0, 0]);
     model.extend([6, random.below(2) as u8, 0, 0, (1 << modes) - 1]);
     if modes == 2 {

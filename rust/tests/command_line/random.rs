@@ -17,6 +17,7 @@ pub const MODEL: &[(u8, usize)] = &[
     (0x08, 3),
     (0x09, 8),
     (0x0A, 13),
+    (0x0B, 5),
 ];
 pub const TABLE: &[(u8, usize)] = &[(0x20, 6), (0x21, 10), (0x22, 0), (0x23, 8), (0x24, 16)];
 pub const SCRIPT: &[(u8, usize)] = &[

@@ -207,7 +207,7 @@ fn other_faults_of_models() {
     let many = check(&[&[1, 1, 0][..], &model[3..].repeat(17)].concat());
     assert!(many.starts_with("refused 3 323 343 -\n"), "{many}");
     assert!(
-        many.contains("at fault: there are at most 16 of these in a model\n"),
+        many.contains("at fault: there are at most 16 threads in a model\n"),
         "{many}"
     );
     let script = check(&bytes_of(&example("lesson/script.bin")));
@@ -459,6 +459,7 @@ fn many_rules_at_once() {
 fn text_that_is_none() {
     let cases = [
         ("modle\n", "line 1, word 1 'modle': expected 'model', 'table' or 'script' first, or rows of hexadecimal"),
+        ("model\nport 0 thread 0\n", "line 2, word 1 'port': expected a record of a model: head, thread, input, output, local, connection, transition, behaviour, if, and, set"),
         ("model\nhead modes 300 initial 0\n", "line 2, word 3 '300': expected a number from 0 to 255"),
         ("model\n\n# remark\nhead modes 1\n", "line 4, at its end: expected 'initial'"),
         ("model\nhead modes 1 initial 0 or so\n", "line 2, word 6 'or': expected the end of the line"),

@@ -31,6 +31,8 @@ pub const ACTIVE: usize = 16;
 pub const STATE: usize = 32;
 pub const DUE: usize = 64;
 pub const END: usize = 80;
+pub const INPUT: usize = 160;
+pub const BUFFER: usize = 192;
 
 /// What stands in an output before a call, to see what the call touched.
 pub const BYTE: u8 = 0xA5;

@@ -30,7 +30,7 @@ same-length : tie.Need-same-length
 same-length c = search needs
 
 returns-2 : tie.Need-returns-2
-returns-2 c = local-put _ _ _ _ _ _ (c .before .before .before .before .before .before .before .before .before .pre) (c .before .before .before .before .before .before .before .if1 .left) refl (c .before .before .put-numbers .ensures) (search needs) (c .before .before .before .before .before .bits-of .ensures .0) (c .before .before .before .before .before .bits-of .ensures .1)
+returns-2 c = local-put _ _ _ _ _ _ (c .before .before .before .before .before .before .before .before .before .pre) (c .before .before .put-numbers .ensures) (search needs) (c .before .before .before .before .before .bits-of .ensures .0) (c .before .before .before .before .before .bits-of .ensures .1) (c .before .before .before .before .before .before .before .if1 .left) refl
 
 pub put-local-spec : {M : Type 1} → statement M
 put-local-spec = tie.close (tie.spec returns cast-t6 bits-of-requires mul-put-numbers add-put-numbers slice-aggregate-put-numbers put-numbers-requires same-length returns-2)

@@ -80,11 +80,14 @@ same-length-3 c = search needs
 returns-3 : tie.Need-returns-3 Inv-loop μ-loop
 returns-3 c = whole-refused _ _ _ _ _ _ (c .before .before .before .before .before .before .before .before .before .before .before .before .loop-test .taken) refl (c .before .before .before .before .before .before .before .before .before .before .record-size .ensures) _ refl (c .before .before .before .before .before .before .before .before .before .if1 .left) (c .before .before .before .before .before .before .before .before .if2 .left) _ _ (front-took (c .before .before .before .before .before .before .before .before .before .before .before .before .before .loop .model) (c .before .before .before .before .before .before .before .before .before .before .before .before .before .loop .inv .1) _ _ _ _ (c .before .before .before .before .before .take-whole .ensures)) _ (sym (c .before .before .is-none .ensures) ∙ not-true _ (c .before .if3 .taken)) (c .refused3 .ensures) ∙ c .before .before .before .before .before .before .before .before .before .before .before .before .before .loop .inv .0
 
+rank-of-requires : tie.Need-rank-of-requires Inv-loop μ-loop
+rank-of-requires c κs = search needs
+
 loop-less : tie.Need-loop-less Inv-loop μ-loop
 loop-less c = omega arith
 
 loop-again : tie.Need-loop-again Inv-loop μ-loop
-loop-again c = (whole-on _ _ _ _ _ _ (c .before .before .before .before .before .before .before .before .before .before .before .loop-test .taken) refl (c .before .before .before .before .before .before .before .before .before .record-size .ensures) _ refl (c .before .before .before .before .before .before .before .before .if1 .left) (c .before .before .before .before .before .before .before .if2 .left) _ _ (front-took (c .before .before .before .before .before .before .before .before .before .before .before .before .loop .model) (c .before .before .before .before .before .before .before .before .before .before .before .before .loop .inv .1) _ _ _ _ (c .before .before .before .before .take-whole .ensures)) (sym (c .before .is-none .ensures) ∙ not-false _ (c .if3 .left)) ∙ c .before .before .before .before .before .before .before .before .before .before .before .before .loop .inv .0, search needs, search needs)
+loop-again c = (whole-on _ _ _ _ _ _ (c .before .before .before .before .before .before .before .before .before .before .before .before .loop-test .taken) refl (c .before .before .before .before .before .before .before .before .before .before .record-size .ensures) _ refl (c .before .before .before .before .before .before .before .before .before .if1 .left) (c .before .before .before .before .before .before .before .before .if2 .left) _ _ (front-took (c .before .before .before .before .before .before .before .before .before .before .before .before .before .loop .model) (c .before .before .before .before .before .before .before .before .before .before .before .before .before .loop .inv .1) _ _ _ _ (c .before .before .before .before .before .take-whole .ensures)) _ (c .rank-of .ensures) (sym (c .before .before .is-none .ensures) ∙ not-false _ (c .before .if3 .left)) ∙ c .before .before .before .before .before .before .before .before .before .before .before .before .before .loop .inv .0, search needs, search needs)
 
 refused-requires-4 : tie.Need-refused-requires-4 Inv-loop μ-loop
 refused-requires-4 c κs = search needs
@@ -131,6 +134,7 @@ read-records-spec =
     refused-requires-3
     same-length-3
     returns-3
+    rank-of-requires
     loop-less
     loop-again
     refused-requires-4

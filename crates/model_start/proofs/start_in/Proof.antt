@@ -27,14 +27,14 @@ set-behaviors-requires c κs = search needs
 set-live-requires : tie.Need-set-live-requires
 set-live-requires c κs = search needs
 
-set-locals-requires : tie.Need-set-locals-requires
-set-locals-requires c κs = search needs
+set-values-requires : tie.Need-set-values-requires
+set-values-requires c κs = search needs
 
 same-length : tie.Need-same-length
 same-length c = search needs
 
 returns : tie.Need-returns
-returns c = started _ _ _ _ _ _ _ _ _ _ (c .before .before .before .before .before .before .before .before .before .before .before .before .before .before .before .before .before .before .before .before .before .before .before .before .before .before .before .before .before .before .before .clear .ensures) (search needs) (c .before .before .before .before .before .before .before .before .before .before .before .before .before .before .before .before .before .before .before .before .before .before .before .before .before .before .before .before .initial .ensures) (c .before .before .before .before .before .before .before .before .before .before .before .before .before .before .before .before .before .before .before .before .before .before .before .before .before .before .put-mode .ensures) (c .before .before .before .before .before .before .before .before .before .before .before .before .before .before .before .before .before .before .before .before .before .before .put-phase .ensures) (c .before .before .before .before .before .before .before .before .before .before .before .before .before .before .before .before .before .before .put-cpu .ensures _ _) (c .before .before .before .before .before .before .before .before .before .before .before .before .before .before .set-active .ensures) (c .before .before .before .before .before .before .before .before .before .before .set-behaviors .ensures) (c .before .before .before .before .before .before .set-live .ensures) (c .before .before .set-locals .ensures)
+returns c = started _ _ _ _ _ _ _ _ _ _ (c .before .before .before .before .before .before .before .before .before .before .before .before .before .before .before .before .before .before .before .before .before .before .before .before .before .before .before .before .before .before .before .clear .ensures) (search needs) (c .before .before .before .before .before .before .before .before .before .before .before .before .before .before .before .before .before .before .before .before .before .before .before .before .before .before .before .before .initial .ensures) (c .before .before .before .before .before .before .before .before .before .before .before .before .before .before .before .before .before .before .before .before .before .before .before .before .before .before .put-mode .ensures) (c .before .before .before .before .before .before .before .before .before .before .before .before .before .before .before .before .before .before .before .before .before .before .put-phase .ensures) (c .before .before .before .before .before .before .before .before .before .before .before .before .before .before .before .before .before .before .put-cpu .ensures _ _) (c .before .before .before .before .before .before .before .before .before .before .before .before .before .before .set-active .ensures) (c .before .before .before .before .before .before .before .before .before .before .set-behaviors .ensures) (c .before .before .before .before .before .before .set-live .ensures) (c .before .before .set-values .ensures)
 
 pub start-in-spec : {M : Type 1} → statement M
 start-in-spec =
@@ -48,6 +48,6 @@ start-in-spec =
     set-active-requires
     set-behaviors-requires
     set-live-requires
-    set-locals-requires
+    set-values-requires
     same-length
     returns)

@@ -158,8 +158,9 @@ impl Looking<'_> {
     }
 
     fn too_many(&self, kind: &Kind, limit: usize) -> String {
+        let own = kind.item.word();
         let outer = kind.within.map_or(self.format.name, Item::word);
-        format!("there are at most {limit} of these in a {outer}")
+        format!("there are at most {limit} {own}s in a {outer}")
     }
 
     /// Each field that is not as it must be.

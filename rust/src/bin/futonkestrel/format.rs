@@ -136,7 +136,8 @@ pub enum Layout {
 #[derive(Debug)]
 pub struct Kind {
     pub byte: u8,
-    /// The first word of a plain line.
+    /// The first word of a plain line. Of two kinds that share it the longer one has
+    /// the other's fields and more behind them.
     pub word: &'static str,
     pub item: Item,
     /// The item that it belongs to; it is numbered anew for each of those.
@@ -288,7 +289,7 @@ const THREAD: &[Field] = &[
     field("critical", 1, Mark, Within(0, 1)),
     field("first state", 1, UnlessZero, Within(0, 7)),
 ];
-const LOCAL: &[Field] = &[OWNER, field("start", 4, Signed, Free)];
+const STARTED: &[Field] = &[OWNER, field("start", 4, Signed, Free)];
 const CONNECTION: &[Field] = &[
     field("type", 1, Choice(&["immediate", "delayed"]), Within(0, 1)),
     field("output", 1, Number, Names(Item::Output)),
@@ -321,14 +322,18 @@ const ASSIGNMENT: &[Field] = &[
     SECOND,
 ];
 
+/// Both kinds of input port count to this.
+const INPUTS: usize = 32;
+
 pub static MODEL: Format = Format {
     name: "model",
     kinds: &[
         item(0x01, Item::Head, "head", 1, HEAD),
         item(0x02, Item::Thread, "thread", 16, THREAD),
-        item(0x03, Item::Input, "input", 32, &[OWNER]),
+        item(0x03, Item::Input, "input", INPUTS, &[OWNER]),
+        item(0x0B, Item::Input, "input", INPUTS, STARTED),
         item(0x04, Item::Output, "output", 32, &[OWNER]),
-        item(0x05, Item::Local, "local", 32, LOCAL),
+        item(0x05, Item::Local, "local", 32, STARTED),
         item(0x06, Item::Connection, "connection", 32, CONNECTION),
         item(0x07, Item::Transition, "transition", 16, TRANSITION),
         item(0x08, Item::Behaviour, "behaviour", 64, BEHAVIOUR),

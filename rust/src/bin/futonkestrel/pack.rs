@@ -57,13 +57,12 @@ impl Packer {
         if kind.layout == Layout::Clause {
             self.clause(kind, line, bytes)?;
         } else {
-            let number = self.numbers.next(kind);
-            record(kind, &values(kind, number, line)?, bytes);
+            self.single(kind, line, bytes)?;
         }
         line.end()
     }
 
-    /// The kind whose line begins so; the word is taken.
+    /// The kind whose line begins so, the shorter of two; the word is taken.
     fn kind(&self, line: &mut Line) -> Option<&'static Kind> {
         let kind = self
             .format
@@ -75,8 +74,37 @@ impl Packer {
     }
 
     fn first_words(&self) -> String {
-        let words: Vec<&str> = self.format.kinds.iter().flat_map(first_words).collect();
+        let mut words: Vec<&str> = self.format.kinds.iter().flat_map(first_words).collect();
+        // Kinds that begin alike stand side by side.
+        words.dedup();
         words.join(", ")
+    }
+
+    /// A record on a line of its own. Words behind its fields are those of the longer
+    /// kind that begins alike, where there is one.
+    fn single(
+        &mut self,
+        kind: &'static Kind,
+        line: &mut Line,
+        bytes: &mut Vec<u8>,
+    ) -> Result<(), Fault> {
+        let number = self.numbers.next(kind);
+        let mut values = values(kind, number, line)?;
+        let longer = self.longer(kind).filter(|_| line.peek().is_some());
+        if let Some(longer) = longer {
+            for field in &longer.fields[values.len()..] {
+                values.push(plain_field(field, line)?);
+            }
+        }
+        record(longer.unwrap_or(kind), &values, bytes);
+        Ok(())
+    }
+
+    /// The kind that has the fields of this one and more.
+    fn longer(&self, kind: &Kind) -> Option<&'static Kind> {
+        self.format.kinds.iter().find(|other| {
+            first_words(other) == first_words(kind) && other.fields.len() > kind.fields.len()
+        })
     }
 
     /// A clause and its atoms: `false`, one atom, or several in parentheses.

@@ -32,39 +32,49 @@ thread-of-requires c κs = search needs
 take-thread-requires : tie.Need-take-thread-requires
 take-thread-requires c κs = search needs
 
-slice-aggregate-byte-at : tie.Need-slice-aggregate-byte-at
+slice-aggregate-input-of : tie.Need-slice-aggregate-input-of
 unfolding records.recordSize
-slice-aggregate-byte-at c = cut-length (c .before .before .before .before .before .args .part .now) (c .before .before .before .before .before .args .kind) _ (c .before .before .before .before .before .pre .1 .0) (sized (c .before .before .before .before .before .args .kind) _ 2 (c .before .before .match .keys3) refl)
+slice-aggregate-input-of c = cut-length (c .before .before .before .before .before .args .part .now) (c .before .before .before .before .before .args .kind) _ (c .before .before .before .before .before .pre .1 .0) (sized (c .before .before .before .before .before .args .kind) _ 2 (c .before .before .match .keys3) refl)
 
-byte-at-requires : tie.Need-byte-at-requires
-byte-at-requires c κs = search needs
+input-of-requires : tie.Need-input-of-requires
+input-of-requires c κs = search needs
 
 take-input-requires : tie.Need-take-input-requires
 take-input-requires c κs = search needs
 
-slice-aggregate-byte-at-2 : tie.Need-slice-aggregate-byte-at-2
+slice-aggregate-owned-of : tie.Need-slice-aggregate-owned-of
 unfolding records.recordSize
-slice-aggregate-byte-at-2 c = cut-length (c .before .before .before .before .before .args .part .now) (c .before .before .before .before .before .args .kind) _ (c .before .before .before .before .before .pre .1 .0) (sized (c .before .before .before .before .before .args .kind) _ 2 (c .before .before .match .keys4) refl)
+slice-aggregate-owned-of c = cut-length (c .before .before .before .before .before .args .part .now) (c .before .before .before .before .before .args .kind) _ (c .before .before .before .before .before .pre .1 .0) (sized (c .before .before .before .before .before .args .kind) _ 6 (c .before .before .match .keys4) refl)
 
-byte-at-requires-2 : tie.Need-byte-at-requires-2
-byte-at-requires-2 c κs = search needs
+owned-of-requires : tie.Need-owned-of-requires
+owned-of-requires c κs = search needs
+
+take-input-requires-2 : tie.Need-take-input-requires-2
+take-input-requires-2 c κs = search needs
+
+slice-aggregate-byte-at : tie.Need-slice-aggregate-byte-at
+unfolding records.recordSize
+slice-aggregate-byte-at c = cut-length (c .before .before .before .before .before .args .part .now) (c .before .before .before .before .before .args .kind) _ (c .before .before .before .before .before .pre .1 .0) (sized (c .before .before .before .before .before .args .kind) _ 2 (c .before .before .match .keys5) refl)
+
+byte-at-requires : tie.Need-byte-at-requires
+byte-at-requires c κs = search needs
 
 take-output-requires : tie.Need-take-output-requires
 take-output-requires c κs = search needs
 
-slice-aggregate-local-of : tie.Need-slice-aggregate-local-of
+slice-aggregate-owned-of-2 : tie.Need-slice-aggregate-owned-of-2
 unfolding records.recordSize
-slice-aggregate-local-of c = cut-length (c .before .before .before .before .before .args .part .now) (c .before .before .before .before .before .args .kind) _ (c .before .before .before .before .before .pre .1 .0) (sized (c .before .before .before .before .before .args .kind) _ 6 (c .before .before .match .keys5) refl)
+slice-aggregate-owned-of-2 c = cut-length (c .before .before .before .before .before .args .part .now) (c .before .before .before .before .before .args .kind) _ (c .before .before .before .before .before .pre .1 .0) (sized (c .before .before .before .before .before .args .kind) _ 6 (c .before .before .match .keys6) refl)
 
-local-of-requires : tie.Need-local-of-requires
-local-of-requires c κs = search needs
+owned-of-requires-2 : tie.Need-owned-of-requires-2
+owned-of-requires-2 c κs = search needs
 
 take-local-requires : tie.Need-take-local-requires
 take-local-requires c κs = search needs
 
 slice-aggregate-connection-of : tie.Need-slice-aggregate-connection-of
 unfolding records.recordSize
-slice-aggregate-connection-of c = cut-length (c .before .before .before .before .before .args .part .now) (c .before .before .before .before .before .args .kind) _ (c .before .before .before .before .before .pre .1 .0) (sized (c .before .before .before .before .before .args .kind) _ 5 (c .before .before .match .keys6) refl)
+slice-aggregate-connection-of c = cut-length (c .before .before .before .before .before .args .part .now) (c .before .before .before .before .before .args .kind) _ (c .before .before .before .before .before .pre .1 .0) (sized (c .before .before .before .before .before .args .kind) _ 5 (c .before .before .match .keys7) refl)
 
 connection-of-requires : tie.Need-connection-of-requires
 connection-of-requires c κs = search needs
@@ -74,7 +84,7 @@ take-connection-requires c κs = search needs
 
 slice-aggregate-switch-of : tie.Need-slice-aggregate-switch-of
 unfolding records.recordSize
-slice-aggregate-switch-of c = cut-length (c .before .before .before .before .before .args .part .now) (c .before .before .before .before .before .args .kind) _ (c .before .before .before .before .before .pre .1 .0) (sized (c .before .before .before .before .before .args .kind) _ 3 (c .before .before .match .keys7) refl)
+slice-aggregate-switch-of c = cut-length (c .before .before .before .before .before .args .part .now) (c .before .before .before .before .before .args .kind) _ (c .before .before .before .before .before .pre .1 .0) (sized (c .before .before .before .before .before .args .kind) _ 3 (c .before .before .match .keys8) refl)
 
 switch-of-requires : tie.Need-switch-of-requires
 switch-of-requires c κs = search needs
@@ -84,7 +94,7 @@ take-switch-requires c κs = search needs
 
 slice-aggregate-transition-of : tie.Need-slice-aggregate-transition-of
 unfolding records.recordSize
-slice-aggregate-transition-of c = cut-length (c .before .before .before .before .before .args .part .now) (c .before .before .before .before .before .args .kind) _ (c .before .before .before .before .before .pre .1 .0) (sized (c .before .before .before .before .before .args .kind) _ 4 (c .before .before .match .keys8) refl)
+slice-aggregate-transition-of c = cut-length (c .before .before .before .before .before .args .part .now) (c .before .before .before .before .before .args .kind) _ (c .before .before .before .before .before .pre .1 .0) (sized (c .before .before .before .before .before .args .kind) _ 4 (c .before .before .match .keys9) refl)
 
 transition-of-requires : tie.Need-transition-of-requires
 transition-of-requires c κs = search needs
@@ -94,7 +104,7 @@ take-transition-requires c κs = search needs
 
 slice-aggregate-atom-of : tie.Need-slice-aggregate-atom-of
 unfolding records.recordSize
-slice-aggregate-atom-of c = cut-length (c .before .before .before .before .before .args .part .now) (c .before .before .before .before .before .args .kind) _ (c .before .before .before .before .before .pre .1 .0) (sized (c .before .before .before .before .before .args .kind) _ 9 (c .before .before .match .keys9) refl)
+slice-aggregate-atom-of c = cut-length (c .before .before .before .before .before .args .part .now) (c .before .before .before .before .before .args .kind) _ (c .before .before .before .before .before .pre .1 .0) (sized (c .before .before .before .before .before .args .kind) _ 9 (c .before .before .match .keys10) refl)
 
 atom-of-requires : tie.Need-atom-of-requires
 atom-of-requires c κs = search needs
@@ -104,7 +114,7 @@ take-atom-requires c κs = search needs
 
 slice-aggregate-assignment-of : tie.Need-slice-aggregate-assignment-of
 unfolding records.recordSize
-slice-aggregate-assignment-of c = cut-length (c .before .before .before .before .before .args .part .now) (c .before .before .before .before .before .args .kind) _ (c .before .before .before .before .before .pre .1 .0) (let r = c .before .before .match .rest in sized-last (c .before .before .before .before .before .args .kind) (r .0 .0 .0 .0 .0 .0 .0 .0 .1) (r .0 .0 .0 .0 .0 .0 .0 .1) (r .0 .0 .0 .0 .0 .0 .1) (r .0 .0 .0 .0 .0 .1) (r .0 .0 .0 .0 .1) (r .0 .0 .0 .1) (r .0 .0 .1) (r .0 .1) (r .1) (rw (← c .before .before .before .before .before .pre .1 .0) (c .before .before .before .before .before .pre .1 .1)))
+slice-aggregate-assignment-of c = cut-length (c .before .before .before .before .before .args .part .now) (c .before .before .before .before .before .args .kind) _ (c .before .before .before .before .before .pre .1 .0) (let r = c .before .before .match .rest in sized-last (c .before .before .before .before .before .args .kind) (r .0 .0 .0 .0 .0 .0 .0 .0 .0 .1) (r .0 .0 .0 .0 .0 .0 .0 .0 .1) (r .0 .0 .0 .0 .0 .0 .0 .1) (r .0 .0 .0 .0 .0 .0 .1) (r .0 .0 .0 .0 .0 .1) (r .0 .0 .0 .0 .1) (r .0 .0 .0 .1) (r .0 .0 .1) (r .0 .1) (r .1) (rw (← c .before .before .before .before .before .pre .1 .0) (c .before .before .before .before .before .pre .1 .1)))
 
 assignment-of-requires : tie.Need-assignment-of-requires
 assignment-of-requires c κs = search needs
@@ -131,56 +141,63 @@ same-length-3 c = search needs
 
 returns-3 : tie.Need-returns-3
 unfolding records.recordSize
-returns-3 c = took-as _ _ _ _ _ _ (c .before .before .take-input .ensures) (rw (c .before .before .before .before .before .before .match .keys3) (ap variants.InputRecord (c .before .before .before .byte-at .ensures ∙ ap (λ (y : List ℕ). getD y 1 0) (cut-whole (c .before .before .before .before .before .before .before .before .before .args .part .now) (c .before .before .before .before .before .before .before .before .before .args .kind) _ (c .before .before .before .before .before .before .before .before .before .pre .1 .0) (sized (c .before .before .before .before .before .before .before .before .before .args .kind) _ 2 (c .before .before .before .before .before .before .match .keys3) refl)))))
+returns-3 c = took-as _ _ _ _ _ _ (c .before .before .take-input .ensures) (rw (c .before .before .before .before .before .before .match .keys3) (ap variants.InputRecord (c .before .before .before .input-of .ensures ∙ ap format.inputOf (cut-whole (c .before .before .before .before .before .before .before .before .before .args .part .now) (c .before .before .before .before .before .before .before .before .before .args .kind) _ (c .before .before .before .before .before .before .before .before .before .pre .1 .0) (sized (c .before .before .before .before .before .before .before .before .before .args .kind) _ 2 (c .before .before .before .before .before .before .match .keys3) refl)))))
 
 same-length-4 : tie.Need-same-length-4
 same-length-4 c = search needs
 
 returns-4 : tie.Need-returns-4
 unfolding records.recordSize
-returns-4 c = took-as _ _ _ _ _ _ (c .before .before .take-output .ensures) (rw (c .before .before .before .before .before .before .match .keys4) (ap variants.OutputRecord (c .before .before .before .byte-at2 .ensures ∙ ap (λ (y : List ℕ). getD y 1 0) (cut-whole (c .before .before .before .before .before .before .before .before .before .args .part .now) (c .before .before .before .before .before .before .before .before .before .args .kind) _ (c .before .before .before .before .before .before .before .before .before .pre .1 .0) (sized (c .before .before .before .before .before .before .before .before .before .args .kind) _ 2 (c .before .before .before .before .before .before .match .keys4) refl)))))
+returns-4 c = took-as _ _ _ _ _ _ (c .before .before .take-input2 .ensures) (rw (c .before .before .before .before .before .before .match .keys4) (ap variants.InputRecord (c .before .before .before .owned-of .ensures ∙ ap format.ownedOf (cut-whole (c .before .before .before .before .before .before .before .before .before .args .part .now) (c .before .before .before .before .before .before .before .before .before .args .kind) _ (c .before .before .before .before .before .before .before .before .before .pre .1 .0) (sized (c .before .before .before .before .before .before .before .before .before .args .kind) _ 6 (c .before .before .before .before .before .before .match .keys4) refl)))))
 
 same-length-5 : tie.Need-same-length-5
 same-length-5 c = search needs
 
 returns-5 : tie.Need-returns-5
 unfolding records.recordSize
-returns-5 c = took-as _ _ _ _ _ _ (c .before .before .take-local .ensures) (rw (c .before .before .before .before .before .before .match .keys5) (ap variants.LocalRecord (c .before .before .before .local-of .ensures ∙ ap format.localOf (cut-whole (c .before .before .before .before .before .before .before .before .before .args .part .now) (c .before .before .before .before .before .before .before .before .before .args .kind) _ (c .before .before .before .before .before .before .before .before .before .pre .1 .0) (sized (c .before .before .before .before .before .before .before .before .before .args .kind) _ 6 (c .before .before .before .before .before .before .match .keys5) refl)))))
+returns-5 c = took-as _ _ _ _ _ _ (c .before .before .take-output .ensures) (rw (c .before .before .before .before .before .before .match .keys5) (ap variants.OutputRecord (c .before .before .before .byte-at .ensures ∙ ap (λ (y : List ℕ). getD y 1 0) (cut-whole (c .before .before .before .before .before .before .before .before .before .args .part .now) (c .before .before .before .before .before .before .before .before .before .args .kind) _ (c .before .before .before .before .before .before .before .before .before .pre .1 .0) (sized (c .before .before .before .before .before .before .before .before .before .args .kind) _ 2 (c .before .before .before .before .before .before .match .keys5) refl)))))
 
 same-length-6 : tie.Need-same-length-6
 same-length-6 c = search needs
 
 returns-6 : tie.Need-returns-6
 unfolding records.recordSize
-returns-6 c = took-as _ _ _ _ _ _ (c .before .before .take-connection .ensures) (rw (c .before .before .before .before .before .before .match .keys6) (ap variants.ConnectionRecord (c .before .before .before .connection-of .ensures ∙ ap format.connectionOf (cut-whole (c .before .before .before .before .before .before .before .before .before .args .part .now) (c .before .before .before .before .before .before .before .before .before .args .kind) _ (c .before .before .before .before .before .before .before .before .before .pre .1 .0) (sized (c .before .before .before .before .before .before .before .before .before .args .kind) _ 5 (c .before .before .before .before .before .before .match .keys6) refl)))))
+returns-6 c = took-as _ _ _ _ _ _ (c .before .before .take-local .ensures) (rw (c .before .before .before .before .before .before .match .keys6) (ap variants.LocalRecord (c .before .before .before .owned-of2 .ensures ∙ ap format.ownedOf (cut-whole (c .before .before .before .before .before .before .before .before .before .args .part .now) (c .before .before .before .before .before .before .before .before .before .args .kind) _ (c .before .before .before .before .before .before .before .before .before .pre .1 .0) (sized (c .before .before .before .before .before .before .before .before .before .args .kind) _ 6 (c .before .before .before .before .before .before .match .keys6) refl)))))
 
 same-length-7 : tie.Need-same-length-7
 same-length-7 c = search needs
 
 returns-7 : tie.Need-returns-7
 unfolding records.recordSize
-returns-7 c = took-as _ _ _ _ _ _ (c .before .before .take-switch .ensures) (rw (c .before .before .before .before .before .before .match .keys7) (ap variants.ModeRecord (c .before .before .before .switch-of .ensures ∙ ap format.switchOf (cut-whole (c .before .before .before .before .before .before .before .before .before .args .part .now) (c .before .before .before .before .before .before .before .before .before .args .kind) _ (c .before .before .before .before .before .before .before .before .before .pre .1 .0) (sized (c .before .before .before .before .before .before .before .before .before .args .kind) _ 3 (c .before .before .before .before .before .before .match .keys7) refl)))))
+returns-7 c = took-as _ _ _ _ _ _ (c .before .before .take-connection .ensures) (rw (c .before .before .before .before .before .before .match .keys7) (ap variants.ConnectionRecord (c .before .before .before .connection-of .ensures ∙ ap format.connectionOf (cut-whole (c .before .before .before .before .before .before .before .before .before .args .part .now) (c .before .before .before .before .before .before .before .before .before .args .kind) _ (c .before .before .before .before .before .before .before .before .before .pre .1 .0) (sized (c .before .before .before .before .before .before .before .before .before .args .kind) _ 5 (c .before .before .before .before .before .before .match .keys7) refl)))))
 
 same-length-8 : tie.Need-same-length-8
 same-length-8 c = search needs
 
 returns-8 : tie.Need-returns-8
 unfolding records.recordSize
-returns-8 c = took-as _ _ _ _ _ _ (c .before .before .take-transition .ensures) (rw (c .before .before .before .before .before .before .match .keys8) (ap variants.TransitionRecord (c .before .before .before .transition-of .ensures ∙ ap format.transitionOf (cut-whole (c .before .before .before .before .before .before .before .before .before .args .part .now) (c .before .before .before .before .before .before .before .before .before .args .kind) _ (c .before .before .before .before .before .before .before .before .before .pre .1 .0) (sized (c .before .before .before .before .before .before .before .before .before .args .kind) _ 4 (c .before .before .before .before .before .before .match .keys8) refl)))))
+returns-8 c = took-as _ _ _ _ _ _ (c .before .before .take-switch .ensures) (rw (c .before .before .before .before .before .before .match .keys8) (ap variants.ModeRecord (c .before .before .before .switch-of .ensures ∙ ap format.switchOf (cut-whole (c .before .before .before .before .before .before .before .before .before .args .part .now) (c .before .before .before .before .before .before .before .before .before .args .kind) _ (c .before .before .before .before .before .before .before .before .before .pre .1 .0) (sized (c .before .before .before .before .before .before .before .before .before .args .kind) _ 3 (c .before .before .before .before .before .before .match .keys8) refl)))))
 
 same-length-9 : tie.Need-same-length-9
 same-length-9 c = search needs
 
 returns-9 : tie.Need-returns-9
 unfolding records.recordSize
-returns-9 c = took-as _ _ _ _ _ _ (c .before .before .take-atom .ensures) (rw (c .before .before .before .before .before .before .match .keys9) (ap variants.AtomRecord (c .before .before .before .atom-of .ensures ∙ ap format.atomOf (cut-whole (c .before .before .before .before .before .before .before .before .before .args .part .now) (c .before .before .before .before .before .before .before .before .before .args .kind) _ (c .before .before .before .before .before .before .before .before .before .pre .1 .0) (sized (c .before .before .before .before .before .before .before .before .before .args .kind) _ 9 (c .before .before .before .before .before .before .match .keys9) refl)))))
+returns-9 c = took-as _ _ _ _ _ _ (c .before .before .take-transition .ensures) (rw (c .before .before .before .before .before .before .match .keys9) (ap variants.TransitionRecord (c .before .before .before .transition-of .ensures ∙ ap format.transitionOf (cut-whole (c .before .before .before .before .before .before .before .before .before .args .part .now) (c .before .before .before .before .before .before .before .before .before .args .kind) _ (c .before .before .before .before .before .before .before .before .before .pre .1 .0) (sized (c .before .before .before .before .before .before .before .before .before .args .kind) _ 4 (c .before .before .before .before .before .before .match .keys9) refl)))))
 
 same-length-10 : tie.Need-same-length-10
 same-length-10 c = search needs
 
 returns-10 : tie.Need-returns-10
 unfolding records.recordSize
-returns-10 c = took-as _ _ _ _ _ _ (c .before .before .take-assignment .ensures) (let r = c .before .before .before .before .before .before .match .rest in simp (ne-eqb _ _ (r .0 .0 .0 .0 .0 .0 .0 .0 .1), ne-eqb _ _ (r .0 .0 .0 .0 .0 .0 .0 .1), ne-eqb _ _ (r .0 .0 .0 .0 .0 .0 .1), ne-eqb _ _ (r .0 .0 .0 .0 .0 .1), ne-eqb _ _ (r .0 .0 .0 .0 .1), ne-eqb _ _ (r .0 .0 .0 .1), ne-eqb _ _ (r .0 .0 .1), ne-eqb _ _ (r .0 .1), ne-eqb _ _ (r .1)) (ap variants.AssignmentRecord (c .before .before .before .assignment-of .ensures ∙ ap format.assignmentOf (cut-whole (c .before .before .before .before .before .before .before .before .before .args .part .now) (c .before .before .before .before .before .before .before .before .before .args .kind) _ (c .before .before .before .before .before .before .before .before .before .pre .1 .0) (sized-last (c .before .before .before .before .before .before .before .before .before .args .kind) (r .0 .0 .0 .0 .0 .0 .0 .0 .1) (r .0 .0 .0 .0 .0 .0 .0 .1) (r .0 .0 .0 .0 .0 .0 .1) (r .0 .0 .0 .0 .0 .1) (r .0 .0 .0 .0 .1) (r .0 .0 .0 .1) (r .0 .0 .1) (r .0 .1) (r .1) (rw (← c .before .before .before .before .before .before .before .before .before .pre .1 .0) (c .before .before .before .before .before .before .before .before .before .pre .1 .1)))))))
+returns-10 c = took-as _ _ _ _ _ _ (c .before .before .take-atom .ensures) (rw (c .before .before .before .before .before .before .match .keys10) (ap variants.AtomRecord (c .before .before .before .atom-of .ensures ∙ ap format.atomOf (cut-whole (c .before .before .before .before .before .before .before .before .before .args .part .now) (c .before .before .before .before .before .before .before .before .before .args .kind) _ (c .before .before .before .before .before .before .before .before .before .pre .1 .0) (sized (c .before .before .before .before .before .before .before .before .before .args .kind) _ 9 (c .before .before .before .before .before .before .match .keys10) refl)))))
+
+same-length-11 : tie.Need-same-length-11
+same-length-11 c = search needs
+
+returns-11 : tie.Need-returns-11
+unfolding records.recordSize
+returns-11 c = took-as _ _ _ _ _ _ (c .before .before .take-assignment .ensures) (let r = c .before .before .before .before .before .before .match .rest in simp (ne-eqb _ _ (r .0 .0 .0 .0 .0 .0 .0 .0 .0 .1), ne-eqb _ _ (r .0 .0 .0 .0 .0 .0 .0 .0 .1), ne-eqb _ _ (r .0 .0 .0 .0 .0 .0 .0 .1), ne-eqb _ _ (r .0 .0 .0 .0 .0 .0 .1), ne-eqb _ _ (r .0 .0 .0 .0 .0 .1), ne-eqb _ _ (r .0 .0 .0 .0 .1), ne-eqb _ _ (r .0 .0 .0 .1), ne-eqb _ _ (r .0 .0 .1), ne-eqb _ _ (r .0 .1), ne-eqb _ _ (r .1)) (ap variants.AssignmentRecord (c .before .before .before .assignment-of .ensures ∙ ap format.assignmentOf (cut-whole (c .before .before .before .before .before .before .before .before .before .args .part .now) (c .before .before .before .before .before .before .before .before .before .args .kind) _ (c .before .before .before .before .before .before .before .before .before .pre .1 .0) (sized-last (c .before .before .before .before .before .before .before .before .before .args .kind) (r .0 .0 .0 .0 .0 .0 .0 .0 .0 .1) (r .0 .0 .0 .0 .0 .0 .0 .0 .1) (r .0 .0 .0 .0 .0 .0 .0 .1) (r .0 .0 .0 .0 .0 .0 .1) (r .0 .0 .0 .0 .0 .1) (r .0 .0 .0 .0 .1) (r .0 .0 .0 .1) (r .0 .0 .1) (r .0 .1) (r .1) (rw (← c .before .before .before .before .before .before .before .before .before .pre .1 .0) (c .before .before .before .before .before .before .before .before .before .pre .1 .1)))))))
 
 pub take-whole-spec : {M : Type 1} → statement M
 take-whole-spec =
@@ -192,14 +209,17 @@ take-whole-spec =
     slice-aggregate-thread-of
     thread-of-requires
     take-thread-requires
+    slice-aggregate-input-of
+    input-of-requires
+    take-input-requires
+    slice-aggregate-owned-of
+    owned-of-requires
+    take-input-requires-2
     slice-aggregate-byte-at
     byte-at-requires
-    take-input-requires
-    slice-aggregate-byte-at-2
-    byte-at-requires-2
     take-output-requires
-    slice-aggregate-local-of
-    local-of-requires
+    slice-aggregate-owned-of-2
+    owned-of-requires-2
     take-local-requires
     slice-aggregate-connection-of
     connection-of-requires
@@ -235,4 +255,6 @@ take-whole-spec =
     same-length-9
     returns-9
     same-length-10
-    returns-10)
+    returns-10
+    same-length-11
+    returns-11)

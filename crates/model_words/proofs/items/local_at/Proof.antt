@@ -3,25 +3,25 @@ use borrow.Author.Needs.{needs}
 use Rattle.model_words.proofs.items.local_at.Statement.{statement}
 use Rattle.model_words.proofs.items.local_at.Tie as tie
 
-no-local-requires : tie.Need-no-local-requires
-no-local-requires c κs = search needs
+no-owned-requires : tie.Need-no-owned-requires
+no-owned-requires c κs = search needs
 
 returns : tie.Need-returns
-returns c = local-missing _ _ _ (c .before .if1 .taken) (c .no-local .ensures)
+returns c = local-missing _ _ _ (c .before .if1 .taken) (c .no-owned .ensures)
 
-mul-local-in : tie.Need-mul-local-in
-mul-local-in c = search needs
+mul-owned-in : tie.Need-mul-owned-in
+mul-owned-in c = search needs
 
-add-local-in : tie.Need-add-local-in
-add-local-in c = search needs
+add-owned-in : tie.Need-add-owned-in
+add-owned-in c = search needs
 
-local-in-requires : tie.Need-local-in-requires
-local-in-requires c κs = search needs
+owned-in-requires : tie.Need-owned-in-requires
+owned-in-requires c κs = search needs
 
 returns-2 : tie.Need-returns-2
-returns-2 c = local-there _ _ _ (c .before .if1 .left) (c .local-in .ensures)
+returns-2 c = local-there _ _ _ (c .before .if1 .left) (c .owned-in .ensures)
 
 pub local-at-spec : {M : Type 1} → statement M
 local-at-spec =
     tie.close
-    (tie.spec no-local-requires returns mul-local-in add-local-in local-in-requires returns-2)
+    (tie.spec no-owned-requires returns mul-owned-in add-owned-in owned-in-requires returns-2)
