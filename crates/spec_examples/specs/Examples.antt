@@ -1,5 +1,5 @@
--- The starred examples of document 01, as a group, and one of each change that has none. Those that are runs are proved of the model's run and of
--- the run of its table.
+-- The starred examples of document 01, as a group, and one of written start values (document 02, W2). Those that are runs are proved of the model's
+-- run and of the run of its table.
 use mathlib.Core.Path.{_≡_, refl}
 use mathlib.Core.List.{List, [], _∷_, _++_}
 use Prim.Native.Nat.{ℕ}
