@@ -185,28 +185,50 @@ static void size_of_the_table(void)
 #define AGAIN 0x07, 0, 0
 #define FOUR_TIMES AGAIN, AGAIN, AGAIN, AGAIN
 
-/* A model for each refusal, whose last record is refused: no size is told, and translation refuses it alike. */
+/* A model for each refusal, whose last record is refused: no size is told, and reading and translation refuse it alike. */
 static void sizes_of_refused_models(void)
 {
     static const struct {
+        uint32_t number;
         size_t count, start;
         uint8_t bytes[64];
     } refused[] = {
-        [1] = {5, 3, {HEAD, 0x02, 5}},
-        [2] = {6, 3, {HEAD, HEAD}},
-        [3] = {54, 51, {HEAD, FOUR_TIMES, FOUR_TIMES, FOUR_TIMES, FOUR_TIMES, AGAIN}},
-        [4] = {3, 0, {0x01, 9, 0}},
-        [5] = {62, 53, {HEAD, THREAD(0, 0), THREAD(0, 0), 0x05, 0, 0, 0, 0, 0, 0x08, 1, 0, 0, 0x09, 0, 2, 0, 0, 0, 0, 0, 0}},
-        [6] = {37, 32, {HEAD, THREAD(0, 0), 0x03, 0, 0x04, 0, 0x06, 1, 0, 0, 1, 0x06, 1, 0, 0, 1}},
-        [7] = {46, 43, {HEAD, THREAD(63, 1), THREAD(64, 1), AGAIN}},
+        {1, 5, 3, {HEAD, 0x02, 5}},
+        {2, 6, 3, {HEAD, HEAD}},
+        {3, 54, 51, {HEAD, FOUR_TIMES, FOUR_TIMES, FOUR_TIMES, FOUR_TIMES, AGAIN}},
+        {14, 3, 0, {0x01, 9, 9}},
+        {14, 25, 23, {HEAD, THREAD(0, 0), 0x03, 1}},
+        {15, 23, 3, {HEAD, THREAD(65, 2)}},
+        {4, 23, 3, {HEAD, THREAD(64, 2)}},
+        {4, 3, 0, {0x01, 9, 8}},
+        {5, 62, 53, {HEAD, THREAD(0, 0), THREAD(0, 0), 0x05, 0, 0, 0, 0, 0, 0x08, 1, 0, 0, 0x09, 0, 2, 0, 0, 0, 0, 0, 0}},
+        {6, 37, 32, {HEAD, THREAD(0, 0), 0x03, 0, 0x04, 0, 0x06, 1, 0, 0, 1, 0x06, 1, 0, 0, 1}},
+        {7, 46, 43, {HEAD, THREAD(63, 1), THREAD(64, 1), AGAIN}},
     };
-    for (uint32_t number = 1; number <= 7; number++) {
-        const uint8_t *bytes = refused[number].bytes;
-        size_t count = refused[number].count, told[3];
-        const size_t wanted[SIZES] = {refused[number].start, count};
+    for (size_t i = 0; i < sizeof refused / sizeof *refused; i++) {
+        const uint8_t *bytes = refused[i].bytes;
+        uint32_t number = refused[i].number;
+        size_t count = refused[i].count, told[3];
+        const size_t wanted[SIZES] = {refused[i].start, count};
         tells_a_size(bytes, count, number, wanted);
         MUST(fk_translate(bytes, count, output, sizeof output, told, 3) == number);
         MUST(memcmp(told, wanted, sizeof told) == 0);
+        MUST(fk_read_model(bytes, count, told, 2) == number && told[0] == wanted[0] && told[1] == count);
+    }
+}
+
+/* A start record of a table: a variable that is not there comes before one that does not rise or is the clock. */
+static void refused_tables(void)
+{
+    static const struct {
+        uint32_t number;
+        uint8_t low, high;
+    } second[] = {{14, 32, 1}, {14, 255, 255}, {4, 31, 1}, {4, 0, 0}};
+    for (size_t i = 0; i < sizeof second / sizeof *second; i++) {
+        const uint8_t bytes[] = {0x20, 31, 1, 7, 0, 0, 0, 0x20, second[i].low, second[i].high, 7, 0, 0, 0};
+        size_t told[2];
+        MUST(fk_read_table(bytes, 7, told, 2) == 0);
+        MUST(fk_read_table(bytes, sizeof bytes, told, 2) == second[i].number && told[0] == 7 && told[1] == 14);
     }
 }
 
@@ -462,6 +484,7 @@ int main(int count, char **names)
     room_for_a_table();
     size_of_the_table();
     sizes_of_refused_models();
+    refused_tables();
     starts_of_input_ports();
     room_for_a_listing();
     lent_variables();

@@ -9,13 +9,24 @@
  * what a slice holds. A slice that is written (no const) must be memory of that size that no other argument overlaps: beside the
  * stack, that is all that is asked of a caller.
  *
- * Refusals have the numbers of the specification; 0 means that nothing is refused:
- *    1 body runs past the end          6 connected or assigned twice      10 not enabled
- *    2 kind unknown or out of order    7 hyperperiod too long             11 TICK past the last clock
- *    3 one too many, or table too long 8 output shorter than needed       12 two rules enabled
- *    4 field outside its range         9 event cut, unknown, or TICK 0    13 two updates of one variable
- *    5 port or local of another thread
- * The part of 1 to 8 lies in the model or table, that of 9 to 13 in the script: bytes start up to, not including, end.
+ * Refusals have the numbers of the specification; 0 means that nothing is refused. The first bad record decides, and of several causes the
+ * one that stands first here, not the least number:
+ *    1  model, table  body runs past the end
+ *    2  model, table  kind unknown or out of order
+ *    3  model, table  one too many, or table too long
+ *   14  model, table  names an item, mode or variable that is not there
+ *   15  model         Period, Deadline, Min or Max out of bounds
+ *    4  model, table  mask, tag, op or other field outside its range
+ *    5  model         port or local of another thread
+ *    6  model         connected or assigned twice
+ *    7  model         hyperperiod too long
+ *    8  output        shorter than needed
+ *    9  event         cut, unknown, or TICK 0
+ *   10  event         not enabled
+ *   11  event         TICK past the last clock
+ *   12  event         two rules enabled
+ *   13  event         two updates of one variable
+ * The part that a refused event hands back lies in the script, any other in the model or table: bytes start up to, not including, end.
  *
  * What a function tells beside its result goes to `told`, in the order that its comment gives, as far as told_count has places; places
  * behind are untouched. Start and end are 0 where nothing is refused.
@@ -38,10 +49,10 @@ extern "C" {
 /* No table made from a model is longer; some are as long. */
 #define FK_LONGEST_MADE_TABLE 171637
 
-/* Reads a model. Result: 0, or the first refusal (1 to 7). Told: start, end. */
+/* Reads a model. Result: 0, or the model's first refusal. Told: start, end. */
 uint32_t fk_read_model(const uint8_t *model, size_t model_count, size_t *told, size_t told_count);
 
-/* Reads a table. Result: 0, or the first refusal (1 to 4). Told: start, end. */
+/* Reads a table. Result: 0, or the table's first refusal. Told: start, end. */
 uint32_t fk_read_table(const uint8_t *table, size_t table_count, size_t *told, size_t told_count);
 
 /* Translates a model. Result: 0, or the model's refusal, or 8 where the table does not fit (the part is then the empty one at the model's
@@ -49,7 +60,7 @@ uint32_t fk_read_table(const uint8_t *table, size_t table_count, size_t *told, s
  * refused, it is untouched. The table reads without refusal and takes the same events as the model, whatever the list: that is proved. */
 uint32_t fk_translate(const uint8_t *model, size_t model_count, uint8_t *output, size_t output_count, size_t *told, size_t told_count);
 
-/* How long the table of a model is, without making it. Result: 0, or the model's first refusal (1 to 7). Told: start, end, bytes of the
+/* How long the table of a model is, without making it. Result: 0, or the model's first refusal. Told: start, end, bytes of the
  * table, and its rules, clauses, atoms and updates (start records are in the bytes alone); all five 0 where the model is refused.
  * fk_translate refuses the same models at the same part, and others with 8 just where its output has fewer bytes than are told here; the
  * table that it else writes has that many bytes, and of each kind that many records: that is proved. */
@@ -60,8 +71,8 @@ uint32_t fk_table_size(const uint8_t *model, size_t model_count, size_t *told, s
 size_t fk_model_listing(const uint8_t *model, size_t model_count, const uint8_t *script, size_t script_count, uint8_t *output, size_t output_count);
 size_t fk_table_listing(const uint8_t *table, size_t table_count, const uint8_t *script, size_t script_count, uint8_t *output, size_t output_count);
 
-/* Runs a script up to its first refused event. Result: 0, or the refusal of the model or table, or that of the event (9 to 13). Told:
- * start, end, events taken, clock. */
+/* Runs a script up to its first refused event. Result: 0, or the refusal of the model or table, or that of the event. Told: start, end,
+ * events taken, clock. */
 uint32_t fk_run_model(const uint8_t *model, size_t model_count, const uint8_t *script, size_t script_count, size_t *told, size_t told_count);
 uint32_t fk_run_table(const uint8_t *table, size_t table_count, const uint8_t *script, size_t script_count, size_t *told, size_t told_count);
 
@@ -108,8 +119,8 @@ uint32_t fk_model_after(const uint8_t *model, size_t model_count, const uint8_t 
 size_t fk_model_words(void);
 size_t fk_state_words(void);
 
-/* Reads a model into numbers. Result: 0, or the model's first refusal (1 to 7), or 8 where there are fewer than FK_MODEL_WORDS places (the part
- * is the empty one at the model's end). Refused, all places are untouched, and those behind FK_MODEL_WORDS always. Told: start, end. */
+/* Reads a model into numbers. Result: 0, or the model's first refusal, or 8 where there are fewer than FK_MODEL_WORDS places (the part is the
+ * empty one at the model's end). Refused, all places are untouched, and those behind FK_MODEL_WORDS always. Told: start, end. */
 uint32_t fk_model_read(const uint8_t *model, size_t model_count, uint32_t *words, size_t words_count, size_t *told, size_t told_count);
 
 /* The state before any event. Result: 0, or 8 where there are fewer than FK_STATE_WORDS places, which are then untouched, as are places

@@ -21,13 +21,14 @@ import os
 from collections.abc import Callable, Iterator
 from dataclasses import dataclass
 from pathlib import Path
-from typing import Self
+from typing import NamedTuple, Self
 
 __all__ = [
     "Enabled",
     "LONGEST_MADE_TABLE",
     "MEANINGS",
     "MODEL_WORDS",
+    "Meaning",
     "Model",
     "Offer",
     "Refusal",
@@ -61,57 +62,91 @@ LONGEST_MADE_TABLE = 171_637
 MODEL_WORDS = 3865
 STATE_WORDS = 278
 
-# What each refusal means, and what to do about it.
-MEANINGS: dict[int, tuple[str, str]] = {
-    1: (
+
+class Meaning(NamedTuple):
+    """What a refusal means, and what to do about it."""
+
+    # What holds the part that is refused: "model", which stands for a table too, or "script".
+    holder: str
+    cause: str
+    remedy: str
+
+
+# All refusals, in the order of causes and not of numbers: the first bad record decides, and
+# of several causes the one that stands first here.
+MEANINGS: dict[int, Meaning] = {
+    1: Meaning(
+        "model",
         "a record's body runs past the end",
         "the file is cut, or a byte is missing before this record",
     ),
-    2: (
+    2: Meaning(
+        "model",
         "kind unknown or out of order, or no head",
         "put the records into their order; often a body before this one has the wrong length",
     ),
-    3: (
+    3: Meaning(
+        "model",
         "one item too many, or a table over 1,000,000 bytes",
         "leave items out until the limit is kept",
     ),
-    4: (
-        "a field outside its range, or naming nothing",
-        "change the field; owners, ports, modes and masks must exist",
+    14: Meaning(
+        "model",
+        "a field names an item, mode or variable that is not there",
+        "name one that is there: all are numbered from 0, and an item stands before what names it",
     ),
-    5: (
+    15: Meaning(
+        "model",
+        "a thread's Period, Deadline, Min or Max is out of bounds",
+        "let Deadline be from 1 to Period, Min from 1 to Max, Period and Max at most 1,000,000",
+    ),
+    4: Meaning(
+        "model",
+        "a mask, tag, op or other field is outside its range",
+        "change the field; a mask may hold only modes that are there",
+    ),
+    5: Meaning(
+        "model",
         "a port or local of another thread",
         "let a behaviour read and write its own thread's ports and locals only",
     ),
-    6: (
+    6: Meaning(
+        "model",
         "an input port connected twice, or a target set twice in a transition",
         "remove one of the two",
     ),
-    7: (
+    7: Meaning(
+        "model",
         "the critical periods' common multiple is over 1,000,000,000",
         "let critical periods divide each other",
     ),
-    8: (
+    8: Meaning(
+        "model",
         "the output is shorter than the table",
         "give more room: 'futonkestrel size MODEL' tells how much, at most 171,637 bytes",
     ),
-    9: (
+    9: Meaning(
+        "script",
         "an event is cut or unknown, or TICK 0",
         "mend the script at this place",
     ),
-    10: (
+    10: Meaning(
+        "script",
         "the event is not enabled, names no item, or START's length lies outside Min and Max",
         "do first what is due, or wait until the clock is there",
     ),
-    11: (
+    11: Meaning(
+        "script",
         "TICK past the last clock, 1,000,000,000",
         "end the script here: the run is over",
     ),
-    12: (
+    12: Meaning(
+        "script",
         "two rules of a table are enabled",
         "change the table: its rules overlap, which those of a made table never do",
     ),
-    13: (
+    13: Meaning(
+        "script",
         "two updates of one variable",
         "change the table: a rule sets a variable twice, which those of a made table never do",
     ),
@@ -164,13 +199,13 @@ _library = _load()
 
 class Refusal(Exception):
     """A refusal by its number, and the part that it returns: bytes `start` up to,
-    not including, `end` of the model or table (1 to 8) or of the script."""
+    not including, `end` of what `holder` names, the model (or table) or the script."""
 
     def __init__(self, number: int, start: int, end: int) -> None:
         self.number = number
         self.start = start
         self.end = end
-        self.cause, self.remedy = MEANINGS[number]
+        self.holder, self.cause, self.remedy = MEANINGS[number]
         super().__init__(
             f"refused {number} at bytes {start} to {end}: {self.cause} ({self.remedy})"
         )

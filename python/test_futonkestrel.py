@@ -167,13 +167,21 @@ class Refusals(unittest.TestCase):
         for sort, data, number, part in [
             (fk.Model, b"", 2, (0, 0)),
             (fk.Model, b"\x01\x01", 1, (0, 2)),
+            (fk.Model, b"\x01\x09\x09", 14, (0, 3)),
+            (fk.Model, b"\x01\x09\x08", 4, (0, 3)),
+            (fk.Model, example("m/model.bin") + b"\x03\x01", 14, (23, 25)),
+            (fk.Model, example("m/model.bin").replace(b"\x04", b"\x06"), 15, (3, 23)),
             (fk.Table, b"\x22", 2, (0, 1)),
+            (fk.Table, b"\x20\x20\x01" + bytes(4), 14, (0, 7)),
+            (fk.Table, b"\x20\x00\x00" + bytes(4), 4, (0, 7)),
         ]:
             with self.assertRaises(fk.Refusal) as caught:
                 sort(data)
             refusal = caught.exception
             self.assertEqual((refusal.number, (refusal.start, refusal.end)), (number, part))
-            self.assertEqual((refusal.cause, refusal.remedy), fk.MEANINGS[number])
+            told = (refusal.holder, refusal.cause, refusal.remedy)
+            self.assertEqual(told, fk.MEANINGS[number])
+            self.assertEqual(refusal.holder, "model")
             self.assertIn(refusal.cause, str(refusal))
 
     def test_of_events_change_nothing(self) -> None:
@@ -185,15 +193,19 @@ class Refusals(unittest.TestCase):
         with self.assertRaises(fk.Refusal) as caught:
             table.step(variables, fk.start(0, 6))
         self.assertEqual((caught.exception.number, caught.exception.end), (10, 6))
+        self.assertEqual(caught.exception.holder, "script")
         self.assertEqual(variables, kept)
         table.step(variables, fk.activate(0))
         self.assertNotEqual(bytes(variables), bytes(kept))
 
     def test_words_are_those_of_the_crate(self) -> None:
         text = (ROOT / "rust/src/refusals.rs").read_text()
-        told = re.findall(r'meaning\(\s*(\d+),\s*Holder::\w+,\s*"(.*)",\s*"(.*)",\s*\)', text)
-        wanted = {int(number): (cause, remedy) for number, cause, remedy in told}
-        self.assertEqual(fk.MEANINGS, wanted)
+        told = re.findall(r'meaning\(\s*(\d+),\s*Holder::(\w+),\s*"(.*)",\s*"(.*)",\s*\)', text)
+        wanted = [
+            (int(number), fk.Meaning(holder.lower(), cause, remedy))
+            for number, holder, cause, remedy in told
+        ]
+        self.assertEqual(list(fk.MEANINGS.items()), wanted)
 
 
 class Library(unittest.TestCase):

@@ -4,15 +4,15 @@
 use std::ops::Range;
 
 use crate::random::Random;
-use crate::records::{fields, Record};
+use crate::records::{fields, tags, Record};
 
 /// A few records or bytes changed, the records put together.
 pub fn damage_records(random: &mut Random, mut records: Vec<Record>) -> Vec<u8> {
     if !records.is_empty() {
         let at = pick(random, &records);
         match random.below(10) {
-            0..=4 => change_fields(random, &mut records, at),
-            5 | 6 => double(random, &mut records, at),
+            0..=5 => change_fields(random, &mut records, at),
+            6 | 7 => double(random, &mut records, at),
             _ => move_record(random, &mut records, at),
         }
     }
@@ -61,12 +61,37 @@ fn move_record(random: &mut Random, records: &mut Vec<Record>, at: usize) {
 
 /// One field or several are wrong, so that several causes can meet.
 fn change_fields(random: &mut Random, records: &mut [Record], at: usize) {
-    for _ in 0..random.one_of(&[1, 1, 1, 2]) {
-        if random.chance(30) {
-            borrow_field(random, records, at);
-        } else {
-            change_field(random, &mut records[at]);
+    for _ in 0..random.one_of(&[1, 1, 1, 2, 3]) {
+        match random.below(10) {
+            0..=2 => borrow_field(random, records, at),
+            3..=5 => change_pair(random, &mut records[at]),
+            _ => change_field(random, &mut records[at]),
         }
+    }
+}
+
+/// Fields of which one decides how another is taken: a head's modes, a tag and the
+/// number behind it, and the op that may ask for a tag.
+fn change_pair(random: &mut Random, record: &mut Record) {
+    let kind = record[0];
+    let pair = match tags(kind) {
+        [] => (kind == 0x01).then_some((1, 1)),
+        tags => Some(random.one_of(tags)),
+    };
+    let Some((at, width)) = pair.filter(|(at, width)| at + width < record.len()) else {
+        return change_field(random, record);
+    };
+    let (first, second): (u8, i32) = if kind == 0x01 {
+        random.one_of(&[(0, 0), (0, 5), (8, 8), (9, 7), (9, 8), (9, 9), (255, 254)])
+    } else {
+        let numbers = [0, 1, 32, 287, 288, 999, -1, i32::MIN];
+        let tag = random.one_of(&[0, 1, 1, 1, 2, 2, 3, 255]);
+        (tag, random.one_of(&numbers))
+    };
+    record[at] = first;
+    record[at + 1..=at + width].copy_from_slice(&second.to_le_bytes()[..width]);
+    if kind == 0x23 && random.chance(60) {
+        record[1] = random.one_of(&[6, 6, 7, 7, 8, 255]);
     }
 }
 

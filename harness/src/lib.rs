@@ -10,7 +10,8 @@
 //!   by event on a lent state or by an index, and what is enabled
 //! * [`compare`]: the comparisons
 //! * [`check`], [`runner`]: one case, many cases
-//! * [`tally`], [`reach`]: what they came to, and by number
+//! * [`tally`], [`reach`], [`refused`]: what they came to, by number, and by kind
+//!   of record
 
 pub mod answers;
 pub mod case;
@@ -25,6 +26,7 @@ pub mod models;
 pub mod random;
 pub mod reach;
 pub mod records;
+pub mod refused;
 pub mod runner;
 pub mod scripts;
 pub mod stepped;

@@ -97,6 +97,18 @@ pub fn fields(kind: u8) -> &'static [usize] {
     }
 }
 
+/// Where a model's or table's record has tags, each with the width of the number
+/// behind it.
+pub fn tags(kind: u8) -> &'static [(usize, usize)] {
+    match kind {
+        0x09 => &[(2, 1), (4, 4)],
+        0x0A => &[(1, 1), (4, 4), (9, 4)],
+        0x23 => &[(4, 4)],
+        0x24 => &[(7, 4), (12, 4)],
+        _ => &[],
+    }
+}
+
 /// An operand: a tag and a number.
 pub fn operand(tag: u8, number: i32) -> Vec<u8> {
     [&[tag][..], &number.to_le_bytes()].concat()

@@ -11,24 +11,31 @@ use crate::case::Case;
 use crate::lending::Lending;
 use crate::reach::{add_each, Reach, KINDS, LATE};
 use crate::records::{model_body, split};
+use crate::refused::Refused;
+
+/// The numbers of refusals, and 0.
+pub const NUMBERS: usize = 16;
 
 /// Counts; those in arrays go by number of refusal, 0 for none, or by kind of
 /// event.
 #[derive(Clone, Default)]
 pub struct Tally {
     pub cases: u64,
-    pub models: [u64; 14],
-    pub tables: [u64; 14],
+    pub models: [u64; NUMBERS],
+    pub tables: [u64; NUMBERS],
+    /// The records of models and tables that were refused.
+    pub model_records: Refused,
+    pub table_records: Refused,
     /// Translations into too little room or more.
-    pub translations: [u64; 14],
+    pub translations: [u64; NUMBERS],
     /// Sizes of tables by the places that were lent for them; more than all stand
     /// last.
     pub sizes: [u64; SIZE_PLACES + 2],
-    pub model_events: [u64; 14],
-    pub table_events: [u64; 14],
-    pub lent_steps: [u64; 14],
+    pub model_events: [u64; NUMBERS],
+    pub table_events: [u64; NUMBERS],
+    pub lent_steps: [u64; NUMBERS],
     /// The same of tables and indexes of any content.
-    pub any_steps: [u64; 14],
+    pub any_steps: [u64; NUMBERS],
     /// Events after which a model's state was looked at.
     pub shown: u64,
     /// Events taken by models, and by tables that no model made.
@@ -64,6 +71,7 @@ pub struct Tally {
 impl Tally {
     pub fn note_model(&mut self, case: &Case, wanted: &Said) {
         self.models[wanted.read.number as usize] += 1;
+        self.model_records.note(&case.model, &wanted.read);
         if wanted.read.number != 0 {
             return;
         }
@@ -142,6 +150,7 @@ impl Tally {
 
     pub fn note_table(&mut self, case: &Case, wanted: &Said) {
         self.tables[wanted.read.number as usize] += 1;
+        self.table_records.note(&case.table, &wanted.read);
         note_events(
             &case.table_script,
             &wanted.steps,
@@ -167,6 +176,8 @@ impl Tally {
         self.cases += other.cases;
         add_each(&mut self.models, &other.models);
         add_each(&mut self.tables, &other.tables);
+        self.model_records.add(&other.model_records);
+        self.table_records.add(&other.table_records);
         add_each(&mut self.translations, &other.translations);
         add_each(&mut self.sizes, &other.sizes);
         add_each(&mut self.model_events, &other.model_events);
@@ -221,29 +232,8 @@ fn raise(most: &mut u64, figure: usize) {
 impl Display for Tally {
     fn fmt(&self, formatter: &mut Formatter) -> fmt::Result {
         writeln!(formatter, "{} cases", self.cases)?;
-        let by_number = [
-            ("models", &self.models),
-            ("translations", &self.translations),
-            ("tables", &self.tables),
-            ("events on models", &self.model_events),
-            ("events on tables", &self.table_events),
-            ("single steps on lent variables", &self.lent_steps),
-            ("single steps of any content", &self.any_steps),
-        ];
-        for (what, counts) in by_number {
-            writeln!(formatter, "{what}: {}", numbers(counts))?;
-        }
-        let sizes: Vec<String> = self.sizes.iter().map(u64::to_string).collect();
-        writeln!(formatter, "sizes by places lent: {}", sizes.join(" "))?;
-        for (what, counts) in [
-            ("taken by models", &self.taken_by_models),
-            ("of these moved a value", &self.moved),
-            ("taken by tables", &self.taken_by_tables),
-            ("offered by models", &self.offered_by_models),
-            ("offered by tables", &self.offered_by_tables),
-        ] {
-            writeln!(formatter, "{what}: {}", kinds(counts))?;
-        }
+        self.write_numbers(formatter)?;
+        self.write_kinds(formatter)?;
         writeln!(
             formatter,
             "states of models looked at: {}; whole runs of ten events or more: {}; \
@@ -273,6 +263,46 @@ impl Display for Tally {
             .map(|(comparison, count)| format!("{comparison} {count}"))
             .collect();
         writeln!(formatter, "compared: {}", comparisons.join(", "))
+    }
+}
+
+impl Tally {
+    /// The counts by number of refusal, of records by kind too.
+    fn write_numbers(&self, formatter: &mut Formatter) -> fmt::Result {
+        for (what, counts) in [
+            ("models", &self.models),
+            ("translations", &self.translations),
+            ("tables", &self.tables),
+            ("events on models", &self.model_events),
+            ("events on tables", &self.table_events),
+            ("single steps on lent variables", &self.lent_steps),
+            ("single steps of any content", &self.any_steps),
+        ] {
+            writeln!(formatter, "{what}: {}", numbers(counts))?;
+        }
+        for (what, records) in [
+            ("models", &self.model_records),
+            ("tables", &self.table_records),
+        ] {
+            writeln!(formatter, "records of {what} by number and kind: {records}")?;
+        }
+        Ok(())
+    }
+
+    /// The counts by places lent, and by kind of event.
+    fn write_kinds(&self, formatter: &mut Formatter) -> fmt::Result {
+        let sizes: Vec<String> = self.sizes.iter().map(u64::to_string).collect();
+        writeln!(formatter, "sizes by places lent: {}", sizes.join(" "))?;
+        for (what, counts) in [
+            ("taken by models", &self.taken_by_models),
+            ("of these moved a value", &self.moved),
+            ("taken by tables", &self.taken_by_tables),
+            ("offered by models", &self.offered_by_models),
+            ("offered by tables", &self.offered_by_tables),
+        ] {
+            writeln!(formatter, "{what}: {}", kinds(counts))?;
+        }
+        Ok(())
     }
 }
 

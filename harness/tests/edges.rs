@@ -1,11 +1,13 @@
 //! Inputs of all kinds with one thing changed, every way in turn: each byte,
 //! each wider field at the ends of ranges, each record dropped, doubled or
-//! moved, each cut. Library and plain model read all of them alike.
+//! moved, each cut; and with any two fields of a record changed. Library and
+//! plain model read all of them alike.
 
 use harness::answers::{Listed, Said, Size, SIZE_PLACES};
 use harness::found::Indexes;
 use harness::records::{fields, model_body, split, table_body, Record};
 use harness::stepped::StateWalk;
+use harness::tally::NUMBERS;
 use harness::{compare, found, stepped, wanted};
 
 /// A model with all kinds of records, small enough to change it everywhere.
@@ -80,44 +82,94 @@ fn every_cut(bytes: &[u8]) -> impl Iterator<Item = Vec<u8>> + '_ {
     (0..=bytes.len()).map(|length| bytes[..length].to_vec())
 }
 
+/// Ends of ranges of wide fields, and what lies beside them.
+const ENDS: [i32; 24] = [
+    0,
+    1,
+    2,
+    3,
+    4,
+    5,
+    6,
+    7,
+    -1,
+    287,
+    288,
+    289,
+    65_534,
+    65_535,
+    999_999,
+    1_000_000,
+    1_000_001,
+    999_999_999,
+    1_000_000_000,
+    1_000_000_001,
+    i32::MAX,
+    i32::MIN,
+    256,
+    512,
+];
+
 /// Every field of more than one byte takes values at ends of ranges.
 fn every_wide_field(records: Vec<Record>) -> Vec<Vec<u8>> {
-    let ends: [i32; 24] = [
-        0,
-        1,
-        2,
-        3,
-        4,
-        5,
-        6,
-        7,
-        -1,
-        287,
-        288,
-        289,
-        65_534,
-        65_535,
-        999_999,
-        1_000_000,
-        1_000_001,
-        999_999_999,
-        1_000_000_000,
-        1_000_000_001,
-        i32::MAX,
-        i32::MIN,
-        256,
-        512,
-    ];
     let mut changed = Vec::new();
     for at in 0..records.len() {
-        let mut start = 1;
-        for &width in fields(records[at][0]) {
-            for end in ends.iter().filter(|_| width > 1) {
+        let mut wide = places(records[at][0]);
+        wide.retain(|(_, width)| *width > 1);
+        for place in wide {
+            for end in ENDS {
                 let mut copy = records.clone();
-                copy[at][start..start + width].copy_from_slice(&end.to_le_bytes()[..width]);
+                put(&mut copy[at], place, end);
                 changed.push(copy.concat());
             }
-            start += width;
+        }
+    }
+    changed
+}
+
+/// Where a field of a record starts, and its width.
+type Place = (usize, usize);
+
+fn places(kind: u8) -> Vec<Place> {
+    let mut start = 1;
+    let place = |&width| {
+        start += width;
+        (start - width, width)
+    };
+    fields(kind).iter().map(place).collect()
+}
+
+/// The field takes a value.
+fn put(record: &mut Record, (start, width): Place, value: i32) {
+    record[start..start + width].copy_from_slice(&value.to_le_bytes()[..width]);
+}
+
+/// What a field is where another of its record is changed too: the ends of small
+/// ranges, a tag and an op that there is not, and what names nothing.
+fn few_ends(width: usize) -> &'static [i32] {
+    match width {
+        1 => &[0, 1, 2, 3, 4, 6, 7, 8, 9, 255],
+        2 => &[0, 1, 287, 288, 65_534, 65_535],
+        _ => &[0, 1, 2, 4, 288, 1_000_000, 1_000_001, -1],
+    }
+}
+
+/// Any two fields of a record are changed, so that two causes meet.
+fn every_two_fields(records: Vec<Record>) -> Vec<Vec<u8>> {
+    let to_ends = |place: Place| few_ends(place.1).iter().map(move |&end| (place, end));
+    let mut changed = Vec::new();
+    for at in 0..records.len() {
+        let changes: Vec<(Place, i32)> = places(records[at][0])
+            .into_iter()
+            .flat_map(to_ends)
+            .collect();
+        for (number, &(first, one)) in changes.iter().enumerate() {
+            for &(second, other) in changes[number..].iter().filter(|change| change.0 != first) {
+                let mut copy = records.clone();
+                put(&mut copy[at], first, one);
+                put(&mut copy[at], second, other);
+                changed.push(copy.concat());
+            }
         }
     }
     changed
@@ -143,7 +195,7 @@ fn every_move(records: Vec<Record>) -> Vec<Vec<u8>> {
 }
 
 /// What the refusal of each input came to, by number.
-type Counts = [usize; 8];
+type Counts = [usize; NUMBERS];
 
 fn agree_on_model(counts: &mut Counts, bytes: &[u8]) {
     let (wanted, _) = wanted::of_model(bytes, &[], false);
@@ -239,7 +291,18 @@ fn models_with_one_thing_changed() {
         .chain(every_move(records))
         .for_each(|changed| agree_on_model(&mut counts, &changed));
     // Nothing of this makes an item too many.
-    for number in [0, 1, 2, 4, 5, 6, 7] {
+    for number in [0, 1, 2, 4, 5, 6, 7, 14, 15] {
+        assert!(counts[number] >= 1, "{counts:?}");
+    }
+}
+
+#[test]
+fn models_with_two_fields_changed() {
+    let mut counts = Counts::default();
+    for changed in every_two_fields(split(&model(), model_body)) {
+        agree_on_model(&mut counts, &changed);
+    }
+    for number in [0, 4, 5, 6, 7, 14, 15] {
         assert!(counts[number] >= 1, "{counts:?}");
     }
 }
@@ -254,7 +317,18 @@ fn tables_with_one_thing_changed() {
         .chain(every_wide_field(records.clone()))
         .chain(every_move(records))
         .for_each(|changed| agree_on_table(&mut counts, &changed));
-    for number in [0, 1, 2, 4] {
+    for number in [0, 1, 2, 4, 14] {
+        assert!(counts[number] >= 1, "{counts:?}");
+    }
+}
+
+#[test]
+fn tables_with_two_fields_changed() {
+    let mut counts = Counts::default();
+    for changed in every_two_fields(split(&table(), table_body)) {
+        agree_on_table(&mut counts, &changed);
+    }
+    for number in [0, 4, 14] {
         assert!(counts[number] >= 1, "{counts:?}");
     }
 }

@@ -2,6 +2,7 @@
 //! everything that can happen.
 
 use harness::reach::Reach;
+use harness::refused::Refused;
 use harness::runner::{self, Plan};
 use harness::tally::Tally;
 use plain::script::{
@@ -18,6 +19,7 @@ fn library_and_plain_model_agree() {
     }
     assert_eq!(outcome.tally.cases, plan.cases.end);
     inputs_are_of_all_sorts(&outcome.tally);
+    every_kind_of_record_is_refused(&outcome.tally);
     runs_go_far(&outcome.tally);
     every_number_has_its_part(&outcome.tally.reach);
     thin_places_are_met(&outcome.tally);
@@ -41,10 +43,12 @@ fn inputs_are_of_all_sorts(tally: &Tally) {
             (1, 50),
             (2, 500),
             (3, 100),
-            (4, 1_000),
-            (5, 50),
+            (4, 250),
+            (5, 100),
             (6, 50),
             (7, 150),
+            (14, 700),
+            (15, 80),
         ],
     );
     at_least(
@@ -56,11 +60,41 @@ fn inputs_are_of_all_sorts(tally: &Tally) {
     at_least(
         "tables",
         &tally.tables,
-        &[(0, 10_000), (1, 100), (2, 1_500), (3, 4), (4, 2_000)],
+        &[
+            (0, 10_000),
+            (1, 100),
+            (2, 1_000),
+            (3, 4),
+            (4, 1_500),
+            (14, 400),
+        ],
     );
     assert_eq!(tally.most_threads, 16);
     assert_eq!(tally.longest_model, 7_123);
     assert_eq!(tally.longest_made_table, 171_637);
+}
+
+/// Each number in the kinds of records that have such a field.
+fn every_kind_of_record_is_refused(tally: &Tally) {
+    let models = &tally.model_records;
+    let naming = [1, 3, 4, 5, 6, 7, 8, 9, 0x0A, 0x0B];
+    refused_in_kinds(models, 14, &naming, 25);
+    refused_in_kinds(models, 15, &[2], 80);
+    refused_in_kinds(models, 4, &[1, 2, 6, 8, 9, 0x0A], 25);
+    refused_in_kinds(models, 5, &[9, 0x0A], 40);
+    refused_in_kinds(models, 6, &[6, 0x0A], 20);
+    refused_in_kinds(models, 7, &[7], 150);
+    let tables = &tally.table_records;
+    refused_in_kinds(tables, 14, &[0x20, 0x23, 0x24], 100);
+    refused_in_kinds(tables, 4, &[0x20, 0x21, 0x23, 0x24], 200);
+}
+
+/// The number is met so often in each of these kinds, and in no other.
+fn refused_in_kinds(records: &Refused, number: u32, kinds: &[u8], floor: u64) {
+    let (found, counts): (Vec<u8>, Vec<u64>) = records.with(number).into_iter().unzip();
+    assert_eq!(found, kinds, "kinds refused with {number}");
+    let what = format!("refused with {number}, of kinds {kinds:02x?}");
+    all_at_least(&what, &counts, floor);
 }
 
 fn runs_go_far(tally: &Tally) {

@@ -247,12 +247,15 @@ fn refused_records() {
         "deadline over period",
         &late,
         &script,
-        "end 0 4 0\n",
-        "refused 4 3 23 pad: 02 05 00 00 00 06 00 00 00 01 00 00 00 05 00 00 00 01 00 00\n",
+        "end 0 15 0\n",
+        "refused 15 3 23 pad: 02 05 00 00 00 06 00 00 00 01 00 00 00 05 00 00 00 01 00 00\n",
     );
     let owner = [&model[..], &[3, 7]].concat();
-    let said = "refused 4 23 25 pad: 03 07\n";
-    case("no such owner", &owner, &script, "end 0 4 0\n", said);
+    let said = "refused 14 23 25 pad: 03 07\n";
+    case("no such owner", &owner, &script, "end 0 14 0\n", said);
+    let typed = [&model[..], &[3, 0, 4, 0, 6, 2, 0, 0, 1]].concat();
+    let said = "refused 4 27 32 pad: 06 02 00 00 01\n";
+    case("no such type", &typed, &script, "end 0 4 0\n", said);
     let kind = [&model[..], &[0x33, 1, 2]].concat();
     let said = "refused 2 23 26 pad: 33 01 02\n";
     case("unknown kind", &kind, &script, "end 0 2 0\n", said);
@@ -279,6 +282,9 @@ fn refused_tables() {
     let end = good.len();
     let said = format!("refused 1 {end} {} made: 23 01\n", end + 2);
     assert_eq!(run(&cut), ("end 0 1 0\n".into(), said));
+    let said = "refused 14 0 7 made: 20 20 01 00 00 00 00\n".to_string();
+    let missing = [0x20, 0x20, 1, 0, 0, 0, 0];
+    assert_eq!(run(&missing), ("end 0 14 0\n".into(), said));
     let said = "refused 2 0 1 made: 22\n".to_string();
     assert_eq!(run(&[0x22]), ("end 0 2 0\n".into(), said));
     let said = "refused 10 0 2 script.bin: 01 00\n".to_string();

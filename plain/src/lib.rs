@@ -1,5 +1,5 @@
 //! A plain implementation of document 01, "Pad timing models and their rule
-//! tables", with the changes W1 and W2 of document 02.
+//! tables", with the changes W1 to W3 of document 02.
 //!
 //! It reads a timing model from bytes, runs event lists on it, translates it
 //! into a rule table, reads rule tables from bytes and runs event lists on
@@ -9,7 +9,8 @@
 //! be tested against it, since the two share no line.
 //!
 //! * [`bytes`]: readers of integers, least byte first, and the extent of a record
-//! * [`refusal`]: the numbers of the causes, and the part handed back
+//! * [`refusal`]: the numbers of the causes, with two for names and times (W3),
+//!   and the part handed back
 //! * [`script`]: reading events, and runs that stop at or go on after refusals
 //! * [`model`]: reading a model, with written starts of input ports (W2), and the
 //!   model's machine

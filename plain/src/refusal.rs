@@ -6,7 +6,7 @@ pub const CUT: u8 = 1;
 pub const ORDER: u8 = 2;
 /// More items than allowed, or more bytes of table.
 pub const TOO_MANY: u8 = 3;
-/// Any other figure that may not be, or that no item has as its number.
+/// Any other field that may not be so.
 pub const RANGE: u8 = 4;
 /// A transition that touches what its thread does not own.
 pub const OWNER: u8 = 5;
@@ -26,6 +26,11 @@ pub const LAST_CLOCK: u8 = 11;
 pub const CONFLICTING_RULES: u8 = 12;
 /// An inconsistent update set: a variable would be written more than once.
 pub const INCONSISTENT_UPDATES: u8 = 13;
+/// A number that no item, mode or variable has. Though its number is a late one,
+/// it is told right before FAULTY_TIME, and that right before RANGE.
+pub const NAMES_NOTHING: u8 = 14;
+/// A Period, Deadline, Min or Max that may not be.
+pub const FAULTY_TIME: u8 = 15;
 
 /// A refusal: the number of its cause, and the part of the input that it
 /// returns, from the offset `start` up to but not with `end`.

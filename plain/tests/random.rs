@@ -160,7 +160,7 @@ fn model_and_table_agree() {
 #[test]
 fn damaged_models_are_refused_or_agree() {
     let mut random = Random(0xD1B5_4A32_D192_ED03);
-    let (mut accepted, mut refused) = (0, [0; 8]);
+    let (mut accepted, mut refused) = (0, [0; 16]);
     for case in 0..4000 {
         let mut model_bytes = random_model(&mut random);
         damage(&mut random, &mut model_bytes);
@@ -179,7 +179,7 @@ fn damaged_models_are_refused_or_agree() {
         }
     }
     assert!(accepted > 200, "accepted: {accepted}");
-    for number in [1, 2, 4, 5, 6] {
+    for number in [1, 2, 4, 5, 6, 14, 15] {
         assert!(refused[number] > 10, "refused: {refused:?}");
     }
 }
@@ -187,7 +187,7 @@ fn damaged_models_are_refused_or_agree() {
 #[test]
 fn damaged_tables_are_refused_or_run() {
     let mut random = Random(0x2545_F491_4F6C_DD1D);
-    let (mut accepted, mut refused) = (0, 0);
+    let (mut accepted, mut refused) = (0, [0; 16]);
     for _ in 0..3000 {
         let model_bytes = random_model(&mut random);
         let model = model::read(&model_bytes).expect("an accepted model");
@@ -195,9 +195,8 @@ fn damaged_tables_are_refused_or_run() {
         damage(&mut random, &mut bytes);
         match table::read(&bytes) {
             Err(refusal) => {
-                assert!(matches!(refusal.number, 1 | 2 | 4));
                 assert!(refusal.start <= refusal.end && refusal.end <= bytes.len());
-                refused += 1;
+                refused[usize::from(refusal.number)] += 1;
             }
             Ok(table) => {
                 let script = random_script(&mut random, &model);
@@ -212,10 +211,12 @@ fn damaged_tables_are_refused_or_run() {
             }
         }
     }
-    assert!(
-        accepted > 200 && refused > 200,
-        "accepted {accepted}, refused {refused}"
-    );
+    assert!(accepted > 200, "accepted: {accepted}");
+    for (number, count) in refused.into_iter().enumerate() {
+        let met = matches!(number, 1 | 2 | 4 | 14);
+        assert!(met == (count > 0), "{number}, refused: {refused:?}");
+    }
+    assert!(refused.iter().sum::<usize>() > 200, "refused: {refused:?}");
 }
 
 /// Some whole records of any content, mostly in the order of their places, and
@@ -286,7 +287,7 @@ fn refusal_fits<T>(
     match number {
         1 => assert!(known.contains(&kind) && whole > bytes.len() && end == bytes.len()),
         2 if !known.contains(&kind) => assert_eq!(end, bytes.len(), "{bytes:02x?}"),
-        2..=7 => assert_eq!(end, whole, "{refusal:?} of {bytes:02x?}"),
+        2..=7 | 14 | 15 => assert_eq!(end, whole, "{refusal:?} of {bytes:02x?}"),
         _ => panic!("{refusal:?} of {bytes:02x?}"),
     }
 }
@@ -294,7 +295,7 @@ fn refusal_fits<T>(
 #[test]
 fn any_bytes_are_read() {
     let mut random = Random(0x0123_4567_89AB_CDEF);
-    let (mut models, mut tables, mut events) = ([0; 8], [0; 8], [0; 2]);
+    let (mut models, mut tables, mut events) = ([0; 16], [0; 16], [0; 2]);
     for case in 0..60_000 {
         let bytes: Vec<u8> = match case % 3 {
             0 => (0..random.below(60))
@@ -324,7 +325,7 @@ fn any_bytes_are_read() {
         }
     }
     for (what, counts) in [("models", models), ("tables", tables)] {
-        for number in [0, 1, 2, 4] {
+        for number in [0, 1, 2, 4, 14] {
             assert!(counts[number] > 500, "{what}, {number}: {counts:?}");
         }
     }

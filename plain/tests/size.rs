@@ -62,14 +62,14 @@ fn random_models() {
 #[test]
 fn damaged_models() {
     let mut random = Random(0xC2B2_AE3D_27D4_EB4F);
-    let mut counts = [0; 8];
+    let mut counts = [0; 16];
     for _ in 0..4000 {
         let mut model = random_model(&mut random);
         damage(&mut random, &mut model);
         counts[told_rightly(&model)] += 1;
     }
     assert!(counts[0] > 200, "{counts:?}");
-    for number in [1, 2, 4, 5, 6] {
+    for number in [1, 2, 4, 5, 6, 14, 15] {
         assert!(counts[number] > 10, "{counts:?}");
     }
 }

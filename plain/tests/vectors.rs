@@ -277,7 +277,7 @@ fn check_table_case(case: &Case, differences: &mut Vec<String>) {
 #[test]
 fn models() {
     let cases = cases("models");
-    assert_eq!(cases.len(), 112);
+    assert_eq!(cases.len(), 169);
     let mut differences = Vec::new();
     for case in &cases {
         check_model_case(case, &mut differences);
@@ -288,7 +288,7 @@ fn models() {
 #[test]
 fn tables() {
     let cases = cases("tables");
-    assert_eq!(cases.len(), 57);
+    assert_eq!(cases.len(), 91);
     let mut differences = Vec::new();
     for case in &cases {
         check_table_case(case, &mut differences);

@@ -48,8 +48,8 @@ mod stepping;
 use refusals::Holder;
 pub use stepping::{Enabled, Model, Offer, State, Table, MODEL_WORDS, STATE_WORDS};
 
-/// A refusal by its number in document 01, and the part that it returns, from
-/// offset `start` up to but not with `end`, in what [`Refusal::holder`] names.
+/// A refusal by its number in documents 01 and 02, and the part that it returns,
+/// from offset `start` up to but not with `end`, in what [`Refusal::holder`] names.
 /// Printed, it tells the cause and what to do.
 #[derive(Clone, Copy, Debug, PartialEq, Eq)]
 pub struct Refusal {

@@ -2,8 +2,9 @@
 //!
 //! All of them are total: any bytes are read, any number is told, and an output
 //! that is too short is a case of its own. Numbers of refusals are those of
-//! document 01, 0 where nothing is refused. What is told goes to `told` as far
-//! as it has places; places behind stay as they were.
+//! documents 01 and 02, 0 where nothing is refused; [`crate::refusals`] has them
+//! all. What is told goes to `told` as far as it has places; places behind stay as
+//! they were.
 
 extern "C" {
     fn fk_read_model(
@@ -156,23 +157,24 @@ extern "C" {
 // Each call below hands over pointer and count of slices, which are valid for
 // that count; a written slice is borrowed alone, so it overlaps no other.
 
-/// Reads a model. The result is 0 to 7; told are start and end of the part
-/// refused.
+/// Reads a model. The result is 0 or the number of its refusal; told are start and
+/// end of the part refused.
 pub fn read_model(model: &[u8], told: &mut [usize]) -> u32 {
     // SAFETY: pointers and counts are those of slices.
     unsafe { fk_read_model(model.as_ptr(), model.len(), told.as_mut_ptr(), told.len()) }
 }
 
-/// Reads a table. The result is 0 to 4; told are start and end of the part
-/// refused.
+/// Reads a table. The result is 0 or the number of its refusal; told are start and
+/// end of the part refused.
 pub fn read_table(table: &[u8], told: &mut [usize]) -> u32 {
     // SAFETY: pointers and counts are those of slices.
     unsafe { fk_read_table(table.as_ptr(), table.len(), told.as_mut_ptr(), told.len()) }
 }
 
-/// Writes the table made from a model to the start of `output`. The result is 0
-/// to 8; told are start and end of the part refused, and the bytes written.
-/// Where it is refused, `output` stays as it was.
+/// Writes the table made from a model to the start of `output`. The result is 0,
+/// the number of the model's refusal, or 8 for too short an output; told are start
+/// and end of the part refused, and the bytes written. Where it is refused,
+/// `output` stays as it was.
 pub fn translate(model: &[u8], output: &mut [u8], told: &mut [usize]) -> u32 {
     // SAFETY: pointers and counts are those of slices.
     unsafe {
@@ -187,9 +189,10 @@ pub fn translate(model: &[u8], output: &mut [u8], told: &mut [usize]) -> u32 {
     }
 }
 
-/// Tells how long the table of a model is, without making it. The result is 0 to
-/// 7; told are start and end of the part refused, then the table's bytes, rules,
-/// clauses, atoms and updates, all 0 where the model is refused.
+/// Tells how long the table of a model is, without making it. The result is 0 or
+/// the number of the model's refusal; told are start and end of the part refused,
+/// then the table's bytes, rules, clauses, atoms and updates, all 0 where the model
+/// is refused.
 pub fn table_size(model: &[u8], told: &mut [usize]) -> u32 {
     // SAFETY: pointers and counts are those of slices.
     unsafe { fk_table_size(model.as_ptr(), model.len(), told.as_mut_ptr(), told.len()) }
@@ -371,9 +374,9 @@ pub fn state_words() -> usize {
     unsafe { fk_state_words() }
 }
 
-/// Reads a model into `words`. The result is 0, or the model's refusal, 1 to 7, or
-/// 8 for fewer words than a model takes; any but 0 leaves the words as they were.
-/// Told are start and end of the part refused.
+/// Reads a model into `words`. The result is 0, or the number of the model's
+/// refusal, or 8 for fewer words than a model takes; any but 0 leaves the words as
+/// they were. Told are start and end of the part refused.
 pub fn model_read(model: &[u8], words: &mut [u32], told: &mut [usize]) -> u32 {
     // SAFETY: pointers and counts are those of slices.
     unsafe {

@@ -8,7 +8,7 @@ pub enum Holder {
     Script,
 }
 
-/// A refusal by its number in document 01.
+/// A refusal by its number in documents 01 and 02.
 #[derive(Clone, Copy, Debug, PartialEq, Eq)]
 pub struct Meaning {
     pub number: u32,
@@ -31,8 +31,8 @@ const fn meaning(
     }
 }
 
-/// All refusals. The first bad record decides, and of several causes the one
-/// that stands first here.
+/// All refusals, in the order of causes and not of numbers: the first bad record
+/// decides, and of several causes the one that stands first here.
 pub const MEANINGS: &[Meaning] = &[
     meaning(
         1,
@@ -53,10 +53,22 @@ pub const MEANINGS: &[Meaning] = &[
         "leave items out until the limit is kept",
     ),
     meaning(
+        14,
+        Holder::Model,
+        "a field names an item, mode or variable that is not there",
+        "name one that is there: all are numbered from 0, and an item stands before what names it",
+    ),
+    meaning(
+        15,
+        Holder::Model,
+        "a thread's Period, Deadline, Min or Max is out of bounds",
+        "let Deadline be from 1 to Period, Min from 1 to Max, Period and Max at most 1,000,000",
+    ),
+    meaning(
         4,
         Holder::Model,
-        "a field outside its range, or naming nothing",
-        "change the field; owners, ports, modes and masks must exist",
+        "a mask, tag, op or other field is outside its range",
+        "change the field; a mask may hold only modes that are there",
     ),
     meaning(
         5,

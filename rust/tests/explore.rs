@@ -65,7 +65,10 @@ fn a_file_that_is_no_model_is_refused() {
     let output = explore(&[&script]);
     assert_eq!(output.status.code(), Some(1));
     let problem = String::from_utf8_lossy(&output.stderr);
-    assert!(problem.contains("refused 4 at bytes 0 to 3: "), "{problem}");
+    assert!(
+        problem.contains("refused 14 at bytes 0 to 3: "),
+        "{problem}"
+    );
     assert_eq!(explore(&["no such file"]).status.code(), Some(1));
     assert_eq!(explore(&[&script, "deep"]).status.code(), Some(1));
 }

@@ -56,8 +56,37 @@ fn read_model_tells_the_part() {
     tells(&[3, 23], 2, |told| {
         raw::read_model(&[&M[..3], &[0x20], &M[4..]].concat(), told)
     });
-    tells(&[0, 3], 4, |told| raw::read_model(&[0x01, 9, 0], told));
     tells(&[0, 20], 2, |told| raw::read_model(&M[3..], told));
+}
+
+/// Names come before times, and both before all other fields; a head's initial mode
+/// is held against the count as written.
+#[test]
+fn read_model_tells_faults_of_fields() {
+    let head = |modes: u8, initial: u8| [0x01, modes, initial];
+    for (modes, initial, number) in [(9, 0, 4), (9, 8, 4), (9, 9, 14), (0, 0, 14), (8, 8, 14)] {
+        tells(&[0, 3], number, |told| {
+            raw::read_model(&head(modes, initial), told)
+        });
+    }
+    // Deadline 6 over Period 5, beside it a mode that is not there, then that alone.
+    let thread = |deadline: u8, mask: u8| {
+        let mut model = M.to_vec();
+        (model[8], model[20]) = (deadline, mask);
+        model
+    };
+    for (deadline, mask, number) in [(6, 1, 15), (6, 2, 15), (5, 2, 4), (5, 1, 0)] {
+        let part = if number == 0 { [0, 0] } else { [3, 23] };
+        tells(&part, number, |told| {
+            raw::read_model(&thread(deadline, mask), told)
+        });
+    }
+    let behaviour = |thread: u8, state: u8| [M, &[0x08, thread, state, 0]].concat();
+    for (thread, state, number) in [(1, 0, 14), (1, 8, 14), (0, 8, 4)] {
+        tells(&[23, 27], number, |told| {
+            raw::read_model(&behaviour(thread, state), told)
+        });
+    }
 }
 
 #[test]
@@ -69,9 +98,21 @@ fn read_table_tells_the_part() {
     tells(&[7, 8], 2, |told| {
         raw::read_table(&[&table[..7], &[0x22, 0x22]].concat(), told)
     });
-    tells(&[0, 7], 4, |told| {
-        raw::read_table(&[0x20, 0, 0, 1, 0, 0, 0], told)
-    });
+}
+
+/// A variable that is not there comes before one that does not rise or is the clock.
+#[test]
+fn read_table_tells_faults_of_fields() {
+    let start = |variable: u16| [&[0x20][..], &variable.to_le_bytes(), &[1, 0, 0, 0]].concat();
+    for (variable, number) in [(0, 4), (288, 14), (65_535, 14)] {
+        tells(&[0, 7], number, |told| {
+            raw::read_table(&start(variable), told)
+        });
+    }
+    for (variable, number) in [(287, 4), (288, 14)] {
+        let table = [start(287), start(variable)].concat();
+        tells(&[7, 14], number, |told| raw::read_table(&table, told));
+    }
 }
 
 #[test]
@@ -131,9 +172,9 @@ fn table_size_tells_the_part_and_the_counts() {
     tells(&starts, 0, |told| raw::table_size(&M[..3], told));
 }
 
-/// A model for each refusal by its number, and where its last record begins, which
-/// is the one refused.
-fn refused_models() -> [(Vec<u8>, usize); 7] {
+/// Each refusal of a model by its number, a model for it, and where its last record
+/// begins, which is the one refused.
+fn refused_models() -> [(u32, Vec<u8>, usize); 9] {
     let m = |more: &[u8]| [M, more].concat();
     let critical = |period: u32| {
         let ones = [1, 0, 0, 0].repeat(3);
@@ -146,13 +187,15 @@ fn refused_models() -> [(Vec<u8>, usize); 7] {
     ];
     let long = [critical(999_999), critical(1_000_000)].concat();
     [
-        (M[..22].to_vec(), 3),
-        (m(&[0x01, 1, 0]), 23),
-        (m(&[0x07, 0, 0].repeat(17)), 71),
-        (m(&[0x03, 1]), 23),
-        (m(&[&M[3..], &guarded].concat()), 53),
-        (m(&connected), 32),
-        ([&M[..3], &long, &[0x07, 0, 0]].concat(), 43),
+        (1, M[..22].to_vec(), 3),
+        (2, m(&[0x01, 1, 0]), 23),
+        (3, m(&[0x07, 0, 0].repeat(17)), 71),
+        (14, m(&[0x03, 1]), 23),
+        (15, [&M[..3], &critical(0)].concat(), 3),
+        (4, m(&[0x08, 0, 8, 0]), 23),
+        (5, m(&[&M[3..], &guarded].concat()), 53),
+        (6, m(&connected), 32),
+        (7, [&M[..3], &long, &[0x07, 0, 0]].concat(), 43),
     ]
 }
 
@@ -160,11 +203,11 @@ fn refused_models() -> [(Vec<u8>, usize); 7] {
 /// which the room counts last.
 #[test]
 fn table_size_of_refused_models() {
-    for ((model, start), number) in refused_models().iter().zip(1..) {
-        let part = [*start, model.len(), 0, 0, 0, 0, 0];
-        tells(&part, number, |told| raw::table_size(model, told));
+    for (number, model, start) in refused_models() {
+        let part = [start, model.len(), 0, 0, 0, 0, 0];
+        tells(&part, number, |told| raw::table_size(&model, told));
         tells(&part[..3], number, |told| {
-            raw::translate(model, &mut [], told)
+            raw::translate(&model, &mut [], told)
         });
     }
     tells(&[0; MOST_TOLD], 2, |told| raw::table_size(&[], told));
@@ -373,7 +416,7 @@ fn model_after_shows_the_state() {
 
 #[test]
 fn a_refused_model_shows_nothing() {
-    for (model, number) in [(&M[..9], 1), (&[][..], 2), (&[0x01, 0, 0][..], 4)] {
+    for (model, number) in [(&M[..9], 1), (&[][..], 2), (&[0x01, 0, 0][..], 14)] {
         let (result, variables) =
             on_variables(|variables| raw::model_after(model, SCRIPT, &[], variables));
         assert_eq!(result, number);

@@ -10,7 +10,7 @@ use common::{
     counted, table_of_m, BUFFER, BYTE, DUE, INPUT, LESSON, LISTING, M, NOW, SCRIPT, SIZE_OF_M,
     STATE,
 };
-use futonkestrel::refusals::{meaning_of, Holder, MEANINGS};
+use futonkestrel::refusals::{meaning_of, Holder, Meaning, MEANINGS};
 use futonkestrel::{
     event_length, events, model_after, model_listing, model_listing_into, read_model, read_table,
     run_model, run_table, table_listing, table_listing_into, table_size, translate,
@@ -31,6 +31,22 @@ fn reading() {
     assert_eq!(read_table(&table), Ok(()));
     assert_eq!(read_table(&[]), Ok(()));
     assert_eq!(read_table(M), refused(2, 0, M.len()));
+}
+
+/// A port of a thread that is not there, a Min of 0, a state above 7; and in a table a
+/// variable that is not there, and the clock started.
+#[test]
+fn faults_of_fields() {
+    let nobodys = [M, &[0x03, 1]].concat();
+    assert_eq!(read_model(&nobodys), refused(14, 23, 25));
+    let mut no_time = M.to_vec();
+    no_time[12] = 0;
+    assert_eq!(read_model(&no_time), refused(15, 3, 23));
+    let no_state = [M, &[0x08, 0, 0, 8]].concat();
+    assert_eq!(read_model(&no_state), refused(4, 23, 27));
+    let start = |low: u8, high: u8| [0x20, low, high, 1, 0, 0, 0];
+    assert_eq!(read_table(&start(32, 1)), refused(14, 0, 7));
+    assert_eq!(read_table(&start(0, 0)), refused(4, 0, 7));
 }
 
 #[test]
@@ -67,7 +83,7 @@ fn size_before_translation() {
         assert_eq!(table_size(&model), made, "{model:02x?}");
         met.insert(made.map_or_else(|refusal| refusal.number, |_| 0));
     }
-    assert_eq!(met, BTreeSet::from([0, 1, 2, 4, 5, 6]));
+    assert_eq!(met, BTreeSet::from([0, 1, 2, 4, 5, 6, 14, 15]));
 }
 
 /// Just as many bytes are room for the table, and one less is too short.
@@ -299,26 +315,35 @@ fn a_refusal_in_words() {
     assert_eq!(refusal.holder(), Holder::Model);
 }
 
-/// Every number has a meaning of its own, in the order of the numbers.
+/// Every number has a meaning of its own, in the order of causes.
 #[test]
 fn meanings() {
+    let in_model = [1, 2, 3, 14, 15, 4, 5, 6, 7, 8];
+    let in_script = [9, 10, 11, 12, 13];
     let numbers: Vec<u32> = MEANINGS.iter().map(|meaning| meaning.number).collect();
-    assert_eq!(numbers, (1..=13).collect::<Vec<u32>>());
+    assert_eq!(numbers, [&in_model[..], &in_script].concat());
     for meaning in MEANINGS {
         assert!(!meaning.cause.is_empty() && !meaning.remedy.is_empty());
-        let in_script = meaning.holder == Holder::Script;
-        assert_eq!(in_script, meaning.number >= 9);
+        let of_script = meaning.holder == Holder::Script;
+        assert_eq!(of_script, in_script.contains(&meaning.number));
         assert_eq!(meaning_of(meaning.number), Some(meaning));
     }
     assert_eq!(meaning_of(0), None);
 }
 
-/// The table of refusals in README has the same causes.
+/// The table of refusals in README has the same causes in the same order.
 #[test]
 fn causes_in_readme() {
-    let readme = include_str!("../../README.md");
+    let mut readme = include_str!("../../README.md");
     for meaning in MEANINGS {
-        let row = format!("| {} | {} | ", meaning.number, meaning.cause);
-        assert!(readme.contains(&row), "{row}");
+        let Meaning { number, cause, .. } = meaning;
+        let row = match meaning.holder {
+            Holder::Model => format!("\n| {number} | model"),
+            Holder::Script => format!("\n| {number} | script"),
+        };
+        let at = readme.find(&row).unwrap_or_else(|| panic!("no {row}"));
+        readme = &readme[at + 1..];
+        let line = readme.lines().next().unwrap_or("");
+        assert!(line.contains(&format!(" | {cause} | ")), "{line}");
     }
 }

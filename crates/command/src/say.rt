@@ -1,6 +1,8 @@
 // What the programs tell on standard error.
 
 use libc::STDERR_FILENO;
+ghost use mathlib.Core.Path.{_≡_};
+ghost use Rattle.command.specs.Shows.{isOfEvent};
 
 // Of a long record as many bytes are told.
 const MOST_TOLD: usize = 64;
@@ -60,11 +62,22 @@ pub fn tell_refused(name: &[u8], number: usize, start: usize, end: usize, part: 
     say(b"\n");
 }
 
-// The part of 1 to 8 lies in the first file, the model or table, that of 9 to 13 in the script.
+// The refusals of events, by their numbers: from that of a broken event to that of updates that contradict each other.
+const FIRST_OF_EVENTS: usize = 9;
+
+const LAST_OF_EVENTS: usize = 13;
+
+fn is_of_event(number: usize) -> bool
+    ensures { λ r. ⌜ r ≡ isOfEvent number ⌝ }
+{
+    (FIRST_OF_EVENTS <= number) & (number <= LAST_OF_EVENTS)
+}
+
+// The part of a refused event lies in the script, that of all else in the first file, the model or table.
 fn say_holder(name: &[u8], number: usize) {
-    if number < 9 {
-        say_name(1, name);
-    } else {
+    if is_of_event(number) {
         say_name(2, b"script.bin");
+    } else {
+        say_name(1, name);
     }
 }

@@ -31,7 +31,6 @@ use records::LAST_CLOCK;
 use records::Operand;
 ghost use mathlib.Core.Path.{_≡_};
 ghost use mathlib.Core.Bool.{true, cond};
-ghost use Rattle.model_format.specs.Model as model;
 ghost use Rattle.model_format.specs.Reading as reading;
 ghost use Rattle.model_faults.specs.Causes as causes;
 ghost use Rattle.model_faults.specs.Laws as laws;
@@ -219,7 +218,7 @@ pub fn same_target(one: Assignment, other: Assignment) -> bool
     (one_tag == other_tag) & (one_number == other_number)
 }
 
-// The first fault, in the order of the causes' numbers.
+// The first fault, in the order of the causes.
 fn judged(faults: Faults) -> Cause
     ensures { λ r. ⌜ r ≡ reading.judged faults ⌝ }
 {
@@ -230,10 +229,10 @@ fn judged(faults: Faults) -> Cause
         return Cause::TooMany;
     }
     if faults.names {
-        return Cause::WrongField;
+        return Cause::NamesNothing;
     }
     if faults.times {
-        return Cause::WrongField;
+        return Cause::FaultyTime;
     }
     if faults.ranges {
         return Cause::WrongField;

@@ -8,7 +8,7 @@ use borrow.Author.Tests.{ltb-true, leb-true, eqb-true, lt-ltb, le-ltb}
 use lib.Dec.{eqb, ltb, leb}
 use Rattle.numbers.specs.Lists.{anyBelow}
 use Rattle.records.specs.declared.Cause.{Cause}
-use Rattle.records.specs.declared.Cause.the-variants.{None, WrongKind, TooMany, WrongField, OtherThread, SetTwice, LongHyperperiod}
+use Rattle.records.specs.declared.Cause.the-variants.{None, WrongKind, TooMany, WrongField, OtherThread, SetTwice, LongHyperperiod, NamesNothing, FaultyTime}
 use Rattle.records.specs.Refusals.{numberOf, isNone}
 use Rattle.model_format.specs.declared.Faults.{Faults}
 use Rattle.model_format.specs.Reading.{inOrder, judged}
@@ -52,8 +52,8 @@ unfolding judged numberOf
 faultless f h =
     let c1 = passed (f .order) WrongKind _ refl h in
     let c2 = passed (f .excess) TooMany _ refl (c1 .1) in
-    let c3 = passed (f .names) WrongField _ refl (c2 .1) in
-    let c4 = passed (f .times) WrongField _ refl (c3 .1) in
+    let c3 = passed (f .names) NamesNothing _ refl (c2 .1) in
+    let c4 = passed (f .times) FaultyTime _ refl (c3 .1) in
     let c5 = passed (f .ranges) WrongField _ refl (c4 .1) in
     let c6 = passed (f .owner) OtherThread _ refl (c5 .1) in
     let c7 = passed (f .twice) SetTwice _ refl (c6 .1) in

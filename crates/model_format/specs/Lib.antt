@@ -11,3 +11,4 @@ pub mod TimingSteps
 pub mod BehaviorSteps
 pub mod Accepted
 pub mod SameRecords
+pub mod FieldFaults

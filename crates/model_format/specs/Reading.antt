@@ -1,4 +1,4 @@
--- Reading a model: causes 1 to 7, at the first bad record.
+-- Reading a model: causes 1 to 7, 14 and 15, at the first bad record.
 use mathlib.Core.Bool.{Bool, true, false, cond, _&&_, _||_, not}
 use mathlib.Core.List.{List, [], _∷_}
 use Prim.Native.Nat.{ℕ, _+_, _*_, _^_, _-_}
@@ -9,7 +9,7 @@ use Rattle.numbers.specs.Values.{duration, bitsOf}
 use Rattle.records.specs.declared.Notation.the-variants as notations
 use Rattle.records.specs.declared.Operand.{Operand}
 use Rattle.records.specs.declared.Cause.{Cause}
-use Rattle.records.specs.declared.Cause.the-variants.{None, CutRecord, WrongKind, TooMany, WrongField, OtherThread, SetTwice, LongHyperperiod}
+use Rattle.records.specs.declared.Cause.the-variants.{None, CutRecord, WrongKind, TooMany, WrongField, OtherThread, SetTwice, LongHyperperiod, NamesNothing, FaultyTime}
 use Rattle.records.specs.Format.{parts}
 use Rattle.records.specs.Refusals.{isNone, inModel, noRefusal}
 use Rattle.records.specs.Events.{lastClock}
@@ -145,13 +145,13 @@ assignmentFaults order m t count a =
     (not (isOwnedBy (m .timing) t (a .tag) (a .number) && (operandOwned (m .timing) t (a .first) && operandOwned (m .timing) t (a .second))))
     (isAssigned (m .behavior) a) false
 
--- "The first bad record decides, causes in table order"
+-- "The first bad record decides, causes in table order"; "14, 15, then 4 stand in the old place of 4"
 unfoldable pub judged : Faults → Cause
 judged f =
     cond (f .order) WrongKind
     (cond (f .excess) TooMany
-    (cond (f .names) WrongField
-    (cond (f .times) WrongField
+    (cond (f .names) NamesNothing
+    (cond (f .times) FaultyTime
     (cond (f .ranges) WrongField
     (cond (f .owner) OtherThread
     (cond (f .twice) SetTwice

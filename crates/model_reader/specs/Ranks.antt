@@ -32,8 +32,18 @@ pub rank-other : (k : ℕ) → (k ≡ modelWrittenInput → ⊥) → k ≡ rankO
 unfolding rankOfKind
 rank-other k h = rw (ne-eqb k modelWrittenInput h)
 
+-- ---- sizes
+pub sized : (k j n : ℕ) → k ≡ j → n ≡ recordSize notations.Model j → n ≡ recordSize notations.Model k
+sized k j n e f = rw e f
+
+-- what is of none of the kinds has no size
+pub size-none : (k : ℕ) → (k ≡ 1 → ⊥) → (k ≡ 2 → ⊥) → (k ≡ 3 → ⊥) → (k ≡ 11 → ⊥) → (k ≡ 4 → ⊥) → (k ≡ 5 → ⊥) → (k ≡ 6 → ⊥) → (k ≡ 7 → ⊥) → (k ≡ 8 → ⊥) → (k ≡ 9 → ⊥) → (k ≡ 10 → ⊥) → recordSize notations.Model k ≡ 0
+unfolding recordSize
+size-none k a b c n d f g i j l m = rw (ne-eqb k 1 a, ne-eqb k 2 b, ne-eqb k 3 c, ne-eqb k 4 d, ne-eqb k 5 f, ne-eqb k 6 g, ne-eqb k 7 i, ne-eqb k 8 j, ne-eqb k 9 l, ne-eqb k 10 m, ne-eqb k 11 n)
+
+-- ---- ranks
 rank-of-whole : (k : ℕ) (x : List ℕ) → (recordSize notations.Model k ≡ 0 → ⊥) → rankOfKind k ≡ rankOf (recordOfWhole k x)
-unfolding rankOf recordSize rankOfKind
+unfolding rankOf rankOfKind
 rank-of-whole k x h = one (ℕ-discrete k 1) (ℕ-discrete k 2) (ℕ-discrete k 3) (ℕ-discrete k 4) (ℕ-discrete k 5) (ℕ-discrete k 6) (ℕ-discrete k 7) (ℕ-discrete k 8) (ℕ-discrete k 9) (ℕ-discrete k 10) (ℕ-discrete k 11)
   where
     one : Dec (k ≡ 1) → Dec (k ≡ 2) → Dec (k ≡ 3) → Dec (k ≡ 4) → Dec (k ≡ 5) → Dec (k ≡ 6) → Dec (k ≡ 7) → Dec (k ≡ 8) → Dec (k ≡ 9) → Dec (k ≡ 10) → Dec (k ≡ 11) → rankOfKind k ≡ rankOf (recordOfWhole k x)
@@ -48,8 +58,7 @@ rank-of-whole k x h = one (ℕ-discrete k 1) (ℕ-discrete k 2) (ℕ-discrete k 
     one (no a) (no b) (no c) (no d) (no f) (no g) (no i) (no j) (yes e) m n = rw e
     one (no a) (no b) (no c) (no d) (no f) (no g) (no i) (no j) (no l) (yes e) n = rw e
     one (no a) (no b) (no c) (no d) (no f) (no g) (no i) (no j) (no l) (no m) (yes e) = rw e
-    one (no a) (no b) (no c) (no d) (no f) (no g) (no i) (no j) (no l) (no m) (no n) =
-        absurd (h (rw (ne-eqb k 1 a, ne-eqb k 2 b, ne-eqb k 3 c, ne-eqb k 4 d, ne-eqb k 5 f, ne-eqb k 6 g, ne-eqb k 7 i, ne-eqb k 8 j, ne-eqb k 9 l, ne-eqb k 10 m, ne-eqb k 11 n)))
+    one (no a) (no b) (no c) (no d) (no f) (no g) (no i) (no j) (no l) (no m) (no n) = absurd (h (size-none k a b c n d f g i j l m))
 
 no-cause-unknown : (a : Reading) → isNone (causeOf a Unknown) ≡ true → ⊥
 unfolding causeOf numberOf
@@ -70,22 +79,7 @@ rank-of-part a x k e h = go (ℕ-discrete m 0) (decLt (length x) m)
     go (no z) (yes l) = absurd (no-cause-cut a (rw (← record-cut x k m e refl z l) at h))
     go (no z) (no l) = rank-of-whole k x z ∙ ap rankOf (record-whole x k m e refl z (omega arith))
 
--- ---- sizes
-pub sized : (k j n : ℕ) → k ≡ j → n ≡ recordSize notations.Model j → n ≡ recordSize notations.Model k
-sized k j n e f = rw e f
-
--- what is none of the other kinds
-pub sized-last : (k : ℕ) → (k ≡ 1 → ⊥) → (k ≡ 2 → ⊥) → (k ≡ 3 → ⊥) → (k ≡ 11 → ⊥) → (k ≡ 4 → ⊥) → (k ≡ 5 → ⊥) → (k ≡ 6 → ⊥) → (k ≡ 7 → ⊥) → (k ≡ 8 → ⊥) → (k ≡ 9 → ⊥) → 0 < recordSize notations.Model k → 14 ≡ recordSize notations.Model k
-unfolding recordSize
-sized-last k a b c n d f g i j l h = go (ℕ-discrete k 10)
-  where
-    go : Dec (k ≡ 10) → 14 ≡ recordSize notations.Model k
-    go (yes e) = rw e
-    go (no m) =
-        let z : recordSize notations.Model k ≡ 0 = rw (ne-eqb k 1 a, ne-eqb k 2 b, ne-eqb k 3 c, ne-eqb k 4 d, ne-eqb k 5 f, ne-eqb k 6 g, ne-eqb k 7 i, ne-eqb k 8 j, ne-eqb k 9 l, ne-eqb k 10 m, ne-eqb k 11 n) in
-        absurd (omega (arith, z, h))
-
--- the code's &x[..n], where n is the size of the record x
+-- ---- the code's &x[..n], where n is the size of the record x
 module _ (x : List ℕ) (k n : ℕ) (h : length x ≡ recordSize notations.Model k) (e : n ≡ recordSize notations.Model k) where
   pub cut-length : n ≡ length (take n x)
   cut-length = let w = h ∙ sym e in sym (length-take-le n x (omega arith))

@@ -7,14 +7,19 @@ use lib.ListN.{length, drop}
 use lib.Dec.{ltb}
 use Rattle.records.specs.declared.Refusal.{Refusal}
 use Rattle.records.specs.declared.Cause.the-variants.{ShortOutput}
-use Rattle.records.specs.Refusals.{inModel}
+use Rattle.records.specs.Refusals.{isNone, inModel}
 use Rattle.model_format.specs.declared.ModelRead.{ModelRead}
+use Rattle.model_format.specs.Model.{emptyModel}
 use Rattle.model_format.specs.Reading.{readModel}
 use Rattle.model_words.specs.Words.{modelWords, modelIn}
 
 -- what reading gave, with the list that holds the model
 abbrev pub readAs : Refusal → List ℕ → ModelRead
 readAs r l = record { refusal = r; model = modelIn l }
+
+-- the same where the list of a refused model has the records before the bad one
+abbrev pub readWith : Refusal → List ℕ → ModelRead
+readWith r l = record { refusal = r; model = cond (isNone (r .cause)) (modelIn l) emptyModel }
 
 -- "8 .. output too small", at the end of the model; else what is wrong with the model
 unfoldable pub readRefusal : List ℕ → List ℕ → Refusal

@@ -1,7 +1,7 @@
 -- Reading a model record by record: what is read from a place on.
 use mathlib.Core.Path.{_≡_, refl, sym, _∙_, ap, subst}
 use mathlib.Core.Bool.{Bool, true, false, cond}
-use mathlib.Core.List.{List, [], _++_, append-nil}
+use mathlib.Core.List.{List, _++_, append-nil}
 use Prim.Native.Nat.{ℕ, _+_, _-_, _<_, _≤_}
 use native.Mathlib.Omega.{arith}
 use lib.ListN.{length, take, drop, getD, length-drop, drop-of-length-le}
@@ -24,7 +24,7 @@ use Rattle.model_format.specs.Model.{emptyModel}
 use Rattle.model_format.specs.Reading.{nextReading, readFrom, readModel}
 use Rattle.model_words.specs.Words.{modelWords, modelIn}
 use Rattle.model_causes.specs.Readings.{readingIn}
-use Rattle.model_reader.specs.Reads.{readAs}
+use Rattle.model_reader.specs.Reads.{readAs, readWith}
 use Rattle.model_takes.specs.Took.{taken, Took}
 use Rattle.model_takes.specs.Taken.{took-as, took-unknown, took-cut}
 use Rattle.model_reader.specs.Places.{endAt, recordAt, record-slice, kind-slice, end-unknown, end-cut, end-whole}
@@ -50,10 +50,6 @@ module _ (l : List ℕ) (h : length l ≡ modelWords) where
       let a : take modelWords l ≡ l = take-all modelWords l (omega arith) in
       let b : k ++ drop modelWords l ≡ k = ap (λ (d : List ℕ). k ++ d) (drop-of-length-le l {i = modelWords} (omega arith)) ∙ append-nil k in
       subst (λ (x : List ℕ). Took last l r c x) (sym b) (subst (λ (x : List ℕ). Took last x r c k) a t)
-
--- the same where a list that stands for a refused model is not yet clear again
-abbrev pub readWith : Refusal → List ℕ → ModelRead
-readWith r l = record { refusal = r; model = cond (isNone (r .cause)) (modelIn l) emptyModel }
 
 pub read-begin : (s l : List ℕ) → modelIn l ≡ emptyModel → readAt s 0 (readingIn 0 l) ≡ readModel s
 unfolding readModel

@@ -21,7 +21,6 @@ ghost use Rattle.model_format.specs.Reading as reading;
 ghost use Rattle.model_words.specs.Words as words;
 ghost use Rattle.model_reader.specs.Reads as into;
 ghost use Rattle.model_reader.specs.Ranks.{rankOfKind};
-ghost use Rattle.model_reader.specs.Walk.{readWith};
 
 // The rank of records of a kind.
 fn rank_of(kind: u8) -> u8
@@ -48,9 +47,9 @@ fn refused(cause: Cause, start: usize, end: usize) -> Refusal
 
 // The records of a model, into a list that is clear, up to the first that is refused. There the list has those before it. Its length is said as a constant,
 // so that no number of it is tested for being there.
-fn read_records(bytes: &[u8], model: &mut [u32]) -> Refusal
+pub fn read_records(bytes: &[u8], model: &mut [u32]) -> Refusal
     requires { ⌜ (length (now model) ≡ words.modelWords) × (words.modelIn (now model) ≡ emptyModel) ⌝ }
-    ensures { λ r. ⌜ readWith r (now (model .exit)) ≡ reading.readModel (now (bytes .entry)) ⌝ }
+    ensures { λ r. ⌜ into.readWith r (now (model .exit)) ≡ reading.readModel (now (bytes .entry)) ⌝ }
 {
     let mut last: u8 = 0;
     let mut at: usize = 0;

@@ -21,6 +21,7 @@ use model_takes::take_thread;
 use model_takes::take_transition;
 use numbers::byte_at;
 use records::Cause;
+use records::MODEL_ASSIGNMENT;
 use records::MODEL_ASSIGNMENT_SIZE;
 use records::MODEL_ATOM;
 use records::MODEL_ATOM_SIZE;
@@ -51,7 +52,8 @@ ghost use Rattle.model_words.specs.Words as words;
 ghost use Rattle.model_takes.specs.Took.{Took};
 
 // A record that has the whole of its body: adds it to the model, or tells why it is refused. The part is as long as its kind fixes; cut to that number, which
-// is a constant, it has no byte that must be looked for.
+// is a constant, it has no byte that must be looked for. A part of no kind is empty and does not come here; with an arm for each of the eleven kinds the
+// compiler sees that, and does not test the kind again.
 pub fn take_whole(model: &mut [u32], last: u8, kind: u8, part: &[u8]) -> Cause
     requires { ⌜ words.modelWords ≤ length (now model) ⌝ }
     requires { ⌜ (length (now part) ≡ recordSize notations.Model kind) × (0 < length (now part)) ⌝ }
@@ -76,6 +78,11 @@ pub fn take_whole(model: &mut [u32], last: u8, kind: u8, part: &[u8]) -> Cause
             transition_of(&part[..MODEL_TRANSITION_SIZE]),
         ),
         MODEL_ATOM => take_atom(model, last, atom_of(&part[..MODEL_ATOM_SIZE])),
-        _ => take_assignment(model, last, assignment_of(&part[..MODEL_ASSIGNMENT_SIZE])),
+        MODEL_ASSIGNMENT => take_assignment(
+            model,
+            last,
+            assignment_of(&part[..MODEL_ASSIGNMENT_SIZE]),
+        ),
+        _ => Cause::WrongKind,
     }
 }

@@ -1,16 +1,16 @@
 -- The refusals: their numbers, and the part that each hands back.
-use mathlib.Core.Bool.{Bool}
+use mathlib.Core.Bool.{Bool, _||_}
 use mathlib.Core.List.{List}
 use Prim.Native.Nat.{ℕ, _-_}
 use lib.ListN.{take, drop}
 use lib.Dec.{eqb}
 use Rattle.records.specs.declared.Cause.{Cause}
-use Rattle.records.specs.declared.Cause.the-variants.{None, CutRecord, WrongKind, TooMany, WrongField, OtherThread, SetTwice, LongHyperperiod, ShortOutput, BrokenEvent, NotEnabled, LastClock, ConflictingRules, InconsistentUpdates}
+use Rattle.records.specs.declared.Cause.the-variants.{None, CutRecord, WrongKind, TooMany, WrongField, OtherThread, SetTwice, LongHyperperiod, ShortOutput, BrokenEvent, NotEnabled, LastClock, ConflictingRules, InconsistentUpdates, NamesNothing, FaultyTime}
 use Rattle.records.specs.declared.Holder.{Holder}
 use Rattle.records.specs.declared.Holder.the-variants as holders
 use Rattle.records.specs.declared.Refusal.{Refusal}
 
--- "Refused records": the number of each cause; 0 where nothing is refused
+-- "Refused records", and document 02's "14 names nothing, 15 faulty time": the number of each cause; 0 where nothing is refused
 unfoldable pub numberOf : Cause → ℕ
 numberOf None = 0
 numberOf CutRecord = 1
@@ -26,10 +26,16 @@ numberOf NotEnabled = 10
 numberOf LastClock = 11
 numberOf ConflictingRules = 12
 numberOf InconsistentUpdates = 13
+numberOf NamesNothing = 14
+numberOf FaultyTime = 15
 
 -- nothing is refused
 abbrev pub isNone : Cause → Bool
 isNone c = eqb (numberOf c) 0
+
+-- a field of a record is at fault: "14, 15, then 4 stand in the old place of 4"
+unfoldable pub isFieldFault : Cause → Bool
+isFieldFault c = eqb (numberOf c) 14 || (eqb (numberOf c) 15 || eqb (numberOf c) 4)
 
 abbrev pub inModel : Cause → ℕ → ℕ → Refusal
 inModel c p q = record { cause = c; holder = holders.Model; start = p; end = q }

@@ -76,6 +76,8 @@ pub enum Cause {
     LastClock,
     ConflictingRules,
     InconsistentUpdates,
+    NamesNothing,
+    FaultyTime,
 }
 
 // Which of the two lent slices holds the part handed back. A table stands for its model.
@@ -237,6 +239,8 @@ pub fn number_of(cause: Cause) -> u8
         Cause::LastClock => 11,
         Cause::ConflictingRules => 12,
         Cause::InconsistentUpdates => 13,
+        Cause::NamesNothing => 14,
+        Cause::FaultyTime => 15,
     }
 }
 

@@ -45,7 +45,7 @@ openModel n = n
 
 -- all that a table's run rests on
 unfoldable pub openTable : ℕ → ℕ
-unfolding table-format.initialOf table-format.headOf table-format.atomOf table-format.updateOf table-format.recordOf table-format.recordsOf table-format.recordTo table-format.bytesOf table-reading.operandFits table-reading.initialFits table-reading.headFits table-reading.atomFits table-reading.updateFits table-reading.causeOf table-reading.nextContext table-reading.readFrom table-reading.readTable table-table.gather table-table.tableOf table-table.atomsTo table-table.clausesTo table-table.updatesTo table-table.rulesTo table-table.initialTo table-variables.isVariable table-kinds.isOneOf table-machine.begun table-machine.startVariables table-machine.allowsLength table-machine.fire table-machine.isBusy table-machine.ticks table-machine.step table-machine.runTable table-machine.tableStages table-rules.operandValue table-rules.holdsOp table-rules.holds table-rules.clauseHolds table-rules.allHold table-rules.enabledRules table-rules.applies table-rules.writes table-rules.writtenTo table-rules.inconsistent table-rules.written translate-parts.negatedOp translate-parts.stamped translate-parts.rulesOfGroups translate-rules.activateRules translate-rules.deactivateRules translate-rules.immediateInto translate-rules.dispatchRules translate-rules.startRules translate-rules.variableOf translate-rules.operandOf translate-rules.guardClauses translate-rules.negatedGuard translate-rules.assignedExpression translate-rules.assignmentUpdates translate-rules.sentExpression translate-rules.transitionRule translate-rules.defaultRule translate-rules.completeRules translate-rules.deadlineRules translate-rules.missRules translate-rules.requestRules translate-rules.enterRules translate-rules.leaveRules translate-rules.itemsOf translate-rules.timingRules translate-rules.rulesFor translate-rules.groupsFor translate-shown.blocksOf translate-shown.shownIn translate-shown.standsFor translate-translate.initialOf translate-translate.tableFrom translate-translate.translated translate-translate.outputAfter
+unfolding table-format.initialOf table-format.headOf table-format.atomOf table-format.updateOf table-format.recordOf table-format.recordsOf table-format.recordTo table-format.bytesOf table-reading.operandFits table-reading.initialFits table-reading.headFits table-reading.atomFits table-reading.updateFits table-reading.atomNames table-reading.updateNames table-reading.causeOf table-reading.nextContext table-reading.readFrom table-reading.readTable table-table.gather table-table.tableOf table-table.atomsTo table-table.clausesTo table-table.updatesTo table-table.rulesTo table-table.initialTo table-variables.isVariable table-kinds.isOneOf table-machine.begun table-machine.startVariables table-machine.allowsLength table-machine.fire table-machine.isBusy table-machine.ticks table-machine.step table-machine.runTable table-machine.tableStages table-rules.operandValue table-rules.holdsOp table-rules.holds table-rules.clauseHolds table-rules.allHold table-rules.enabledRules table-rules.applies table-rules.writes table-rules.writtenTo table-rules.inconsistent table-rules.written translate-parts.negatedOp translate-parts.stamped translate-parts.rulesOfGroups translate-rules.activateRules translate-rules.deactivateRules translate-rules.immediateInto translate-rules.dispatchRules translate-rules.startRules translate-rules.variableOf translate-rules.operandOf translate-rules.guardClauses translate-rules.negatedGuard translate-rules.assignedExpression translate-rules.assignmentUpdates translate-rules.sentExpression translate-rules.transitionRule translate-rules.defaultRule translate-rules.completeRules translate-rules.deadlineRules translate-rules.missRules translate-rules.requestRules translate-rules.enterRules translate-rules.leaveRules translate-rules.itemsOf translate-rules.timingRules translate-rules.rulesFor translate-rules.groupsFor translate-shown.blocksOf translate-shown.shownIn translate-shown.standsFor translate-translate.initialOf translate-translate.tableFrom translate-translate.translated translate-translate.outputAfter
 openTable n = n
 
 -- all that a listing rests on
@@ -92,6 +92,11 @@ modelCause model = model-reading.readModel model .refusal .cause
 unfoldable pub tableCause : List ℕ → Cause
 unfolding openModel openTable openListing
 tableCause model = table-reading.readTable (translate-translate.tableBytes (model-reading.readModel model .model)) .cause
+
+-- ---- the refusal of a table, whoever made it
+unfoldable pub readCause : List ℕ → Cause
+unfolding openModel openTable openListing
+readCause table = table-reading.readTable table .cause
 
 -- ---- H1 of the first mode transition of a model; and the clauses of its ENTER rule, as its table's bytes are read
 unfoldable pub firstH1 : List ℕ → ℕ

@@ -1,5 +1,5 @@
--- The starred examples of document 01, as a group, and one of written start values (document 02, W2). Those that are runs are proved of the model's
--- run and of the run of its table.
+-- The starred examples of document 01, as a group, one of written start values and some of finer field faults (document 02, W2 and W3). Those that
+-- are runs are proved of the model's run and of the run of its table.
 use mathlib.Core.Path.{_≡_, refl}
 use mathlib.Core.List.{List, [], _∷_, _++_}
 use Prim.Native.Nat.{ℕ}
@@ -9,10 +9,10 @@ use Prim.Native.String.{String}
 use lib.IntN.{negsuc}
 use Rattle.numbers.specs.Values.{u16To, u32To, value, natural, minus}
 use Rattle.numbers.specs.declared.Value.{Value}
-use Rattle.records.specs.declared.Cause.the-variants.{None}
+use Rattle.records.specs.declared.Cause.the-variants.{None, WrongField, NamesNothing, FaultyTime}
 use Rattle.table_format.specs.declared.Atom.{Atom}
 use Rattle.table_format.specs.Variables.{nowVar, phaseVar, pendingVar}
-use Rattle.spec_examples.specs.Evaluate.{steps, rules, modelCause, tableCause, modelLocal, tableLocal, modelPort, tablePort, firstH1, firstEnter, modelAt, tableAt}
+use Rattle.spec_examples.specs.Evaluate.{steps, rules, modelCause, tableCause, readCause, modelLocal, tableLocal, modelPort, tablePort, firstH1, firstEnter, modelAt, tableAt}
 
 -- ---- notation
 abbrev ascii : String → List ℕ
@@ -200,3 +200,50 @@ ports-begin = ((refl, refl), (refl, refl), (refl, refl), (refl, refl), (refl, re
 port-taken : (modelPort offThePage (activate ++ dispatch) 1 ≡ both (value (negsuc 0))) × (tablePort offThePage (activate ++ dispatch) 1 ≡ both (value (negsuc 0)))
 unfolding modelPort tablePort
 port-taken = (refl, refl)
+
+-- ---- "Finer field faults", in models. "the initial mode is held against the mode count as written": head 0, 0; 9, 8; 9, 9.
+heads-refused : (modelCause (1 ∷ 0 ∷ 0 ∷ []) ≡ NamesNothing) × (modelCause (1 ∷ 9 ∷ 8 ∷ []) ≡ WrongField) × (modelCause (1 ∷ 9 ∷ 9 ∷ []) ≡ NamesNothing)
+unfolding modelCause
+heads-refused = (refl, refl, refl)
+
+-- a mark of 2 alone, and with a Deadline above the Period
+times-refused : (modelCause (head ++ thread 5 4 1 5 2) ≡ WrongField) × (modelCause (head ++ thread 5 6 1 5 2) ≡ FaultyTime)
+unfolding modelCause
+times-refused = (refl, refl)
+
+-- a connection of type 2 alone, and to an input port that is not there
+abbrev connected : ℕ → List ℕ
+connected target = M ++ (3 ∷ 0 ∷ []) ++ (4 ∷ 0 ∷ []) ++ (6 ∷ 2 ∷ 0 ∷ target ∷ 1 ∷ [])
+
+connections-refused : (modelCause (connected 0) ≡ WrongField) × (modelCause (connected 1) ≡ NamesNothing)
+unfolding modelCause
+connections-refused = (refl, refl)
+
+-- "a number behind a tag that may not stand there is not looked at": local 9, and 9 behind tag 3, as an operand
+abbrev assigned : ℕ → List ℕ
+assigned tag = M ++ (5 ∷ 0 ∷ u32To 1 []) ++ (8 ∷ 0 ∷ 0 ∷ 0 ∷ []) ++ (10 ∷ 2 ∷ 0 ∷ 0 ∷ tag ∷ u32To 9 (0 ∷ u32To 0 []))
+
+operands-refused : (modelCause (assigned 2) ≡ NamesNothing) × (modelCause (assigned 3) ≡ WrongField)
+unfolding modelCause
+operands-refused = (refl, refl)
+
+-- ---- and in tables. Variable 288 is not there; variable 0 is, and is not started.
+starts-refused : (readCause (32 ∷ u16To 288 (u32To 1 [])) ≡ NamesNothing) × (readCause (32 ∷ u16To 0 (u32To 1 [])) ≡ WrongField)
+unfolding readCause
+starts-refused = (refl, refl)
+
+-- variable 288 on the right of an atom: with op 7 no variable may stand there, with op 8 one may
+abbrev ruleAtom : ℕ → List ℕ
+ruleAtom op = (33 ∷ 1 ∷ 0 ∷ u32To 0 (u32To 0 [])) ++ (34 ∷ []) ++ (35 ∷ op ∷ u16To 1 (1 ∷ u32To 288 []))
+
+atoms-refused : (readCause (ruleAtom 7) ≡ WrongField) × (readCause (ruleAtom 8) ≡ NamesNothing)
+unfolding readCause
+atoms-refused = (refl, refl)
+
+-- 288 behind tags 1 and 2, in an update of a rule for ACTIVATE, where no length is chosen
+abbrev ruleUpdate : ℕ → List ℕ
+ruleUpdate tag = (33 ∷ 1 ∷ 0 ∷ u32To 0 (u32To 0 [])) ++ (36 ∷ u16To 65535 (0 ∷ u16To 1 (0 ∷ tag ∷ u32To 288 (0 ∷ u32To 0 []))))
+
+updates-refused : (readCause (ruleUpdate 1) ≡ NamesNothing) × (readCause (ruleUpdate 2) ≡ WrongField)
+unfolding readCause
+updates-refused = (refl, refl)

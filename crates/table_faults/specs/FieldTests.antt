@@ -1,5 +1,5 @@
 -- What the tests of fields tell: one law for each way in which the code returns.
-use mathlib.Core.Path.{_≡_}
+use mathlib.Core.Path.{_≡_, sym, _∙_}
 use mathlib.Core.Bool.{Bool, true, false, _&&_}
 use Prim.Native.Nat.{ℕ, _<_, _≤_}
 use lib.Dec.{eqb, ltb}
@@ -7,10 +7,11 @@ use lib.IntN.{ℤ, pos}
 use lib.Signed.{ltZ, leZ}
 use borrow.Author.Tests.{ne-eqb, lt-ltb, le-ltb}
 use Rattle.numbers.specs.Values.{bitsOf}
+use Rattle.records.specs.declared.Cause.{Cause}
 use Rattle.records.specs.declared.Operand.{Operand}
 use Rattle.table_format.specs.declared.Atom.{Atom}
 use Rattle.table_format.specs.Variables.{isVariable}
-use Rattle.table_format.specs.Reading.{operandFits, atomFits, namesVariable}
+use Rattle.table_format.specs.Reading.{operandFits, atomFits, namesVariable, judged}
 
 pub variable-named : (z : ℤ) (n : ℕ) (a b : Bool) → n ≡ bitsOf z → a ≡ leZ (pos 0) z → b ≡ isVariable n → (a && b) ≡ namesVariable z
 variable-named z n a b e f g = rw (g, f, e)
@@ -36,3 +37,11 @@ module _ (a : Atom) (b r : Bool) (e : b ≡ isVariable (a .variable)) where
   pub atom-multiple : 6 ≤ a .op → r ≡ ltZ (pos 0) (a .right .value .0) → (ltb (a .op) 8 && (b && (eqb (a .right .tag) 0 && r))) ≡ atomFits a
   unfolding atomFits
   atom-multiple h f = rw (← e, le-ltb (a .op) 6 h, f)
+
+-- ---- a record that names what it must where it fits; b tells whether it fits, r is what the code returns
+module _ (order names fits : Bool) (b : Bool) (e : b ≡ fits) (r : Cause) where
+  pub judged-fits : (fits ≡ true → names ≡ true) → b ≡ true → r ≡ judged order true true → r ≡ judged order names fits
+  judged-fits k h f = let q = sym e ∙ h in f ∙ rw (q, k q)
+
+  pub judged-unfit : (n : Bool) → n ≡ names → b ≡ false → r ≡ judged order n false → r ≡ judged order names fits
+  judged-unfit n g h f = let q = sym e ∙ h in f ∙ rw (q, g)

@@ -15,6 +15,7 @@ use table_format::InitialValue;
 use table_format::LENGTH_TAG;
 use table_format::LONGEST_TABLE;
 use table_format::MULTIPLE_OF;
+use table_format::NO_MULTIPLE_OF;
 use table_format::NO_VARIABLE;
 use table_format::Record;
 use table_format::RuleHead;
@@ -28,7 +29,7 @@ ghost use lib.Signed.{leZ, ltZ};
 ghost use Rattle.records.specs.Events.{startKind};
 ghost use Rattle.table_format.specs.Variables.{isVariable};
 ghost use Rattle.table_format.specs.RuleKinds.{hasRules};
-ghost use Rattle.table_format.specs.Reading.{namesVariable, operandFits, initialFits, longestLength, headFits, atomFits, updateFits, judged, causeOf, nextContext, readTable};
+ghost use Rattle.table_format.specs.Reading.{namesVariable, operandFits, initialFits, longestLength, headFits, atomFits, updateFits, operandNames, initialNames, atomNames, updateNames, judged, causeOf, nextContext, readTable};
 
 // How many variables there are, how many ways an atom has to compare, and an update to compute.
 const VARIABLES: u32 = table_format::VARIABLES as u32;
@@ -150,17 +151,87 @@ fn update_fits(kind: u8, update: Update) -> bool
         & ((0 < target) & (target_there & ((op < UPDATE_OPS) & (first_fits & second_fits))))
 }
 
+// ---- names
+fn operand_names(operand: Operand) -> bool
+    ensures { λ r. ⌜ r ≡ operandNames operand ⌝ }
+{
+    let tag = operand.tag;
+    let value = operand.value;
+    let names = names_variable(value);
+    (tag != VARIABLE_TAG) | names
+}
+
+fn atom_names(atom: Atom) -> bool
+    ensures { λ r. ⌜ r ≡ atomNames atom ⌝ }
+{
+    let op = atom.op;
+    let variable = atom.variable;
+    let right = atom.right;
+    let there = is_variable(variable as u32);
+    let names = operand_names(right);
+    there & (((op == MULTIPLE_OF) | (op == NO_MULTIPLE_OF)) | names)
+}
+
+fn update_names(update: Update) -> bool
+    ensures { λ r. ⌜ r ≡ updateNames update ⌝ }
+{
+    let condition = update.condition;
+    let target = update.target;
+    let first = update.first;
+    let second = update.second;
+    let condition_there = is_variable(condition as u32);
+    let target_there = is_variable(target as u32);
+    let first_names = operand_names(first);
+    let second_names = operand_names(second);
+    ((condition == NO_VARIABLE) | condition_there) & (target_there & (first_names & second_names))
+}
+
 // ---- order
-fn judged(in_order: bool, fits: bool) -> Cause
-    ensures { λ r. ⌜ r ≡ judged «in_order» fits ⌝ }
+fn judged(in_order: bool, names: bool, fits: bool) -> Cause
+    ensures { λ r. ⌜ r ≡ judged «in_order» names fits ⌝ }
 {
     if in_order {
-        if fits {
-            return Cause::None;
+        if names {
+            if fits {
+                return Cause::None;
+            }
+            return Cause::WrongField;
         }
-        return Cause::WrongField;
+        return Cause::NamesNothing;
     }
     Cause::WrongKind
+}
+
+// What fits names: only of a record that does not fit is it asked.
+fn initial_cause(in_order: bool, least: u32, initial: InitialValue) -> Cause
+    ensures { λ r. ⌜ r ≡ judged «in_order» (initialNames initial) (initialFits least initial) ⌝ }
+{
+    if initial_fits(least, initial) {
+        return judged(in_order, true, true);
+    }
+    let variable = initial.variable;
+    let names = is_variable(variable as u32);
+    judged(in_order, names, false)
+}
+
+fn atom_cause(in_order: bool, atom: Atom) -> Cause
+    ensures { λ r. ⌜ r ≡ judged «in_order» (atomNames atom) (atomFits atom) ⌝ }
+{
+    if atom_fits(atom) {
+        return judged(in_order, true, true);
+    }
+    let names = atom_names(atom);
+    judged(in_order, names, false)
+}
+
+fn update_cause(in_order: bool, kind: u8, update: Update) -> Cause
+    ensures { λ r. ⌜ r ≡ judged «in_order» (updateNames update) (updateFits kind update) ⌝ }
+{
+    if update_fits(kind, update) {
+        return judged(in_order, true, true);
+    }
+    let names = update_names(update);
+    judged(in_order, names, false)
 }
 
 fn cause_of(context: Context, found: Record) -> Cause
@@ -168,23 +239,14 @@ fn cause_of(context: Context, found: Record) -> Cause
 {
     let place = context.place;
     match found {
-        Record::Initial(initial) => {
-            let fits = initial_fits(context.least, initial);
-            judged(place == 0, fits)
-        }
+        Record::Initial(initial) => initial_cause(place == 0, context.least, initial),
         Record::Head(head) => {
             let fits = head_fits(head);
-            judged(true, fits)
+            judged(true, true, fits)
         }
-        Record::Clause => judged((place == 1) | (place == 2), true),
-        Record::Atomic(atom) => {
-            let fits = atom_fits(atom);
-            judged(place == 2, fits)
-        }
-        Record::Change(update) => {
-            let fits = update_fits(context.kind, update);
-            judged(0 < place, fits)
-        }
+        Record::Clause => judged((place == 1) | (place == 2), true, true),
+        Record::Atomic(atom) => atom_cause(place == 2, atom),
+        Record::Change(update) => update_cause(0 < place, context.kind, update),
         Record::Cut => Cause::CutRecord,
         Record::Unknown => Cause::WrongKind,
     }

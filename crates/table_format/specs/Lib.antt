@@ -3,6 +3,7 @@ pub mod RuleKinds
 pub mod Format
 pub mod Table
 pub mod Reading
+pub mod FieldFaults
 pub mod All
 pub mod KindLaws
 pub mod VariableLaws

@@ -1,5 +1,5 @@
--- Reading a table: causes 1 to 4, at the first bad record.
-use mathlib.Core.Bool.{Bool, true, false, cond, _&&_, _||_}
+-- Reading a table: causes 1 to 4 and 14, at the first bad record.
+use mathlib.Core.Bool.{Bool, true, false, cond, _&&_, _||_, not}
 use mathlib.Core.List.{List, [], _∷_}
 use Prim.Native.Nat.{ℕ, _+_}
 use lib.ListN.{length}
@@ -10,7 +10,7 @@ use Rattle.numbers.specs.Values.{bitsOf}
 use Rattle.records.specs.declared.Notation.the-variants as notations
 use Rattle.records.specs.declared.Operand.{Operand}
 use Rattle.records.specs.declared.Cause.{Cause}
-use Rattle.records.specs.declared.Cause.the-variants.{None, CutRecord, WrongKind, TooMany, WrongField}
+use Rattle.records.specs.declared.Cause.the-variants.{None, CutRecord, WrongKind, TooMany, WrongField, NamesNothing}
 use Rattle.records.specs.declared.Refusal.{Refusal}
 use Rattle.records.specs.Format.{constantTag, parts}
 use Rattle.records.specs.Refusals.{isNone, inModel, noRefusal}
@@ -24,7 +24,7 @@ use Rattle.table_format.specs.declared.Record.{Record}
 use Rattle.table_format.specs.declared.Record.the-variants.{Initial, Head, Clause, Atomic, Change, Cut, Unknown}
 use Rattle.table_format.specs.Variables.{isVariable, noVariable}
 use Rattle.table_format.specs.RuleKinds.{hasRules}
-use Rattle.table_format.specs.Format.{variableTag, lengthTag, multipleOp, recordOf}
+use Rattle.table_format.specs.Format.{variableTag, lengthTag, multipleOp, noMultipleOp, recordOf}
 
 -- ---- fields
 -- the number of a variable that is there
@@ -61,21 +61,38 @@ updateFits kind u =
     (ltb 0 (u .target) && (isVariable (u .target) && (ltb (u .op) 3 &&
     (operandFits (eqb kind startKind) (u .first) && operandFits (eqb kind startKind) (u .second)))))
 
+-- ---- names: "a number that names no item, mode or variable". What fits has them all (`FieldFaults`).
+-- "a number behind a tag that may not stand there is not looked at"
+abbrev pub operandNames : Operand → Bool
+operandNames o = not (eqb (o .tag) variableTag) || namesVariable (o .value .0)
+
+abbrev pub initialNames : InitialValue → Bool
+initialNames x = isVariable (x .variable)
+
+-- beside a multiple no variable may stand
+unfoldable pub atomNames : Atom → Bool
+atomNames a = isVariable (a .variable) && ((eqb (a .op) multipleOp || eqb (a .op) noMultipleOp) || operandNames (a .right))
+
+unfoldable pub updateNames : Update → Bool
+updateNames u =
+    (eqb (u .condition) noVariable || isVariable (u .condition)) &&
+    (isVariable (u .target) && (operandNames (u .first) && operandNames (u .second)))
+
 -- ---- order
 abbrev pub begin : Context
 begin = record { place = 0; least = 1; kind = 0 }
 
--- "kind unknown or out of order" before "other field outside its range"
-abbrev pub judged : Bool → Bool → Cause
-judged inOrder fits = cond inOrder (cond fits None WrongField) WrongKind
+-- "kind unknown or out of order" before "14 names nothing" before "other field outside its range"
+abbrev pub judged : Bool → Bool → Bool → Cause
+judged inOrder names fits = cond inOrder (cond names (cond fits None WrongField) NamesNothing) WrongKind
 
 -- "all before rules"; "A rule is 21, clauses with their atoms, updates."
 unfoldable pub causeOf : Context → Record → Cause
-causeOf c (Initial x) = judged (eqb (c .place) 0) (initialFits (c .least) x)
-causeOf c (Head h) = judged true (headFits h)
-causeOf c Clause = judged (eqb (c .place) 1 || eqb (c .place) 2) true
-causeOf c (Atomic a) = judged (eqb (c .place) 2) (atomFits a)
-causeOf c (Change u) = judged (ltb 0 (c .place)) (updateFits (c .kind) u)
+causeOf c (Initial x) = judged (eqb (c .place) 0) (initialNames x) (initialFits (c .least) x)
+causeOf c (Head h) = judged true true (headFits h)
+causeOf c Clause = judged (eqb (c .place) 1 || eqb (c .place) 2) true true
+causeOf c (Atomic a) = judged (eqb (c .place) 2) (atomNames a) (atomFits a)
+causeOf c (Change u) = judged (ltb 0 (c .place)) (updateNames u) (updateFits (c .kind) u)
 causeOf c Cut = CutRecord
 causeOf c Unknown = WrongKind
 

@@ -25,6 +25,7 @@ use Rattle.table_format.specs.declared.Record.the-variants.{Initial, Hea
 use Rattle.table_format.specs.All.{All}
 use Rattle.table_format.specs.Format.{initialOf, headOf, atomOf, updateOf, recordOf, recordsOf, records, recordTo, bytesOf}
 use Rattle.table_format.specs.Table.{Rule, Table, Gathered, gather, tableOf, atomsTo, clausesTo, updatesTo, rulesTo, initialTo, encode}
+use Rattle.table_format.specs.FieldFaults.{initial-names, atom-names, update-names}
 use Rattle.table_format.specs.Reading.{begin, causeOf, nextContext, readFrom, longestTable, readTable}
 use Rattle.table_format.specs.WellFormed.{Fits, GoodAtom, GoodUpdate, GoodRule, Rising, WellFormedTable, initial-fits, head-fits, atom-fits, update-fits}
 
@@ -93,7 +94,7 @@ module _ (least kind : ℕ) where
   atoms-pass : (l : List Atom) (r : List Record) → All GoodAtom l → Passes (at 2 least kind) r → Passes (at 2 least kind) (atomsTo l r)
   unfolding Passes atomsTo causeOf nextContext
   atoms-pass [] r h p = p
-  atoms-pass (a ∷ l) r h p = (rw (h .0 .fits), atom-fits a (h .0), atoms-pass l r (h .1) p)
+  atoms-pass (a ∷ l) r h p = (rw (atom-names a (h .0 .fits), h .0 .fits), atom-fits a (h .0), atoms-pass l r (h .1) p)
 
   -- from a rule's head or from its clauses on
   clauses-pass : (place : ℕ) (l : List (List Atom)) (r : List Record) → (eqb place 1 || eqb place 2) ≡ true → All (All GoodAtom) l →
@@ -110,7 +111,7 @@ module _ (least kind : ℕ) where
       ((q : ℕ) → Passes (at q least kind) r) → Passes (at place least kind) (updatesTo l r)
   unfolding Passes updatesTo causeOf nextContext
   updates-pass place [] r e h p = p place
-  updates-pass place (u ∷ l) r e h p = (rw (e, h .0 .fits), update-fits kind u (h .0), updates-pass 3 l r refl (h .1) p)
+  updates-pass place (u ∷ l) r e h p = (rw (e, update-names kind u (h .0 .fits), h .0 .fits), update-fits kind u (h .0), updates-pass 3 l r refl (h .1) p)
 
 rules-pass : (l : List Rule) (place least kind : ℕ) → All GoodRule l → Passes (at place least kind) (rulesTo l)
 unfolding Passes rulesTo causeOf nextContext
@@ -128,7 +129,7 @@ rules-pass (x ∷ l) place least kind h =
 initial-pass : (l : List InitialValue) (r : List Record) (least : ℕ) → Rising least l → ((n : ℕ) → Passes (at 0 n 0) r) → Passes (at 0 least 0) (initialTo l r)
 unfolding Passes initialTo causeOf nextContext
 initial-pass [] r least h p = p least
-initial-pass (x ∷ l) r least h p = (rw (h .0), initial-fits least x (h .0) (h .1), initial-pass l r (x .variable + 1) (h .2) p)
+initial-pass (x ∷ l) r least h p = (rw (initial-names least x (h .0), h .0), initial-fits least x (h .0) (h .1), initial-pass l r (x .variable + 1) (h .2) p)
 
 pub table-passes : (t : Table) → WellFormedTable t → Passes begin (initialTo (t .initial) (rulesTo (t .rules)))
 table-passes t w = initial-pass (t .initial) (rulesTo (t .rules)) 1 (w .initial) (λ n. rules-pass (t .rules) 0 n 0 (w .rules))

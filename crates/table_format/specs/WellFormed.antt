@@ -27,6 +27,7 @@ use Rattle.table_format.specs.RuleKinds.{hasRules}
 use Rattle.table_format.specs.KindLaws.{kind-small}
 use Rattle.table_format.specs.VariableLaws.{variable-there, variable-small}
 use Rattle.table_format.specs.Table.{Rule, Table, encode}
+use Rattle.table_format.specs.FieldFaults.{and-split}
 use Rattle.table_format.specs.Reading.{namesVariable, operandFits, initialFits, longestLength, headFits, atomFits, updateFits, longestTable}
 
 -- ---- a record's numbers go into their bytes
@@ -71,10 +72,6 @@ pub record WellFormedTable (t : Table) : Type 0 where
   pub short : length (encode t) ≤ longestTable
 
 -- ---- what passes the tests goes into its bytes
-and-split : (a b : Bool) → (a && b) ≡ true → (a ≡ true) × (b ≡ true)
-and-split true b h = (refl, h)
-and-split false b h = absurd (false≢true h)
-
 condition-small : (n : ℕ) → (eqb n noVariable || isVariable n) ≡ true → n < 65536
 condition-small n h = go (eqb n noVariable) refl
   where

@@ -94,7 +94,7 @@ pub fn foretell(model: &[u8]) -> Sized
     ensures { λ r. ⌜ Foretells (now (model .entry)) r ⌝ }
 {
     let mut words = [0u32; MODEL_WORDS];
-    let refusal = model_reader::read_model_into(model, &mut words);
+    let refusal = model_reader::read_records(model, &mut words);
     let cause = refusal.cause;
     if !is_none(cause) {
         let none = no_size();

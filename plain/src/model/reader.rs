@@ -5,7 +5,9 @@ use super::{
     ModeTransition, Model, Operand, OutputPort, Target, Thread, Timing, Value,
 };
 use crate::bytes::{extent, i32_at, operand_at, u32_at, u8_at, Extent};
-use crate::refusal::{Refusal, CUT, HYPERPERIOD, ORDER, OWNER, RANGE, TOO_MANY, TWICE};
+use crate::refusal::{
+    Refusal, CUT, FAULTY_TIME, HYPERPERIOD, NAMES_NOTHING, ORDER, OWNER, RANGE, TOO_MANY, TWICE,
+};
 use crate::script::LAST_NOW;
 
 const HEAD: u8 = 0x01;
@@ -21,6 +23,10 @@ const ASSIGNMENT: u8 = 0x0A;
 /// An input port with a start of its own.
 const STARTED_INPUT_PORT: u8 = 0x0B;
 
+/// The tag of an operand that is a constant.
+const TAG_CONSTANT: u8 = 0;
+/// The tag of an input port, as an operand or a left side.
+const TAG_INPUT_PORT: u8 = 1;
 /// The tag of a local, as an operand, a left side or a target.
 const TAG_LOCAL: u8 = 2;
 /// The tag of an output port as a target.
@@ -89,12 +95,17 @@ pub fn read(bytes: &[u8]) -> Result<Model, Refusal> {
 }
 
 /// The first cause, in the order of the table of refusals, against a whole
-/// record that would follow what was read so far.
+/// record that would follow what was read so far. Names and times stand there
+/// right before the other fields.
 fn cause(model: &Model, previous: Option<u8>, kind: u8, body: &[u8]) -> Option<u8> {
     if !in_order(previous, kind) {
         Some(ORDER)
     } else if one_too_many(model, kind) {
         Some(TOO_MANY)
+    } else if !all_named(model, kind, body) {
+        Some(NAMES_NOTHING)
+    } else if !times_in_range(kind, body) {
+        Some(FAULTY_TIME)
     } else if !in_range(model, kind, body) {
         Some(RANGE)
     } else if of_another_thread(model, kind, body) {
@@ -149,87 +160,34 @@ fn one_too_many(model: &Model, kind: u8) -> bool {
     }
 }
 
-/// Whether every field lies in its range and names something.
-fn in_range(model: &Model, kind: u8, body: &[u8]) -> bool {
+/// Whether every number that is looked at is that of a mode or an item. The
+/// initial mode is held against the count as it is written, whatever it is. Masks
+/// and behaviour states are ranges.
+fn all_named(model: &Model, kind: u8, body: &[u8]) -> bool {
     match kind {
-        HEAD => head_in_range(body),
-        THREAD => thread_in_range(model, body),
-        INPUT_PORT | STARTED_INPUT_PORT | OUTPUT_PORT | LOCAL => {
-            names_thread(model, u8_at(body, 0))
+        HEAD => u8_at(body, 1) < u8_at(body, 0),
+        INPUT_PORT | STARTED_INPUT_PORT | OUTPUT_PORT | LOCAL | BEHAVIOR_TRANSITION => {
+            usize::from(u8_at(body, 0)) < model.threads.len()
         }
-        CONNECTION => connection_in_range(model, body),
+        CONNECTION => {
+            usize::from(u8_at(body, 1)) < model.output_ports.len()
+                && usize::from(u8_at(body, 2)) < model.input_ports.len()
+        }
         MODE_TRANSITION => names_mode(model, u8_at(body, 0)) && names_mode(model, u8_at(body, 1)),
-        BEHAVIOR_TRANSITION => {
-            names_thread(model, u8_at(body, 0)) && u8_at(body, 1) <= 7 && u8_at(body, 2) <= 7
+        GUARD_ATOM => {
+            operand_named(model, left_side_at(body, 1)) && operand_named(model, operand_at(body, 3))
         }
-        GUARD_ATOM => guard_atom_in_range(model, body),
-        ASSIGNMENT => assignment_in_range(model, body),
-        _ => false,
+        ASSIGNMENT => {
+            target_named(model, u8_at(body, 0), u8_at(body, 1))
+                && operand_named(model, operand_at(body, 3))
+                && operand_named(model, operand_at(body, 8))
+        }
+        _ => true,
     }
-}
-
-/// One to eight modes, the initial one among them.
-fn head_in_range(body: &[u8]) -> bool {
-    let (mode_count, initial_mode) = (u8_at(body, 0), u8_at(body, 1));
-    (1..=8).contains(&mode_count) && initial_mode < mode_count
-}
-
-/// The two chains of bounds on the four figures, the mask, the critical mark
-/// and the first behaviour state.
-fn thread_in_range(model: &Model, body: &[u8]) -> bool {
-    let (period, deadline) = (u32_at(body, 0), u32_at(body, 4));
-    let (bcet, wcet) = (u32_at(body, 8), u32_at(body, 12));
-    let (mode_mask, critical, state) = (u8_at(body, 16), u8_at(body, 17), u8_at(body, 18));
-    1 <= deadline
-        && deadline <= period
-        && period <= LONGEST
-        && 1 <= bcet
-        && bcet <= wcet
-        && wcet <= LONGEST
-        && names_modes(model, mode_mask)
-        && critical <= 1
-        && state <= 7
-}
-
-fn connection_in_range(model: &Model, body: &[u8]) -> bool {
-    u8_at(body, 0) <= 1
-        && usize::from(u8_at(body, 1)) < model.output_ports.len()
-        && usize::from(u8_at(body, 2)) < model.input_ports.len()
-        && names_modes(model, u8_at(body, 3))
-}
-
-fn guard_atom_in_range(model: &Model, body: &[u8]) -> bool {
-    let (left_tag, left_number) = left_side_at(body, 1);
-    u8_at(body, 0) <= 5
-        && left_tag != 0
-        && operand_in_range(model, left_tag, left_number)
-        && operand_at_in_range(model, body, 3)
-}
-
-fn assignment_in_range(model: &Model, body: &[u8]) -> bool {
-    let (target_tag, target_number) = (u8_at(body, 0), usize::from(u8_at(body, 1)));
-    let target_named = match target_tag {
-        TAG_LOCAL => target_number < model.locals.len(),
-        TAG_OUTPUT_PORT => target_number < model.output_ports.len(),
-        _ => false,
-    };
-    target_named
-        && u8_at(body, 2) <= 2
-        && operand_at_in_range(model, body, 3)
-        && operand_at_in_range(model, body, 8)
-}
-
-fn names_thread(model: &Model, number: u8) -> bool {
-    usize::from(number) < model.threads.len()
 }
 
 fn names_mode(model: &Model, mode: u8) -> bool {
     mode < model.mode_count
-}
-
-/// Whether each mode of a mask exists; an empty mask is fine.
-fn names_modes(model: &Model, mode_mask: u8) -> bool {
-    (0..8).all(|mode| !holds_mode(mode_mask, mode) || names_mode(model, mode))
 }
 
 /// The left side of an atom: a tag and a number of one byte each.
@@ -237,18 +195,13 @@ fn left_side_at(body: &[u8], at: usize) -> (u8, i32) {
     (u8_at(body, at), i32::from(u8_at(body, at + 1)))
 }
 
-/// An operand is checked whether it is used or not.
-fn operand_at_in_range(model: &Model, body: &[u8], at: usize) -> bool {
-    let (tag, number) = operand_at(body, at);
-    operand_in_range(model, tag, number)
-}
-
-fn operand_in_range(model: &Model, tag: u8, number: i32) -> bool {
+/// An operand is looked at whether it is used or not, but its number only behind
+/// a tag that may stand there and is no constant's.
+fn operand_named(model: &Model, (tag, number): (u8, i32)) -> bool {
     match tag {
-        0 => true,
-        1 => names_item(number, model.input_ports.len()),
+        TAG_INPUT_PORT => names_item(number, model.input_ports.len()),
         TAG_LOCAL => names_item(number, model.locals.len()),
-        _ => false,
+        _ => true,
     }
 }
 
@@ -256,8 +209,59 @@ fn names_item(number: i32, count: usize) -> bool {
     usize::try_from(number).is_ok_and(|number| number < count)
 }
 
-/// Whether an atom or assignment, all its fields in range, names a port or
-/// local that its transition's thread does not own.
+fn target_named(model: &Model, tag: u8, number: u8) -> bool {
+    match tag {
+        TAG_LOCAL => usize::from(number) < model.locals.len(),
+        TAG_OUTPUT_PORT => usize::from(number) < model.output_ports.len(),
+        _ => true,
+    }
+}
+
+/// A thread has two chains of bounds: on Deadline and Period, on Min and Max.
+fn times_in_range(kind: u8, body: &[u8]) -> bool {
+    let chain = |shorter, longer| {
+        let (shorter, longer) = (u32_at(body, shorter), u32_at(body, longer));
+        1 <= shorter && shorter <= longer && longer <= LONGEST
+    };
+    kind != THREAD || (chain(4, 0) && chain(8, 12))
+}
+
+/// Whether every other field lies in its range.
+fn in_range(model: &Model, kind: u8, body: &[u8]) -> bool {
+    match kind {
+        HEAD => (1..=8).contains(&u8_at(body, 0)),
+        THREAD => {
+            let (critical, state) = (u8_at(body, 17), u8_at(body, 18));
+            names_modes(model, u8_at(body, 16)) && critical <= 1 && state <= 7
+        }
+        CONNECTION => u8_at(body, 0) <= 1 && names_modes(model, u8_at(body, 3)),
+        BEHAVIOR_TRANSITION => u8_at(body, 1) <= 7 && u8_at(body, 2) <= 7,
+        GUARD_ATOM => {
+            u8_at(body, 0) <= 5
+                && matches!(u8_at(body, 1), TAG_INPUT_PORT | TAG_LOCAL)
+                && operand_tag(u8_at(body, 3))
+        }
+        ASSIGNMENT => {
+            matches!(u8_at(body, 0), TAG_LOCAL | TAG_OUTPUT_PORT)
+                && u8_at(body, 2) <= 2
+                && operand_tag(u8_at(body, 3))
+                && operand_tag(u8_at(body, 8))
+        }
+        _ => true,
+    }
+}
+
+/// Whether each mode of a mask exists; an empty mask is fine.
+fn names_modes(model: &Model, mode_mask: u8) -> bool {
+    (0..8).all(|mode| !holds_mode(mode_mask, mode) || names_mode(model, mode))
+}
+
+fn operand_tag(tag: u8) -> bool {
+    matches!(tag, TAG_CONSTANT | TAG_INPUT_PORT | TAG_LOCAL)
+}
+
+/// Whether an atom or assignment, which names nothing that is not there, names a
+/// port or local that its transition's thread does not own.
 fn of_another_thread(model: &Model, kind: u8, body: &[u8]) -> bool {
     let thread = match model.behavior_transitions.last() {
         Some(transition) => transition.thread,
@@ -477,11 +481,11 @@ fn assignment(body: &[u8]) -> Assignment {
     }
 }
 
-/// An operand that is known to be in range.
+/// An operand with no cause against it.
 fn operand((tag, number): (u8, i32)) -> Operand {
     match tag {
-        0 => Operand::Constant(Value(number)),
-        1 => Operand::InputPort(number as usize),
+        TAG_CONSTANT => Operand::Constant(Value(number)),
+        TAG_INPUT_PORT => Operand::InputPort(number as usize),
         _ => Operand::Local(number as usize),
     }
 }

@@ -5,8 +5,13 @@ use super::{
     INITIAL_VALUE, LONGEST_TABLE, MULTIPLE, NO_CONDITION, NO_MULTIPLE, RULE, UPDATE,
 };
 use crate::bytes::{extent, i32_at, operand_at, u16_at, u32_at, u8_at, Extent};
-use crate::refusal::{Refusal, CUT, ORDER, RANGE, TOO_MANY};
+use crate::refusal::{Refusal, CUT, NAMES_NOTHING, ORDER, RANGE, TOO_MANY};
 use crate::script::{ACTIVATE, LEAVE, START};
+
+/// The tags of operands.
+const TAG_CONSTANT: u8 = 0;
+const TAG_VARIABLE: u8 = 1;
+const TAG_CHOSEN_LENGTH: u8 = 2;
 
 /// The greatest high figure of a START rule.
 const LONGEST: u32 = 1_000_000;
@@ -56,25 +61,28 @@ pub fn read(bytes: &[u8]) -> Result<Table, Refusal> {
             }
         };
         let body = &bytes[start + 1..end];
-        if !in_order(previous, kind) {
-            return Err(Refusal {
-                number: ORDER,
-                start,
-                end,
-            });
-        }
-        if !in_range(&table, kind, body) {
-            return Err(Refusal {
-                number: RANGE,
-                start,
-                end,
-            });
+        if let Some(number) = cause(&table, previous, kind, body) {
+            return Err(Refusal { number, start, end });
         }
         add(&mut table, kind, body);
         previous = Some(kind);
         start = end;
     }
     Ok(table)
+}
+
+/// The first cause against a whole record that would follow what was read so
+/// far: its place, then a name, then any other field.
+fn cause(table: &Table, previous: Option<u8>, kind: u8, body: &[u8]) -> Option<u8> {
+    if !in_order(previous, kind) {
+        Some(ORDER)
+    } else if !all_named(kind, body) {
+        Some(NAMES_NOTHING)
+    } else if !in_range(table, kind, body) {
+        Some(RANGE)
+    } else {
+        None
+    }
 }
 
 /// Starts stand before all rules; a rule is its own record, then clauses with
@@ -90,15 +98,54 @@ fn in_order(previous: Option<u8>, kind: u8) -> bool {
     }
 }
 
-/// Whether every field lies in its range and names something.
+/// Whether every number that is looked at is that of a variable. Any id of a
+/// rule will do.
+fn all_named(kind: u8, body: &[u8]) -> bool {
+    match kind {
+        INITIAL_VALUE => names_variable(u16_at(body, 0)),
+        ATOM => atom_named(body),
+        UPDATE => update_named(body),
+        _ => true,
+    }
+}
+
+fn names_variable(number: u16) -> bool {
+    usize::from(number) < variable::COUNT
+}
+
+/// A variable may not stand where a multiple is asked for, so its number is not
+/// looked at there.
+fn atom_named(body: &[u8]) -> bool {
+    names_variable(u16_at(body, 1)) && (asks_multiple(u8_at(body, 0)) || operand_named(body, 3))
+}
+
+fn asks_multiple(op: u8) -> bool {
+    matches!(op, MULTIPLE | NO_MULTIPLE)
+}
+
+fn update_named(body: &[u8]) -> bool {
+    let condition = u16_at(body, 0);
+    (condition == NO_CONDITION || names_variable(condition))
+        && names_variable(u16_at(body, 3))
+        && operand_named(body, 6)
+        && operand_named(body, 11)
+}
+
+/// An operand is looked at whether it is used or not. Only behind the tag of a
+/// variable its number names something.
+fn operand_named(body: &[u8], at: usize) -> bool {
+    let (tag, number) = operand_at(body, at);
+    tag != TAG_VARIABLE || usize::try_from(number).is_ok_and(|number| number < variable::COUNT)
+}
+
+/// Whether every other field lies in its range.
 fn in_range(table: &Table, kind: u8, body: &[u8]) -> bool {
     match kind {
         INITIAL_VALUE => initial_value_in_range(table, body),
         RULE => rule_in_range(body),
-        CLAUSE => true,
         ATOM => atom_in_range(body),
         UPDATE => update_in_range(table, body),
-        _ => false,
+        _ => true,
     }
 }
 
@@ -106,7 +153,6 @@ fn in_range(table: &Table, kind: u8, body: &[u8]) -> bool {
 fn initial_value_in_range(table: &Table, body: &[u8]) -> bool {
     let variable = usize::from(u16_at(body, 0));
     variable != variable::NOW
-        && variable < variable::COUNT
         && table
             .initial_values
             .last()
@@ -130,33 +176,27 @@ fn rule_in_range(body: &[u8]) -> bool {
 fn atom_in_range(body: &[u8]) -> bool {
     let op = u8_at(body, 0);
     let (tag, number) = operand_at(body, 3);
-    op <= NO_MULTIPLE
-        && usize::from(u16_at(body, 1)) < variable::COUNT
-        && operand_in_range(tag, number, false)
-        && (op < MULTIPLE || (tag == 0 && number > 0))
+    let operand_fits = if asks_multiple(op) {
+        tag == TAG_CONSTANT && number > 0
+    } else {
+        operand_tag(tag, false)
+    };
+    op <= NO_MULTIPLE && operand_fits
 }
 
 /// Variable 0 is not updated, and only START's rules know a chosen length.
 fn update_in_range(table: &Table, body: &[u8]) -> bool {
-    let condition = u16_at(body, 0);
-    let target = usize::from(u16_at(body, 3));
     let of_start = table.rules.last().is_some_and(|rule| rule.kind == START);
-    let (first_tag, first_number) = operand_at(body, 6);
-    let (second_tag, second_number) = operand_at(body, 11);
-    (condition == NO_CONDITION || usize::from(condition) < variable::COUNT)
-        && target != variable::NOW
-        && target < variable::COUNT
+    usize::from(u16_at(body, 3)) != variable::NOW
         && u8_at(body, 5) <= 2
-        && operand_in_range(first_tag, first_number, of_start)
-        && operand_in_range(second_tag, second_number, of_start)
+        && operand_tag(u8_at(body, 6), of_start)
+        && operand_tag(u8_at(body, 11), of_start)
 }
 
-/// An operand is checked whether it is used or not.
-fn operand_in_range(tag: u8, number: i32, length_allowed: bool) -> bool {
+fn operand_tag(tag: u8, length_allowed: bool) -> bool {
     match tag {
-        0 => true,
-        1 => usize::try_from(number).is_ok_and(|number| number < variable::COUNT),
-        2 => length_allowed,
+        TAG_CONSTANT | TAG_VARIABLE => true,
+        TAG_CHOSEN_LENGTH => length_allowed,
         _ => false,
     }
 }
@@ -220,11 +260,11 @@ fn update(body: &[u8]) -> Update {
     }
 }
 
-/// An operand that is known to be in range.
+/// An operand with no cause against it.
 fn operand((tag, number): (u8, i32)) -> Operand {
     match tag {
-        0 => Operand::Constant(number),
-        1 => Operand::Variable(number as usize),
+        TAG_CONSTANT => Operand::Constant(number),
+        TAG_VARIABLE => Operand::Variable(number as usize),
         _ => Operand::ChosenLength,
     }
 }

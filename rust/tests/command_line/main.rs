@@ -5,6 +5,7 @@ mod any_files;
 mod calls;
 mod commands;
 mod explore;
+mod field_faults;
 mod files;
 mod promela;
 mod random;

@@ -14,19 +14,19 @@ fn a_refused_model_in_full() {
     let file = folder.edited("lesson/model.bin", "deadline 10", "deadline 11");
     let wanted = format!(
         "\
-refused 4 3 23 {file}
-  cause: a field outside its range, or naming nothing
+refused 15 3 23 {file}
+  cause: a thread's Period, Deadline, Min or Max is out of bounds
   record 2, bytes 3 to 23: thread 0
     thread 0 period 10 deadline 11 min 1 max 3 modes 0,1 critical
   at fault: deadline 11, which must be from 1 to the period, 10
-  what to do: change the field; owners, ports, modes and masks must exist
+  what to do: let Deadline be from 1 to Period, Min from 1 to Max, Period and Max at most 1,000,000
 "
     );
     assert_eq!(run(&["check", &file]).refused(), wanted);
     let script = example("lesson/script.bin");
     for command in ["steps", "rules"] {
         let done = run(&[command, "--words", &file, &script]);
-        assert_eq!(done.out, "end 0 4 0  the model is refused\n");
+        assert_eq!(done.out, "end 0 15 0  the model is refused\n");
         assert_eq!(done.refused(), wanted);
     }
     for words in [
@@ -49,21 +49,21 @@ fn faults_of_models() {
         (
             "period 10",
             "period 0",
-            4,
+            15,
             "thread 0",
             "period 0, which must be from 1 to 1000000",
         ),
         (
             "min 1",
             "min 4",
-            4,
+            15,
             "thread 0",
             "min 4, which must be from 1 to the max, 3",
         ),
         (
             "initial 0",
             "initial 2",
-            4,
+            14,
             "head",
             "initial 2, but there are only modes 0 to 1",
         ),
@@ -84,14 +84,14 @@ fn faults_of_models() {
         (
             "input 0 thread 1",
             "input 0 thread 9",
-            4,
+            14,
             "input 0",
             "thread 9, but there are only threads 0 to 3",
         ),
         (
             "delayed output 1",
             "delayed output 2",
-            4,
+            14,
             "connection 1",
             "output 2, but there are only outputs 0 to 1",
         ),
@@ -119,7 +119,7 @@ fn faults_of_models() {
         (
             "if input 0",
             "if input 3",
-            4,
+            14,
             "guard atom 0 of behaviour 1",
             "left number 3, but there are only inputs 0 to 2",
         ),
@@ -147,7 +147,7 @@ fn faults_of_models() {
         (
             ":= input 0 - local 1",
             ":= input 0 - local -1",
-            4,
+            14,
             "assignment 0 of behaviour 2",
             "second number -1, but there are only locals 0 to 1",
         ),
@@ -215,6 +215,12 @@ fn other_faults_of_models() {
         script.contains("all of the file reads as a script; is it one?\n"),
         "{script}"
     );
+    assert!(
+        script.ends_with(
+            "what to do: name the model here, and the script behind it where one is wanted\n"
+        ),
+        "{script}"
+    );
 }
 
 /// Two long critical periods in a mode that a transition leaves.
@@ -255,7 +261,7 @@ fn faults_of_tables() {
         ),
         (
             "start variable(288) := 1\n",
-            4,
+            14,
             "start 0",
             "variable 288, but the variables are 0 to 287",
         ),
@@ -287,7 +293,7 @@ fn faults_of_tables() {
             "rule 0 ACTIVATE thread 0\nif Now mod 0 = 0\n",
             4,
             "atom 0 of clause 0 of rule 0",
-            "a multiple (mod) wants a constant above 0",
+            "right number 0, but a multiple (mod) wants a constant above 0",
         ),
         (
             "rule 0 ACTIVATE thread 0\nthen Now := 0\n",

@@ -130,7 +130,7 @@ fn refused_ports() {
 
     let nobodys = m_with(&[&PORT, &[0x0B, 1, 0, 0, 0, 0]]);
     let fault = "thread 1, but there is only thread 0";
-    assert_refused(&nobodys, "4 25 31", "input 1", fault);
+    assert_refused(&nobodys, "14 25 31", "input 1", fault);
 
     let cut = m_with(&[&started(1)[..5]]);
     let fault = "it has 6 bytes, and the file ends after 5 of them";

@@ -6,11 +6,8 @@ use Rattle.table_faults.proofs.cause_of.Tie as tie
 enum-known-found : tie.Need-enum-known-found
 enum-known-found c = search needs
 
-initial-fits-requires : tie.Need-initial-fits-requires
-initial-fits-requires c κs = search needs
-
-judged-requires : tie.Need-judged-requires
-judged-requires c κs = search needs
+initial-cause-requires : tie.Need-initial-cause-requires
+initial-cause-requires c κs = search needs
 
 enum-known-found-2 : tie.Need-enum-known-found-2
 enum-known-found-2 c = search needs
@@ -18,32 +15,26 @@ enum-known-found-2 c = search needs
 head-fits-requires : tie.Need-head-fits-requires
 head-fits-requires c κs = search needs
 
-judged-requires-2 : tie.Need-judged-requires-2
-judged-requires-2 c κs = search needs
+judged-requires : tie.Need-judged-requires
+judged-requires c κs = search needs
 
 enum-told : tie.Need-enum-told
 enum-told c = search needs
 
-judged-requires-3 : tie.Need-judged-requires-3
-judged-requires-3 c κs = search needs
+judged-requires-2 : tie.Need-judged-requires-2
+judged-requires-2 c κs = search needs
 
 enum-known-found-3 : tie.Need-enum-known-found-3
 enum-known-found-3 c = search needs
 
-atom-fits-requires : tie.Need-atom-fits-requires
-atom-fits-requires c κs = search needs
-
-judged-requires-4 : tie.Need-judged-requires-4
-judged-requires-4 c κs = search needs
+atom-cause-requires : tie.Need-atom-cause-requires
+atom-cause-requires c κs = search needs
 
 enum-known-found-4 : tie.Need-enum-known-found-4
 enum-known-found-4 c = search needs
 
-update-fits-requires : tie.Need-update-fits-requires
-update-fits-requires c κs = search needs
-
-judged-requires-5 : tie.Need-judged-requires-5
-judged-requires-5 c κs = search needs
+update-cause-requires : tie.Need-update-cause-requires
+update-cause-requires c κs = search needs
 
 enum-told-2 : tie.Need-enum-told-2
 enum-told-2 c = search needs
@@ -53,23 +44,23 @@ enum-told-3 c = search needs
 
 returns : tie.Need-returns
 unfolding causeOf
-returns c = rw (c .before .before .before .found .given .1, ← c .before .initial-fits .ensures) (c .judged .ensures)
+returns c = rw (c .before .before .found .given .1) (c .initial-cause .ensures)
 
 returns-2 : tie.Need-returns-2
 unfolding causeOf
-returns-2 c = rw (c .before .before .before .found2 .given .1, ← c .before .head-fits .ensures) (c .judged2 .ensures)
+returns-2 c = rw (c .before .before .before .found2 .given .1, ← c .before .head-fits .ensures) (c .judged .ensures)
 
 returns-3 : tie.Need-returns-3
 unfolding causeOf
-returns-3 c = rw (c .before .enum-told .given .1) (c .judged3 .ensures)
+returns-3 c = rw (c .before .enum-told .given .1) (c .judged2 .ensures)
 
 returns-4 : tie.Need-returns-4
 unfolding causeOf
-returns-4 c = rw (c .before .before .before .found3 .given .1, ← c .before .atom-fits .ensures) (c .judged4 .ensures)
+returns-4 c = rw (c .before .before .found3 .given .1) (c .atom-cause .ensures)
 
 returns-5 : tie.Need-returns-5
 unfolding causeOf
-returns-5 c = rw (c .before .before .before .found4 .given .1, ← c .before .update-fits .ensures) (c .judged5 .ensures)
+returns-5 c = rw (c .before .before .found4 .given .1) (c .update-cause .ensures)
 
 returns-6 : tie.Need-returns-6
 unfolding causeOf
@@ -84,19 +75,16 @@ cause-of-spec =
     tie.close
     (tie.spec
     enum-known-found
-    initial-fits-requires
-    judged-requires
+    initial-cause-requires
     enum-known-found-2
     head-fits-requires
-    judged-requires-2
+    judged-requires
     enum-told
-    judged-requires-3
+    judged-requires-2
     enum-known-found-3
-    atom-fits-requires
-    judged-requires-4
+    atom-cause-requires
     enum-known-found-4
-    update-fits-requires
-    judged-requires-5
+    update-cause-requires
     enum-told-2
     enum-told-3
     returns

@@ -5,15 +5,36 @@ use futonkestrel::Refusal;
 
 use crate::format::{
     Field, Format, Item, Kind, Must, FORMATS, LONGEST, LONGEST_TABLE, MODEL, MODEL_TAGS,
-    NO_CONDITION, SCRIPT, START, TABLE_TAGS, TAGS, VARIABLES,
+    MOST_MODES, MULTIPLE, NO_CONDITION, NO_MULTIPLE, SCRIPT, START, TABLE_TAGS, TAGS, VARIABLES,
 };
 use crate::record::{records, told, Record};
 use crate::text::{field_words, operand, record_in_words};
 use crate::variables;
 
+#[cfg(test)]
+mod tests;
+
+/// The refusals that the fields of a record give.
+const OUTSIDE: u32 = 4;
+const NAMES_NOTHING: u32 = 14;
+const FAULTY_TIME: u32 = 15;
+
+/// What is wrong with a field: the refusal that it gives, and what is said of it.
+struct Fault {
+    number: u32,
+    said: String,
+}
+
+/// A fault, where there is one.
+fn fault(number: u32, is_there: bool, said: impl Into<String>) -> Option<Fault> {
+    let said = said.into();
+    is_there.then_some(Fault { number, said })
+}
+
 /// What is said about a refused model or table.
 pub fn explain(format: &Format, bytes: &[u8], refusal: &Refusal) -> Vec<String> {
     let mut lines = vec![format!("cause: {}", refusal.cause())];
+    let mixed_up = is_script(format, bytes, refusal);
     let records = records(format, bytes);
     let at = records
         .iter()
@@ -27,23 +48,28 @@ pub fn explain(format: &Format, bytes: &[u8], refusal: &Refusal) -> Vec<String> 
                 before,
                 record,
             };
-            let faults = match other_sort(format, bytes, refusal) {
-                Some(fault) => vec![fault],
-                None => looking.faults(refusal.number),
+            let faults = if mixed_up {
+                vec!["all of the file reads as a script; is it one?".to_string()]
+            } else {
+                looking.faults(refusal.number)
             };
             lines.extend(faults.iter().map(|fault| format!("at fault: {fault}")));
         }
         _ => lines.extend(whole_file(format, bytes, refusal)),
     }
-    lines.push(format!("what to do: {}", refusal.remedy()));
+    let remedy = if mixed_up {
+        "name the model here, and the script behind it where one is wanted"
+    } else {
+        refusal.remedy()
+    };
+    lines.push(format!("what to do: {remedy}"));
     lines
 }
 
 /// Files are easily mixed up: scripts begin as models do.
-fn other_sort(format: &Format, bytes: &[u8], refusal: &Refusal) -> Option<String> {
-    let script =
-        format.name == MODEL.name && refusal.start == 0 && told(&SCRIPT, bytes) == bytes.len();
-    script.then(|| "all of the file reads as a script; is it one?".to_string())
+fn is_script(format: &Format, bytes: &[u8], refusal: &Refusal) -> bool {
+    let refused_at_once = refusal.start == 0 && refusal.end > 0;
+    format.name == MODEL.name && refused_at_once && told(&SCRIPT, bytes) == bytes.len()
 }
 
 /// A refusal that concerns no record.
@@ -126,7 +152,7 @@ impl Looking<'_> {
             5 => self.foreign(),
             6 => self.twice(values),
             7 => self.hyperperiod(),
-            _ => self.fields(kind, values),
+            _ => self.fields(kind, values, number),
         }
     }
 
@@ -163,48 +189,39 @@ impl Looking<'_> {
         format!("there are at most {limit} {own}s in a {outer}")
     }
 
-    /// Each field that is not as it must be.
-    fn fields(&self, kind: &Kind, values: &[i64]) -> Vec<String> {
-        let faults = (0..values.len()).filter_map(|at| {
-            let (field, value) = (&kind.fields[at], values[at]);
-            let must = self.broken(field, at, values)?;
-            let shown = field_words(field, value);
-            let shown = if shown.is_empty() {
-                format!("{} {value}", field.word)
-            } else {
-                shown
+    /// Each field that gives this refusal.
+    fn fields(&self, kind: &Kind, values: &[i64], number: u32) -> Vec<String> {
+        let faults = kind.fields.iter().zip(0..).filter_map(|(field, at)| {
+            let fault = self.broken(kind, at, values)?;
+            let shown = match field_words(field, values[at]) {
+                words if words.is_empty() => format!("{} {}", field.word, values[at]),
+                words => words,
             };
-            Some(format!("{shown}, {must}"))
+            (fault.number == number).then(|| format!("{shown}, {}", fault.said))
         });
-        let mut faults: Vec<String> = faults.collect();
-        if faults.is_empty() {
-            faults.extend(self.wrong_multiple(kind, values));
-        }
-        faults
+        faults.collect()
     }
 
-    /// What a field must be, where it is something else.
-    fn broken(&self, field: &Field, at: usize, values: &[i64]) -> Option<String> {
-        let value = values[at];
+    /// What is wrong with a field, if anything is.
+    fn broken(&self, kind: &Kind, at: usize, values: &[i64]) -> Option<Fault> {
+        let (field, value) = (&kind.fields[at], values[at]);
         match field.must {
             Must::Free => None,
             Must::Within(low, high) => outside(value, low, high),
-            Must::UpTo(word) => {
-                let bound = self.record.value(word)?;
-                let least = format!("which must be from 1 to the {word}, {bound}");
-                (!(1..=bound).contains(&value)).then_some(least)
-            }
+            Must::Time => no_time(value),
+            Must::UpTo(word) => self.not_up_to(word, value),
+            Must::Names(_) if kind.item == Item::Head => self.no_mode_of_head(value),
             Must::Names(item) => missing(item, value, self.count(item)),
             Must::Mask => {
                 let modes = self.count(Item::Mode);
-                (value >> modes != 0).then(|| only(Item::Mode, modes))
+                fault(OUTSIDE, value >> modes != 0, only(Item::Mode, modes))
             }
-            Must::Tag(tags) => self.wrong_tag(value, self.tags(at, tags)),
-            Must::Tagged => self.tagged(at, values),
+            Must::Tag(tags) => self.wrong_tag(value, self.allowed(tags)),
+            Must::Tagged => self.tagged(kind, at, values),
             Must::Variable => no_variable(value),
-            Must::Target if value == 0 => Some("but the clock goes by TICK alone".to_string()),
+            Must::Target if value == 0 => fault(OUTSIDE, true, "but the clock goes by TICK alone"),
             Must::Target => no_variable(value),
-            Must::Rising if value == 0 => Some("but the clock always starts at 0".to_string()),
+            Must::Rising if value == 0 => fault(OUTSIDE, true, "but the clock always starts at 0"),
             Must::Rising => no_variable(value).or_else(|| self.not_rising(value)),
             Must::Condition if value == NO_CONDITION => None,
             Must::Condition => no_variable(value),
@@ -212,7 +229,7 @@ impl Looking<'_> {
         }
     }
 
-    /// How many modes the head gives, or items stand before.
+    /// How many modes the head gives, as written, or items stand before.
     fn count(&self, item: Item) -> i64 {
         if item != Item::Mode {
             return self.before.iter().filter(|record| record.is(item)).count() as i64;
@@ -222,22 +239,48 @@ impl Looking<'_> {
             .iter()
             .chain([self.record])
             .find(|record| record.is(Item::Head));
-        head.and_then(|head| head.value("modes"))
-            .unwrap_or(0)
-            .min(8)
+        head.and_then(|head| head.value("modes")).unwrap_or(0)
     }
 
-    /// The tags that may stand there: the chosen length only where START's rules set something.
-    fn tags(&self, at: usize, tags: &'static [i64]) -> &'static [i64] {
-        let update = self.record.is(Item::Update) && at > 0;
-        if update && !self.in_start_rule() {
+    /// The initial mode is held against the count as written, be that good or not.
+    fn no_mode_of_head(&self, initial: i64) -> Option<Fault> {
+        let modes = self.count(Item::Mode);
+        let mut fault = missing(Item::Mode, initial, modes)?;
+        if !(1..=MOST_MODES).contains(&modes) {
+            fault.said += ", by the count as written";
+        }
+        Some(fault)
+    }
+
+    /// A time goes up to another one of the thread, unless that is at fault itself.
+    fn not_up_to(&self, word: &str, value: i64) -> Option<Fault> {
+        let bound = self.record.value(word)?;
+        if no_time(bound).is_some() {
+            return no_time(value);
+        }
+        let said = format!("which must be from 1 to the {word}, {bound}");
+        fault(FAULTY_TIME, !(1..=bound).contains(&value), said)
+    }
+
+    /// Those of the tags that may stand here: beside a multiple a constant alone, and
+    /// the chosen length only where START's rules set something.
+    fn allowed(&self, tags: &'static [i64]) -> &'static [i64] {
+        if self.is_multiple() {
+            &tags[..1]
+        } else if self.record.is(Item::Update) && !self.in_start_rule() {
             &tags[..2]
         } else {
             tags
         }
     }
 
-    fn wrong_tag(&self, tag: i64, tags: &[i64]) -> Option<String> {
+    /// Whether this is an atom that asks for a multiple.
+    fn is_multiple(&self) -> bool {
+        let op = self.record.value("op");
+        self.record.is(Item::Atom) && [Some(MULTIPLE), Some(NO_MULTIPLE)].contains(&op)
+    }
+
+    fn wrong_tag(&self, tag: i64, tags: &[i64]) -> Option<Fault> {
         let is_model = self.format.name == MODEL.name;
         let known: &[&str] = if is_model { &MODEL_TAGS } else { &TABLE_TAGS };
         let word = |tag: &i64| format!("{tag} ({})", known[*tag as usize]);
@@ -245,7 +288,13 @@ impl Looking<'_> {
         let is = known
             .get(tag as usize)
             .map_or(String::new(), |is| format!("{is}; "));
-        (!tags.contains(&tag)).then(|| format!("{is}must be {}", wanted.join(" or ")))
+        let why = if self.is_multiple() {
+            " for a multiple (mod)"
+        } else {
+            ""
+        };
+        let said = format!("{is}must be {}{why}", wanted.join(" or "));
+        fault(OUTSIDE, !tags.contains(&tag), said)
     }
 
     fn in_start_rule(&self) -> bool {
@@ -257,9 +306,18 @@ impl Looking<'_> {
         rule.and_then(|rule| rule.value("event kind")) == Some(i64::from(START))
     }
 
-    /// A number behind a tag: an item of a model, a variable of a table.
-    fn tagged(&self, at: usize, values: &[i64]) -> Option<String> {
+    /// A number behind a tag: an item of a model, a variable of a table. It is not
+    /// looked at where the tag may not stand.
+    fn tagged(&self, kind: &Kind, at: usize, values: &[i64]) -> Option<Fault> {
         let (tag, number) = (values[at - 1], values[at]);
+        match kind.fields[at - 1].must {
+            Must::Tag(tags) if self.allowed(tags).contains(&tag) => {}
+            _ => return None,
+        }
+        if self.is_multiple() {
+            let said = "but a multiple (mod) wants a constant above 0";
+            return fault(OUTSIDE, number < 1, said);
+        }
         if self.format.name != MODEL.name {
             return if tag == 1 { no_variable(number) } else { None };
         }
@@ -267,35 +325,27 @@ impl Looking<'_> {
         missing(*item, number, self.count(*item))
     }
 
-    /// A multiple is asked of a constant above 0.
-    fn wrong_multiple(&self, kind: &Kind, values: &[i64]) -> Option<String> {
-        let wrong = kind.item == Item::Atom && values[0] >= 6;
-        wrong.then(|| "a multiple (mod) wants a constant above 0".to_string())
-    }
-
-    fn not_rising(&self, variable: i64) -> Option<String> {
+    fn not_rising(&self, variable: i64) -> Option<Fault> {
         let before = self
             .before
             .iter()
             .rev()
             .find(|record| record.is(Item::Start))?
             .value("variable")?;
-        (variable <= before)
-            .then(|| format!("which must be above {before}, the one started before"))
+        let said = format!("which must be above {before}, the one started before");
+        fault(OUTSIDE, variable <= before, said)
     }
 
     /// `low` and `high` of a rule.
-    fn length(&self, field: &Field, value: i64) -> Option<String> {
+    fn length(&self, field: &Field, value: i64) -> Option<Fault> {
         if self.record.value("event kind") != Some(i64::from(START)) {
-            return (value != 0).then(|| "which is for START alone and 0 elsewhere".to_string());
+            let said = "which is for START alone and 0 elsewhere";
+            return fault(OUTSIDE, value != 0, said);
         }
         let high = self.record.value("high")?;
         let above = field.word == "low" && value > high;
-        if above {
-            Some(format!("which is above high, {high}"))
-        } else {
-            outside(value, 0, LONGEST)
-        }
+        let said = format!("which is above high, {high}");
+        fault(OUTSIDE, above, said).or_else(|| outside(value, 0, LONGEST))
     }
 
     /// Ports and locals of this record that belong to another thread.
@@ -384,12 +434,22 @@ fn a(word: &str) -> String {
     format!("{} {word}", if vowel { "an" } else { "a" })
 }
 
-fn outside(value: i64, low: i64, high: i64) -> Option<String> {
-    (!(low..=high).contains(&value)).then(|| format!("which must be from {low} to {high}"))
+fn outside(value: i64, low: i64, high: i64) -> Option<Fault> {
+    let said = format!("which must be from {low} to {high}");
+    fault(OUTSIDE, !(low..=high).contains(&value), said)
 }
 
-fn missing(item: Item, number: i64, count: i64) -> Option<String> {
-    (!(0..count).contains(&number)).then(|| only(item, count))
+fn no_time(value: i64) -> Option<Fault> {
+    let number = FAULTY_TIME;
+    outside(value, 1, LONGEST).map(|fault| Fault { number, ..fault })
+}
+
+fn missing(item: Item, number: i64, count: i64) -> Option<Fault> {
+    fault(
+        NAMES_NOTHING,
+        !(0..count).contains(&number),
+        only(item, count),
+    )
 }
 
 fn only(item: Item, count: i64) -> String {
@@ -401,7 +461,7 @@ fn only(item: Item, count: i64) -> String {
     }
 }
 
-fn no_variable(variable: i64) -> Option<String> {
-    let last = VARIABLES - 1;
-    (!variables::exists(variable)).then(|| format!("but the variables are 0 to {last}"))
+fn no_variable(variable: i64) -> Option<Fault> {
+    let said = format!("but the variables are 0 to {}", VARIABLES - 1);
+    fault(NAMES_NOTHING, !variables::exists(variable), said)
 }

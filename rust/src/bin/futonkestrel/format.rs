@@ -82,7 +82,9 @@ pub enum Form {
 pub enum Must {
     Free,
     Within(i64, i64),
-    /// From 1 to the value of the field with this word.
+    /// A time of a thread, from 1 to the longest.
+    Time,
+    /// Likewise, and at most that of the field with this word.
     UpTo(&'static str),
     /// The number of a mode, or of an item that stands before.
     Names(Item),
@@ -90,7 +92,8 @@ pub enum Must {
     Mask,
     /// One of these tags.
     Tag(&'static [i64]),
-    /// A number that the tag in front of it gives its meaning.
+    /// A number that the tag in front of it gives its meaning; behind a tag that may
+    /// not stand there it is free.
     Tagged,
     /// A variable that is there.
     Variable,
@@ -170,6 +173,8 @@ impl Format {
 
 pub static FORMATS: [&Format; 3] = [&MODEL, &TABLE, &SCRIPT];
 
+/// A model has at most so many modes.
+pub const MOST_MODES: i64 = 8;
 /// The longest Period, Deadline, Min and Max, and START's longest length.
 pub const LONGEST: i64 = 1_000_000;
 /// The most bytes that a table may have.
@@ -264,7 +269,7 @@ const fn event(byte: u8, word: &'static str, fields: &'static [Field]) -> Kind {
 
 use Form::{Choice, Mark, Modes, Number, Signed, UnlessZero};
 use Must::{
-    Condition, Free, Length, Mask, Names, Rising, Tag, Tagged, Target, UpTo, Variable, Within,
+    Condition, Free, Length, Mask, Names, Rising, Tag, Tagged, Target, Time, UpTo, Variable, Within,
 };
 
 const OWNER: Field = field("thread", 1, Number, Names(Item::Thread));
@@ -277,14 +282,14 @@ const SECOND: Field = field("second number", 4, Signed, Tagged);
 const RIGHT: Field = field("right number", 4, Signed, Tagged);
 
 const HEAD: &[Field] = &[
-    field("modes", 1, Number, Within(1, 8)),
+    field("modes", 1, Number, Within(1, MOST_MODES)),
     field("initial", 1, Number, Names(Item::Mode)),
 ];
 const THREAD: &[Field] = &[
-    field("period", 4, Number, Within(1, LONGEST)),
+    field("period", 4, Number, Time),
     field("deadline", 4, Number, UpTo("period")),
     field("min", 4, Number, UpTo("max")),
-    field("max", 4, Number, Within(1, LONGEST)),
+    field("max", 4, Number, Time),
     MODE_MASK,
     field("critical", 1, Mark, Within(0, 1)),
     field("first state", 1, UnlessZero, Within(0, 7)),

@@ -1,14 +1,14 @@
 use mathlib.Core.Path.{refl, _∙_, ap}
 use mathlib.Core.List.{List}
 use Prim.Native.Nat.{ℕ}
+use native.Mathlib.Omega.{arith}
 use lib.ListN.{getD}
 use borrow.Author.Needs.{needs}
-use borrow.Author.Tests.{ne-eqb}
 use Rattle.records.specs.Format as records
 use Rattle.model_format.specs.declared.Record.the-variants as variants
 use Rattle.model_format.specs.Format as format
 use Rattle.model_takes.specs.Taken.{took-as}
-use Rattle.model_reader.specs.Ranks.{sized, sized-last, cut-length, cut-whole}
+use Rattle.model_reader.specs.Ranks.{sized, size-none, cut-length, cut-whole}
 use Rattle.model_reader.proofs.parts.take_whole.Statement.{statement}
 use Rattle.model_reader.proofs.parts.take_whole.Tie as tie
 
@@ -114,7 +114,7 @@ take-atom-requires c κs = search needs
 
 slice-aggregate-assignment-of : tie.Need-slice-aggregate-assignment-of
 unfolding records.recordSize
-slice-aggregate-assignment-of c = cut-length (c .before .before .before .before .before .args .part .now) (c .before .before .before .before .before .args .kind) _ (c .before .before .before .before .before .pre .1 .0) (let r = c .before .before .match .rest in sized-last (c .before .before .before .before .before .args .kind) (r .0 .0 .0 .0 .0 .0 .0 .0 .0 .1) (r .0 .0 .0 .0 .0 .0 .0 .0 .1) (r .0 .0 .0 .0 .0 .0 .0 .1) (r .0 .0 .0 .0 .0 .0 .1) (r .0 .0 .0 .0 .0 .1) (r .0 .0 .0 .0 .1) (r .0 .0 .0 .1) (r .0 .0 .1) (r .0 .1) (r .1) (rw (← c .before .before .before .before .before .pre .1 .0) (c .before .before .before .before .before .pre .1 .1)))
+slice-aggregate-assignment-of c = cut-length (c .before .before .before .before .before .args .part .now) (c .before .before .before .before .before .args .kind) _ (c .before .before .before .before .before .pre .1 .0) (sized (c .before .before .before .before .before .args .kind) _ 14 (c .before .before .match .keys11) refl)
 
 assignment-of-requires : tie.Need-assignment-of-requires
 assignment-of-requires c κs = search needs
@@ -197,7 +197,10 @@ same-length-11 c = search needs
 
 returns-11 : tie.Need-returns-11
 unfolding records.recordSize
-returns-11 c = took-as _ _ _ _ _ _ (c .before .before .take-assignment .ensures) (let r = c .before .before .before .before .before .before .match .rest in simp (ne-eqb _ _ (r .0 .0 .0 .0 .0 .0 .0 .0 .0 .1), ne-eqb _ _ (r .0 .0 .0 .0 .0 .0 .0 .0 .1), ne-eqb _ _ (r .0 .0 .0 .0 .0 .0 .0 .1), ne-eqb _ _ (r .0 .0 .0 .0 .0 .0 .1), ne-eqb _ _ (r .0 .0 .0 .0 .0 .1), ne-eqb _ _ (r .0 .0 .0 .0 .1), ne-eqb _ _ (r .0 .0 .0 .1), ne-eqb _ _ (r .0 .0 .1), ne-eqb _ _ (r .0 .1), ne-eqb _ _ (r .1)) (ap variants.AssignmentRecord (c .before .before .before .assignment-of .ensures ∙ ap format.assignmentOf (cut-whole (c .before .before .before .before .before .before .before .before .before .args .part .now) (c .before .before .before .before .before .before .before .before .before .args .kind) _ (c .before .before .before .before .before .before .before .before .before .pre .1 .0) (sized-last (c .before .before .before .before .before .before .before .before .before .args .kind) (r .0 .0 .0 .0 .0 .0 .0 .0 .0 .1) (r .0 .0 .0 .0 .0 .0 .0 .0 .1) (r .0 .0 .0 .0 .0 .0 .0 .1) (r .0 .0 .0 .0 .0 .0 .1) (r .0 .0 .0 .0 .0 .1) (r .0 .0 .0 .0 .1) (r .0 .0 .0 .1) (r .0 .0 .1) (r .0 .1) (r .1) (rw (← c .before .before .before .before .before .before .before .before .before .pre .1 .0) (c .before .before .before .before .before .before .before .before .before .pre .1 .1)))))))
+returns-11 c = took-as _ _ _ _ _ _ (c .before .before .take-assignment .ensures) (rw (c .before .before .before .before .before .before .match .keys11) (ap variants.AssignmentRecord (c .before .before .before .assignment-of .ensures ∙ ap format.assignmentOf (cut-whole (c .before .before .before .before .before .before .before .before .before .args .part .now) (c .before .before .before .before .before .before .before .before .before .args .kind) _ (c .before .before .before .before .before .before .before .before .before .pre .1 .0) (sized (c .before .before .before .before .before .before .before .before .before .args .kind) _ 14 (c .before .before .before .before .before .before .match .keys11) refl)))))
+
+returns-12 : tie.Need-returns-12
+returns-12 c = let r = c .match .rest in absurd (omega (arith, c .before .before .before .pre .1, size-none (c .before .before .before .args .kind) (r .0 .0 .0 .0 .0 .0 .0 .0 .0 .0 .1) (r .0 .0 .0 .0 .0 .0 .0 .0 .0 .1) (r .0 .0 .0 .0 .0 .0 .0 .0 .1) (r .0 .0 .0 .0 .0 .0 .0 .1) (r .0 .0 .0 .0 .0 .0 .1) (r .0 .0 .0 .0 .0 .1) (r .0 .0 .0 .0 .1) (r .0 .0 .0 .1) (r .0 .0 .1) (r .0 .1) (r .1)))
 
 pub take-whole-spec : {M : Type 1} → statement M
 take-whole-spec =
@@ -257,4 +260,5 @@ take-whole-spec =
     same-length-10
     returns-10
     same-length-11
-    returns-11)
+    returns-11
+    returns-12)
