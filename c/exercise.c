@@ -85,11 +85,13 @@ static void no_slices(void)
     MUST(fk_table_step(NULL, 0, NULL, 0, NULL, 0, NULL, 0) == 8);
     MUST(fk_table_enabled(NULL, 0, NULL, 0, NULL, 0, NULL, 0, NULL, 0) == 8);
     MUST(fk_model_after(NULL, 0, NULL, 0, NULL, 0, NULL, 0) == 2);
+    MUST(fk_start_test(NULL, 0, NULL, 0, 0, 0, NULL, 0) == 2);
     MUST(fk_model_read(NULL, 0, NULL, 0, NULL, 0) == 2);
     MUST(fk_model_start(NULL, 0, NULL, 0) == 8);
     MUST(fk_model_step(NULL, 0, NULL, 0, NULL, 0) == 8);
     MUST(fk_model_variables(NULL, 0, NULL, 0, NULL, 0) == 8);
     MUST(fk_model_enabled(NULL, 0, NULL, 0, NULL, 0, NULL, 0) == 8);
+    MUST(fk_model_start_test(NULL, 0, NULL, 0, 0, 0, NULL, 0) == 8);
 }
 
 static void told_places(void)
@@ -467,6 +469,117 @@ static void what_is_enabled(void)
     MUST(most > 1);
 }
 
+/* Two threads of Period 10 and Deadline 8, the first with lengths 2 to 9, the second 1 to 2, and an immediate connection from it to this. */
+static const uint8_t pair[] = {HEAD, 0x02, 10, 0, 0, 0, 8, 0, 0, 0, 2, 0, 0, 0, 9, 0, 0, 0, 1, 0, 0,
+                               0x02, 10, 0, 0, 0, 8, 0, 0, 0, 1, 0, 0, 0, 2, 0, 0, 0, 1, 0, 0,
+                               0x03, 1, 0x04, 0, 0x06, 0, 0, 0, 1};
+
+/* The test told to any number of places after so much of a script, on the bytes and on a state: what is behind is untouched. The state stays,
+ * and START is taken there exactly at 0. */
+static void tells_a_step(const uint8_t *events, size_t count, uint32_t thread, uint32_t length, size_t step)
+{
+    static uint32_t read[FK_MODEL_WORDS];
+    uint32_t state[FK_STATE_WORDS];
+    MUST(fk_model_read(pair, sizeof pair, read, FK_MODEL_WORDS, NULL, 0) == 0);
+    MUST(fk_model_start(read, FK_MODEL_WORDS, state, FK_STATE_WORDS) == 0);
+    for (size_t at = 0; at < count; at += fk_event_length(events + at, count - at))
+        fk_model_step(read, FK_MODEL_WORDS, state, FK_STATE_WORDS, events + at, fk_event_length(events + at, count - at));
+    for (size_t places = 0; places <= 4; places++) {
+        size_t told[4] = {99, 99, 99, 99}, of_state[4] = {99, 99, 99, 99};
+        const size_t wanted[4] = {0, 0, step, 99};
+        MUST(fk_start_test(pair, sizeof pair, events, count, thread, length, told, places) == 0);
+        MUST(fk_model_start_test(read, FK_MODEL_WORDS, state, FK_STATE_WORDS, thread, length, of_state, places) == 0);
+        for (size_t i = 0; i < 4; i++)
+            MUST(told[i] == (i < places ? wanted[i] : 99) && of_state[i] == (i < places && i == 0 ? step : 99));
+    }
+    const uint8_t event[] = {0x04, (uint8_t)thread, (uint8_t)length, (uint8_t)(length >> 8), (uint8_t)(length >> 16), (uint8_t)(length >> 24)};
+    if (thread <= 255)
+        MUST(fk_model_step(read, FK_MODEL_WORDS, state, FK_STATE_WORDS, event, sizeof event) == (step == 0 ? 0 : 10));
+}
+
+/* Every step, each before those behind it. */
+static void steps_of_the_start_test(void)
+{
+    static const uint8_t in_time[] = {0x01, 0, 0x01, 1, 0x03, 1, 0x03, 0, 0x04, 0, 2, 0, 0, 0, 0x0b, 2, 0, 0x05, 0};
+    static const uint8_t late[] = {0x01, 0, 0x01, 1, 0x03, 1, 0x03, 0, 0x04, 0, 9, 0, 0, 0, 0x0b, 8, 0};
+    static const struct {
+        const uint8_t *events;
+        size_t count;
+        uint32_t thread, length;
+        size_t step;
+    } asked[] = {
+        {NULL, 0, 0, 2, 1}, {in_time, 2, 0, 2, 1}, {in_time, 2, 0, 99, 1},
+        /* The source is still to be dispatched, then has the same instant, whatever the length. */
+        {in_time, 6, 1, 1, 3}, {in_time, 6, 1, 9, 3}, {in_time, 8, 1, 1, 3}, {in_time, 8, 1, 9, 3},
+        {in_time, 8, 0, 1, 4}, {in_time, 8, 0, 2, 0}, {in_time, 8, 0, 9, 0}, {in_time, 8, 0, 10, 4},
+        {in_time, 8, 0, 0, 4}, {in_time, 8, 0, 0x102, 4}, {in_time, 8, 0, UINT32_MAX, 4},
+        {in_time, 14, 0, 2, 1}, {in_time, 14, 1, 1, 2}, {in_time, 14, 1, 9, 2}, {in_time, 17, 1, 1, 2},
+        {in_time, 19, 1, 1, 0}, {in_time, 19, 1, 3, 4}, {in_time, 19, 0, 2, 1},
+        /* The deadline is now, though the processor is held too. */
+        {late, 17, 1, 1, 1}, {late, 14, 1, 1, 2},
+    };
+    for (size_t i = 0; i < sizeof asked / sizeof *asked; i++)
+        tells_a_step(asked[i].events, asked[i].count, asked[i].thread, asked[i].length, asked[i].step);
+    /* Numbers that no thread has; the low bytes of some are those of thread 0, which may start. */
+    static const uint32_t nobody[] = {2, 15, 16, 255, 256, 65536, 0x1000000, UINT32_MAX};
+    for (size_t i = 0; i < sizeof nobody / sizeof *nobody; i++)
+        tells_a_step(in_time, 8, nobody[i], 2, 1);
+    /* Refused events are passed over, and a cut or unknown one ends the script. */
+    static const uint8_t refused[] = {0x03, 0, 0x01, 0, 0x0b, 0, 0, 0x01, 1, 0x03, 9, 0x03, 0, 0x0c, 0x04, 0, 2, 0, 0, 0};
+    tells_a_step(refused, 13, 0, 2, 0);
+    tells_a_step(refused, 14, 0, 2, 0);
+    tells_a_step(refused, sizeof refused, 0, 2, 0);
+    tells_a_step(in_time, 13, 0, 2, 0);
+}
+
+/* No step is told of a refused model or a short state; numbers that no model was read into stand for some model. */
+static void start_tests_that_are_refused(void)
+{
+    uint32_t state[FK_STATE_WORDS + 1] = {0};
+    size_t last = last_record(model, models);
+    for (size_t places = 0; places <= 4; places++) {
+        size_t told[4] = {99, 99, 99, 99};
+        MUST(fk_start_test(model, models - 1, script, scripts, 0, 2, told, places) == 1);
+        MUST(told[0] == (places > 0 ? last : 99) && told[1] == (places > 1 ? models - 1 : 99) && told[2] == 99 && told[3] == 99);
+    }
+    for (size_t count = 0; count <= FK_STATE_WORDS + 1; count++) {
+        size_t told[2] = {99, 99};
+        uint32_t answer = fk_model_start_test(words, FK_MODEL_WORDS, state, count, 0, 2, told, 2);
+        MUST(answer == (count < FK_STATE_WORDS ? 8 : 0) && told[1] == 99);
+        MUST(count < FK_STATE_WORDS ? told[0] == 99 : told[0] <= 4);
+    }
+    size_t told[1] = {99};
+    MUST(fk_model_start_test(NULL, 0, state, FK_STATE_WORDS, 0, 2, told, 1) == 0 && told[0] == 1);
+    memset(state, 0xff, sizeof state);
+    MUST(fk_model_start_test(words, 20, state, FK_STATE_WORDS, 0, 2, told, 1) == 0 && told[0] <= 4);
+}
+
+/* The same from both calls all along the script, for threads that are there and one that is not. */
+static void start_tests_of_the_script(void)
+{
+    uint32_t state[FK_STATE_WORDS], next[FK_STATE_WORDS];
+    size_t seen[5] = {0};
+    fk_model_start(words, FK_MODEL_WORDS, state, FK_STATE_WORDS);
+    for (size_t at = 0; at < scripts;) {
+        for (uint32_t asked = 0; asked < 5 * 8; asked++) {
+            uint32_t thread = asked / 8, length = asked % 8;
+            size_t told[3] = {99, 99, 99}, of_state[1] = {99};
+            MUST(fk_start_test(model, models, script, at, thread, length, told, 3) == 0 && told[0] == 0 && told[1] == 0);
+            MUST(fk_model_start_test(words, FK_MODEL_WORDS, state, FK_STATE_WORDS, thread, length, of_state, 1) == 0);
+            MUST(told[2] == of_state[0] && told[2] <= 4);
+            const uint8_t event[] = {0x04, (uint8_t)thread, (uint8_t)length, 0, 0, 0};
+            memcpy(next, state, sizeof next);
+            MUST(fk_model_step(words, FK_MODEL_WORDS, next, FK_STATE_WORDS, event, sizeof event) == (told[2] == 0 ? 0 : 10));
+            seen[told[2]]++;
+        }
+        size_t length = fk_event_length(script + at, scripts - at);
+        fk_model_step(words, FK_MODEL_WORDS, state, FK_STATE_WORDS, script + at, length);
+        at += length;
+    }
+    for (size_t step = 0; step <= 4; step++)
+        MUST(seen[step] > 0);
+}
+
 int main(int count, char **names)
 {
     MUST(count == 3);
@@ -497,6 +610,9 @@ int main(int count, char **names)
     lent_state();
     shown_variables();
     what_is_enabled();
+    steps_of_the_start_test();
+    start_tests_that_are_refused();
+    start_tests_of_the_script();
     puts("every promise held");
     return 0;
 }

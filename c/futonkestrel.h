@@ -111,6 +111,22 @@ uint32_t fk_table_enabled(const uint8_t *table, size_t table_count, const size_t
 uint32_t fk_model_after(const uint8_t *model, size_t model_count, const uint8_t *script, size_t script_count, const uint8_t *event, size_t event_count,
                         int32_t *variables, size_t variables_count);
 
+/* The test for START takes its steps in this order, and the first that fails is told by its number:
+ *    0  none fails
+ *    1  state        the thread is not there, its code is not 2, or its Due is Now
+ *    2  processor    a thread holds it
+ *    3  connections  the source of a live immediate connection into the thread has code 2 or 3 and an equal DispatchTime; or the thread's own
+ *                    DispatchTime is Now, and such a source is Active, has code 0 or 1 and a Period that divides Now
+ *    4  length       not in the thread's Min to Max
+ * The thread is any number: one that no thread has gives 1. In the state that is tested START of that thread and length is taken
+ * exactly at 0, and refused with 10 otherwise: that is proved.
+ *
+ * Here the state is that which a whole script leaves, its refused events passed over (a cut or unknown one ends it). Result: 0, or the
+ * model's first refusal. Told: start, end, step. Where the model is refused no step is told, and its place is untouched: 0 there would say
+ * that START is taken. */
+uint32_t fk_start_test(const uint8_t *model, size_t model_count, const uint8_t *script, size_t script_count, uint32_t thread, uint32_t length,
+                       size_t *told, size_t told_count);
+
 /* A model stepped event by event: it is read once into numbers that the caller keeps, and its state is numbers of the caller too, to be copied,
  * compared and gone back to at will; equal numbers are equal states. Numbers of any content do no harm: they stand for some model or state,
  * and those that are too few are followed by zeros. The numbers of a model and of a state: */
@@ -140,6 +156,11 @@ uint32_t fk_model_variables(const uint32_t *words, size_t words_count, const uin
  * are 0. A model and its table list the same events after the same script: that is proved. */
 uint32_t fk_model_enabled(const uint32_t *words, size_t words_count, const uint32_t *state, size_t state_count, uint32_t *output,
                           size_t output_count, size_t *told, size_t told_count);
+
+/* The test for START in a state, its steps as above. Result: 0, or 8 where there are fewer than FK_STATE_WORDS numbers of state, and then
+ * nothing is told. Told: step. */
+uint32_t fk_model_start_test(const uint32_t *words, size_t words_count, const uint32_t *state, size_t state_count, uint32_t thread,
+                             uint32_t length, size_t *told, size_t told_count);
 
 #ifdef __cplusplus
 }

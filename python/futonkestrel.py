@@ -12,6 +12,7 @@ bytes are accepted, or refused with a number and the part that it concerns.
     state = model.start()
     for offer in model.enabled(state).events:
         print(offer)
+    print(model.start_test(state, 0, 2))
 
 python/build makes the shared object; the variable FUTONKESTREL_SO names another.
 """
@@ -20,6 +21,7 @@ import ctypes
 import os
 from collections.abc import Callable, Iterator
 from dataclasses import dataclass
+from enum import IntEnum
 from pathlib import Path
 from typing import NamedTuple, Self
 
@@ -35,6 +37,7 @@ __all__ = [
     "Run",
     "STATE_WORDS",
     "Size",
+    "StartStep",
     "State",
     "Table",
     "VARIABLES",
@@ -180,6 +183,7 @@ def _load() -> ctypes.CDLL:
         ("fk_table_step", number, given + index + variables + given),
         ("fk_table_enabled", number, given + index + variables + words + told),
         ("fk_model_after", number, given + given + given + variables),
+        ("fk_start_test", number, given + given + [number, number] + told),
         ("fk_model_words", size, []),
         ("fk_state_words", size, []),
         ("fk_model_read", number, given + words + told),
@@ -187,6 +191,7 @@ def _load() -> ctypes.CDLL:
         ("fk_model_step", number, words + words + given),
         ("fk_model_variables", number, words + words + variables),
         ("fk_model_enabled", number, words + words + words + told),
+        ("fk_model_start_test", number, words + words + [number, number] + told),
     ]:
         function = getattr(library, name)
         function.restype = result
@@ -261,6 +266,21 @@ class Enabled:
     events: tuple[Offer, ...]
     # Whether a TICK may pass.
     tick: bool
+
+
+class StartStep(IntEnum):
+    """The first step that fails of the test for START, in the order in which it takes
+    them. START is taken exactly at NONE, and refused with 10 otherwise."""
+
+    NONE = 0
+    # The thread is not there, its code is not 2, or its Due is Now.
+    STATE = 1
+    # The processor is held.
+    PROCESSOR = 2
+    # The source of a live immediate connection into the thread holds it back.
+    CONNECTIONS = 3
+    # The length is not in Min to Max.
+    LENGTH = 4
 
 
 class _Numbers:
@@ -352,6 +372,13 @@ def _listing(function: Callable[..., int], item: bytes, script: bytes) -> str:
     return bytes(output).decode("ascii")
 
 
+def _number(value: int) -> int:
+    """A number of 32 bits: of a longer one the library would get the low bits alone."""
+    if not 0 <= value < 1 << 32:
+        raise OverflowError(f"{value} is no number of 32 bits")
+    return value
+
+
 def _raise_unless_taken(number: int, event: bytes) -> None:
     if number:
         raise Refusal(number, 0, len(event))
@@ -432,6 +459,25 @@ class Model:
                 *given, output, len(output), told, len(told)
             )
         )
+
+    def start_test(self, state: State, thread: int, length: int) -> StartStep:
+        """Tests START in a state. A thread may have any number: one that is not there
+        fails at STATE."""
+        told = _places(1)
+        asked = _number(thread), _number(length)
+        _library.fk_model_start_test(
+            self._words, MODEL_WORDS, state._values, STATE_WORDS, *asked, told, len(told)
+        )
+        return StartStep(told[0])
+
+    def start_test_after(self, script: bytes, thread: int, length: int) -> StartStep:
+        """The same in the state that a script leaves, going on after refused events."""
+        told = _places(3)
+        asked = _number(thread), _number(length)
+        _library.fk_start_test(
+            self.data, len(self.data), script, len(script), *asked, told, len(told)
+        )
+        return StartStep(told[2])
 
     def after(self, script: bytes, event: bytes = b"") -> tuple[int, Variables]:
         """Runs a script, going on after refused events, then gives an event to the

@@ -162,6 +162,72 @@ class SideBySide(unittest.TestCase):
         self.assertEqual(table.answer(variables, fk.request(1)), 0)
 
 
+class StartTests(unittest.TestCase):
+    """The test for START, on a state and after a script."""
+
+    def test_along_the_examples(self) -> None:
+        for name, steps in [("lesson", set(fk.StartStep)), ("m", {0, 1, 4})]:
+            model = fk.Model(example(f"{name}/model.bin"))
+            state, before, seen = model.start(), b"", set()
+            for event in fk.events(example(f"{name}/script.bin")):
+                for thread in range(5):
+                    for length in range(8):
+                        step = model.start_test(state, thread, length)
+                        self.assertEqual(model.start_test_after(before, thread, length), step)
+                        answer = model.answer(state.copy(), fk.start(thread, length))
+                        self.assertEqual(answer, 10 if step else 0)
+                        seen.add(step)
+                model.step(state, event)
+                before += event
+            self.assertEqual(seen, steps)
+
+    def test_in_its_order(self) -> None:
+        model = fk.Model(example("lesson/model.bin"))
+        # All four threads dispatched at clock 0, then the first started.
+        dispatched = example("lesson/script.bin")[:16]
+        started = dispatched + fk.start(0, 2)
+        for script, thread, length, step in [
+            (b"", 0, 2, fk.StartStep.STATE),
+            (dispatched, 0, 2, fk.StartStep.NONE),
+            (dispatched, 0, 9, fk.StartStep.LENGTH),
+            (dispatched, 1, 9, fk.StartStep.CONNECTIONS),
+            (started, 1, 9, fk.StartStep.PROCESSOR),
+            (started, 0, 9, fk.StartStep.STATE),
+            (dispatched + fk.dispatch(0) + b"\x0c" + started, 0, 2, fk.StartStep.NONE),
+        ]:
+            self.assertIs(model.start_test_after(script, thread, length), step)
+
+    def test_any_thread_and_length(self) -> None:
+        model, script = fk.Model(example("m/model.bin")), example("m/script.bin")[:4]
+        state = model.start()
+        for event in fk.events(script):
+            model.step(state, event)
+        most = (1 << 32) - 1
+        for thread, length, step in [(0, 1, 0), (0, most, 4), (1, 1, 1), (256, 1, 1), (most, 1, 1)]:
+            self.assertEqual(model.start_test(state, thread, length), step)
+            self.assertEqual(model.start_test_after(script, thread, length), step)
+        for asked in [(-1, 1), (0, -1), (most + 1, 1), (0, most + 2)]:
+            with self.assertRaises(OverflowError):
+                model.start_test(state, *asked)
+            with self.assertRaises(OverflowError):
+                model.start_test_after(script, *asked)
+
+    def test_no_step_of_a_refused_model(self) -> None:
+        data = example("m/model.bin")[:-1]
+        told = (ctypes.c_size_t * 4)(*[7] * 4)
+        answer = fk._library.fk_start_test(data, len(data), b"", 0, 0, 1, told, len(told))
+        self.assertEqual((answer, list(told)), (1, [3, len(data), 7, 7]))
+
+    def test_no_step_in_a_short_state(self) -> None:
+        words, state = (ctypes.c_uint32 * fk.MODEL_WORDS)(), fk.State()
+        for count, wanted in [(0, (8, 7)), (fk.STATE_WORDS - 1, (8, 7)), (fk.STATE_WORDS, (0, 1))]:
+            told = (ctypes.c_size_t * 1)(7)
+            answer = fk._library.fk_model_start_test(
+                words, len(words), state._values, count, 0, 1, told, len(told)
+            )
+            self.assertEqual((answer, told[0]), wanted)
+
+
 class Refusals(unittest.TestCase):
     def test_of_models_and_tables(self) -> None:
         for sort, data, number, part in [

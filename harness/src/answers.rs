@@ -5,6 +5,7 @@ use std::fmt::{self, Display, Formatter};
 pub use futonkestrel::{Variables, VARIABLES};
 
 use crate::lending::Lending;
+use crate::starts::Asked;
 
 /// A refusal's number, 0 for none, and its part.
 #[derive(Clone, Copy, Debug, Default, PartialEq, Eq)]
@@ -44,6 +45,8 @@ pub struct Said {
     pub offers: Vec<Offers>,
     /// The variables as a lent state of a model shows them, there too.
     pub shown: Vec<Variables>,
+    /// What a model's test for START is asked for there.
+    pub asked: Vec<Vec<Asked>>,
 }
 
 /// What is enabled: kind, id, shortest and longest length of each event; and

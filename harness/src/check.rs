@@ -11,6 +11,7 @@ use crate::case::{Case, Late, Lent};
 use crate::compare::{self, Check};
 use crate::found::Indexes;
 use crate::loose::Rules;
+use crate::starts::{self, Asked, StartTold, START_PLACES};
 use crate::stepped::{self, StateWalk};
 use crate::tally::Tally;
 use crate::{found, wanted};
@@ -66,6 +67,7 @@ impl Checker<'_> {
         self.tally.note_model(case, &wanted);
         self.tally.note_reach(&reach);
         let walk = self.on_state(case, &wanted);
+        self.start_tests(case, &wanted, &walk);
         let found = found::of_model(&case.model, &case.script, &rooms(&wanted), &walk);
         self.note("model_reading", compare::reading(&wanted.read, &found.read));
         self.note("model_start", compare::start(&wanted.start, &found.start));
@@ -93,7 +95,8 @@ impl Checker<'_> {
     /// The model on a state that is lent, through the whole script; then on
     /// numbers of any content.
     fn on_state(&mut self, case: &Case, wanted: &Said) -> StateWalk {
-        let found = stepped::on_state(&case.model, &case.script, case.more_rooms);
+        let asked = &wanted.asked;
+        let found = stepped::on_state(&case.model, &case.script, asked, case.more_rooms);
         let short = wanted.read.into_too_little(case.model.len());
         let read = compare::reading(&wanted.read, &found.read);
         let read = read.and_then(|()| compare::reading(&short, &found.short_read));
@@ -112,9 +115,44 @@ impl Checker<'_> {
         if found.read.number == 0 {
             let event = futonkestrel::events(&case.script).next();
             let any = stepped::any_state(&found, &case.spoils, event.unwrap_or_default());
+            self.tally.note_any_starts(&any.starts);
             self.note("any_state", compare::any_state(&any));
         }
         found
+    }
+
+    /// START's test on the states that were walked, and over bytes, told into all
+    /// places and into fewer.
+    fn start_tests(&mut self, case: &Case, wanted: &Said, walk: &StateWalk) {
+        let mut places = vec![START_PLACES + BEHIND];
+        if case.more_rooms {
+            places.extend(0..=START_PLACES);
+        } else {
+            places.push(case.number as usize % (START_PLACES + 1));
+        }
+        let (mut told, mut room) = (Ok(()), Ok(()));
+        for (end, question) in starts::over_bytes(case.number as usize, &case.script, wanted) {
+            let script = &case.script[..end];
+            let wanted = wanted::start_test(&case.model, script, question);
+            let found = found::start_tests(&case.model, script, question, &places);
+            self.tally.note_starts(&wanted, &found);
+            let found_told = StartTold::of(&found[0]);
+            told = told.and_then(|()| compare::start_told(&wanted, &found_told));
+            room = room.and_then(|()| compare::start_places(&found));
+        }
+        self.note("start_told", told);
+        if walk.read.number == 0 {
+            let on_state = compare::state_start_places(&walk.start_places, &walk.start_short);
+            room = room.and(on_state);
+            self.start_steps(&wanted.asked, walk);
+        }
+        self.note("start_places", room);
+    }
+
+    fn start_steps(&mut self, asked: &[Vec<Asked>], walk: &StateWalk) {
+        let steps = compare::start_step(asked, &walk.starts);
+        self.note("start_step", steps);
+        self.note("start_taken", compare::start_taken(&walk.starts));
     }
 
     /// Translations into just enough room, one byte less, and more. The result
@@ -212,13 +250,16 @@ impl Checker<'_> {
     fn late_state(&mut self, case: &Case, late: &Late) -> StateWalk {
         let (wanted, reach) = wanted::of_late_model(&case.model, late);
         self.tally.note_late_reach(&reach);
-        let found = stepped::on_late_state(&case.model, late.clock, &late.script, case.more_rooms);
+        let (script, asked) = (&late.script, &wanted.asked);
+        let rooms = case.more_rooms;
+        let found = stepped::on_late_state(&case.model, late.clock, script, asked, rooms);
         let answers = compare::answers(&wanted.steps, &found.steps);
         self.note("state_answers", answers);
         let shown = compare::shown(&wanted.shown, &found.shown);
         self.note("state_variables", shown);
         let enabled = compare::enabled(&wanted.offers, &found.offers);
         self.note("model_enabled", enabled);
+        self.start_steps(&wanted.asked, &found);
         found
     }
 

@@ -11,6 +11,7 @@ use crate::answers::{
 };
 use crate::lending::{Lending, Number};
 use crate::records::table_records;
+use crate::starts::{Answered, Asked, StartTold, START_PLACES, STEPS};
 use crate::stepped::AnyState;
 
 pub type Check = Result<(), String>;
@@ -174,7 +175,66 @@ pub fn any_state(found: &AnyState) -> Check {
     equal("place of an event offered and refused", &None, &refused)?;
     let told = found.offers.rooms[0].1[1];
     let passes = usize::from(found.tick == 0);
-    equal("TICK told and answered in any state", &told, &passes)
+    equal("TICK told and answered in any state", &told, &passes)?;
+    for start in &found.starts {
+        let [step, behind] = start.told;
+        let found = (start.answer, step < STEPS, behind);
+        let what = format_args!("answer, that {step} is a step, place behind in any state");
+        equal(what, &(0, true, usize::MARK), &found)?;
+        taken_at_0(start)?;
+    }
+    Ok(())
+}
+
+/// The step that START's test tells in each state for each thread and length.
+pub fn start_step(wanted: &[Vec<Asked>], found: &[Vec<Answered>]) -> Check {
+    equal("count of states asked", &wanted.len(), &found.len())?;
+    for (number, (wanted, found)) in wanted.iter().zip(found).enumerate() {
+        equal("count of questions", &wanted.len(), &found.len())?;
+        for (asked, found) in wanted.iter().zip(found) {
+            let (question, step) = (asked.question, usize::from(asked.step));
+            let what = format_args!("answer, step, place behind: {question} in state {number}");
+            let found = (found.answer, found.told);
+            equal(what, &(0, [step, usize::MARK]), &found)?;
+        }
+    }
+    Ok(())
+}
+
+/// On the library alone: START is taken exactly where no step fails.
+pub fn start_taken(found: &[Vec<Answered>]) -> Check {
+    found.iter().flatten().try_for_each(taken_at_0)
+}
+
+fn taken_at_0(found: &Answered) -> Check {
+    let step = found.told[0];
+    let answer = if step == 0 { 0 } else { 10 };
+    let what = format_args!("answer to START where step {step} is told");
+    found
+        .start
+        .map_or(Ok(()), |start| equal(what, &answer, &start))
+}
+
+/// What START's test tells over bytes: number, part, step.
+pub fn start_told(wanted: &StartTold, found: &StartTold) -> Check {
+    equal("number and part of START's test", &wanted.told, &found.told)?;
+    equal("step of START's test", &wanted.step, &found.step)
+}
+
+/// What START's test tells over bytes into several places; of a refused model no
+/// step.
+pub fn start_places(found: &[Lending<usize>]) -> Check {
+    let told = match found[0].answer {
+        0 => START_PLACES,
+        _ => START_PLACES - 1,
+    };
+    first_places(found, told)
+}
+
+/// The same in a lent state, the step alone; too few numbers have none.
+pub fn state_start_places(found: &[Lending<usize>], too_few: &[Lending<usize>]) -> Check {
+    first_places(found, 1)?;
+    short(too_few)
 }
 
 /// A run up to the first refusal: number, part, events taken, clock.
@@ -242,15 +302,20 @@ pub fn size_told(wanted: &Size, found: &Size) -> Check {
     equal(what, &wanted.records, &found.records)
 }
 
+/// What is told of a size into several places.
+pub fn size_places(found: &[Lending<usize>]) -> Check {
+    first_places(found, SIZE_PLACES)
+}
+
 /// However many places are lent, the number is the same, the places are the first
 /// of all that is told, and those behind stay as they were.
-pub fn size_places(found: &[Lending<usize>]) -> Check {
-    let all = &found[0];
+fn first_places(found: &[Lending<usize>], all_told: usize) -> Check {
+    let all = found.first().ok_or("nothing is told")?;
     found.iter().try_for_each(|found| {
         let places = found.after.len();
         let what = format_args!("number told with {places} places");
         equal(what, &all.answer, &found.answer)?;
-        let (told, behind) = found.after.split_at(places.min(SIZE_PLACES));
+        let (told, behind) = found.after.split_at(places.min(all_told));
         let what = format_args!("told into {places} places");
         equal(what, &all.after[..told.len()], told)?;
         let marked = behind.iter().all(|number| *number == usize::MARK);

@@ -9,6 +9,7 @@ use crate::answers::{
     THREADS, VARIABLES,
 };
 use crate::lending::{lend_marks, Lending};
+use crate::starts::Question;
 use crate::stepped::{index_into, index_size, StateWalk};
 
 /// All that the library says of a model and a script as a whole. Listings go into
@@ -28,6 +29,7 @@ pub fn of_model(model: &[u8], script: &[u8], rooms: &[usize], walk: &StateWalk) 
         listings: listings(rooms, |output| raw::model_listing(model, script, output)),
         offers: Vec::new(),
         shown: Vec::new(),
+        asked: Vec::new(),
     }
 }
 
@@ -47,6 +49,7 @@ pub fn of_table(table: &[u8], script: &[u8], rooms: &[usize]) -> Said {
         listings: listings(rooms, |output| raw::table_listing(table, script, output)),
         offers: Vec::new(),
         shown: Vec::new(),
+        asked: Vec::new(),
     }
 }
 
@@ -71,6 +74,21 @@ pub fn translation(model: &[u8], room: usize) -> Translation {
 pub fn sizes(model: &[u8], places: &[usize]) -> Vec<Lending<usize>> {
     let told = |&count| lend_marks(count, |told| raw::table_size(model, told));
     places.iter().map(told).collect()
+}
+
+/// START's test in the state that a script leaves, told into each number of places.
+pub fn start_tests(
+    model: &[u8],
+    script: &[u8],
+    question: Question,
+    places: &[usize],
+) -> Vec<Lending<usize>> {
+    let Question { thread, length } = question;
+    let test = |told: &mut [usize]| raw::start_test(model, script, thread, length, told);
+    places
+        .iter()
+        .map(|&count| lend_marks(count, test))
+        .collect()
 }
 
 /// The length of each part of a script.

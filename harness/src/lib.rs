@@ -8,6 +8,7 @@
 //! * [`loose`]: what is promised of tables and indexes of any content
 //! * [`lending`], [`stepped`]: numbers lent to a call; what the library says event
 //!   by event on a lent state or by an index, and what is enabled
+//! * [`starts`]: what the test for START is asked for, and what it meets
 //! * [`compare`]: the comparisons
 //! * [`check`], [`runner`]: one case, many cases
 //! * [`tally`], [`reach`], [`refused`]: what they came to, by number, and by kind
@@ -29,6 +30,7 @@ pub mod records;
 pub mod refused;
 pub mod runner;
 pub mod scripts;
+pub mod starts;
 pub mod stepped;
 pub mod tables;
 pub mod tally;

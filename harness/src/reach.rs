@@ -10,6 +10,8 @@ use plain::script::{
     TICK,
 };
 
+use crate::starts::Starts;
+
 /// Clocks above this one are late.
 pub const LATE: u64 = 70_000;
 
@@ -34,6 +36,8 @@ pub struct Reach {
     pub assigned: [u64; 64],
     /// The same, without number.
     pub places: Places,
+    /// What the test for START was asked for in the states before and after.
+    pub starts: Starts,
     /// Events taken at late clocks, by kind.
     pub late: [u64; 12],
 }
@@ -65,6 +69,7 @@ impl Default for Reach {
             guarded: [0; 64],
             assigned: [0; 64],
             places: Places::default(),
+            starts: Starts::default(),
             late: [0; 12],
         }
     }
@@ -186,6 +191,7 @@ impl Reach {
         add_each(&mut self.guarded, &other.guarded);
         add_each(&mut self.assigned, &other.assigned);
         add_each(&mut self.late, &other.late);
+        self.starts.add(&other.starts);
         let (places, others) = (&mut self.places, &other.places);
         places.default_sends += others.default_sends;
         places.four_atoms += others.four_atoms;

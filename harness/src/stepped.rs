@@ -3,10 +3,11 @@
 
 use futonkestrel::{events, raw, MODEL_WORDS, STATE_WORDS};
 
-use crate::answers::{After, Listed, Step, Told, Variables, FIGURE, VARIABLES};
+use crate::answers::{After, Listed, Step, Told, Variables, BEHIND, FIGURE, VARIABLES};
 use crate::case::Spoil;
 use crate::found::{lend_variables, steps};
 use crate::lending::{lend, lend_marks, Lending, Number};
+use crate::starts::{any_questions, Answered, Asked, Question};
 
 /// A model that is read into numbers, and a script on a state that is lent.
 #[derive(Default)]
@@ -22,6 +23,11 @@ pub struct StateWalk {
     /// The state as it is shown at the start and after each event.
     pub shown: Vec<After>,
     pub offers: Vec<Listed>,
+    /// What START's test tells there.
+    pub starts: Vec<Vec<Answered>>,
+    /// The same at the end into several places; on too few numbers.
+    pub start_places: Vec<Lending<usize>>,
+    pub start_short: Vec<Lending<usize>>,
     /// The calls that changed the state, or were to leave it.
     pub lendings: Vec<Lending<u32>>,
     /// Calls with too few numbers.
@@ -31,12 +37,20 @@ pub struct StateWalk {
 /// Where the clock stands among the numbers of a state.
 const CLOCK_PLACE: usize = 0;
 
-pub fn on_state(model: &[u8], script: &[u8], more_rooms: bool) -> StateWalk {
-    on_late_state(model, 0, script, more_rooms)
+/// START's test is asked for at the start and after each event, as far as there are
+/// questions.
+pub fn on_state(model: &[u8], script: &[u8], asked: &[Vec<Asked>], more_rooms: bool) -> StateWalk {
+    on_late_state(model, 0, script, asked, more_rooms)
 }
 
 /// The walk starts at that clock.
-pub fn on_late_state(model: &[u8], clock: u32, script: &[u8], more_rooms: bool) -> StateWalk {
+pub fn on_late_state(
+    model: &[u8],
+    clock: u32,
+    script: &[u8],
+    asked: &[Vec<Asked>],
+    more_rooms: bool,
+) -> StateWalk {
     let mut walk = StateWalk::default();
     walk.read(model);
     if walk.read.number != 0 {
@@ -45,10 +59,12 @@ pub fn on_late_state(model: &[u8], clock: u32, script: &[u8], more_rooms: bool) 
     let words = walk.words.clone();
     walk.change(|state| raw::model_start(&words, state));
     walk.state[CLOCK_PLACE] = clock;
-    walk.look(more_rooms);
+    let last = asked.last().and_then(|asked| asked.last());
+    let mut asked = asked.iter();
+    walk.look(more_rooms, asked.next());
     for (number, start, event) in steps(script) {
         let answer = walk.change(|state| raw::model_step(&words, state, event));
-        let after = walk.look(more_rooms);
+        let after = walk.look(more_rooms, asked.next());
         walk.steps.push(Step {
             number,
             start,
@@ -57,6 +73,9 @@ pub fn on_late_state(model: &[u8], clock: u32, script: &[u8], more_rooms: bool) 
         });
     }
     walk.try_short(events(script).next().unwrap_or_default());
+    if let Some(asked) = last {
+        walk.try_places(asked.question);
+    }
     walk
 }
 
@@ -86,8 +105,8 @@ impl StateWalk {
         answer
     }
 
-    /// Shows the state, and what is enabled in it.
-    fn look(&mut self, more_rooms: bool) -> After {
+    /// Shows the state, and what is enabled in it, and asks START's test.
+    fn look(&mut self, more_rooms: bool, asked: Option<&Vec<Asked>>) -> After {
         let shown = lend_variables(&[FIGURE; VARIABLES], |variables| {
             raw::model_variables(&self.words, &self.state, variables)
         });
@@ -96,7 +115,26 @@ impl StateWalk {
         self.offers.push(listed(more_rooms, |output, told| {
             raw::model_enabled(words, state, output, told)
         }));
+        self.starts.extend(asked.map(|asked| {
+            let answers = asked.iter().map(|asked| ask(words, state, asked.question));
+            answers.collect()
+        }));
         shown
+    }
+
+    /// START's test in the last state, also with numbers behind it or with too few.
+    fn try_places(&mut self, Question { thread, length }: Question) {
+        let test = |state: &[u32], places| {
+            lend_marks(places, |told| {
+                raw::model_start_test(&self.words, state, thread, length, told)
+            })
+        };
+        let (state, mut longer) = (&self.state, self.state.clone());
+        longer.resize(STATE_WORDS + BEHIND, u32::MARK);
+        let told = [test(state, 1 + BEHIND), test(state, 0), test(&longer, 1)];
+        let short = [test(&state[1..], 1 + BEHIND), test(&[], 1)];
+        self.start_places.extend(told);
+        self.start_short.extend(short);
     }
 
     fn try_short(&mut self, event: &[u8]) {
@@ -109,6 +147,19 @@ impl StateWalk {
                 raw::model_enabled(words, &state[..few], output, &mut [])
             }),
         ]);
+    }
+}
+
+/// What START's test tells in a state, and the answer to that START on a copy.
+fn ask(words: &[u32], state: &[u32], question: Question) -> Answered {
+    let Question { thread, length } = question;
+    let mut told = [usize::MARK; 2];
+    let answer = raw::model_start_test(words, state, thread, length, &mut told);
+    let step = |event: Vec<u8>| raw::model_step(words, &mut state.to_vec(), &event);
+    Answered {
+        answer,
+        told,
+        start: question.event().map(step),
     }
 }
 
@@ -180,6 +231,8 @@ pub struct AnyState {
     /// The answers to the events offered, each on the same state, and to TICK 1.
     pub taken: Vec<u32>,
     pub tick: u32,
+    /// What START's test tells, of threads that need not be there.
+    pub starts: Vec<Answered>,
 }
 
 /// Some numbers of a model and its state are others.
@@ -201,6 +254,7 @@ pub fn any_state(walk: &StateWalk, spoils: &[Spoil], event: &[u8]) -> AnyState {
     let offered = offers.events();
     let taken = offered.iter().map(|&offer| step(&event_of(offer)).answer);
     AnyState {
+        starts: any_starts(&words, &state, &offered, spoils),
         lendings: vec![
             step(event),
             lend(&state, |state| raw::model_start(&words, state)),
@@ -212,6 +266,20 @@ pub fn any_state(walk: &StateWalk, spoils: &[Spoil], event: &[u8]) -> AnyState {
         tick: step(&[0x0B, 1, 0]).answer,
         offers,
     }
+}
+
+/// What START's test tells of numbers of any content; the model is cut too.
+fn any_starts(
+    words: &[u32],
+    state: &[u32],
+    offered: &[[u32; 4]],
+    spoils: &[Spoil],
+) -> Vec<Answered> {
+    let cut = spoils.first().map_or(0, |spoil| spoil.place % words.len());
+    let questions = any_questions(offered).into_iter();
+    questions
+        .flat_map(|question| [words, &words[..cut]].map(|words| ask(words, state, question)))
+        .collect()
 }
 
 /// The event that is offered, a START of the shortest length.

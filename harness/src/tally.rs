@@ -12,6 +12,7 @@ use crate::lending::Lending;
 use crate::reach::{add_each, Reach, KINDS, LATE};
 use crate::records::{model_body, split};
 use crate::refused::Refused;
+use crate::starts::{Answered, StartTold, START_PLACES, STEPS};
 
 /// The numbers of refusals, and 0.
 pub const NUMBERS: usize = 16;
@@ -31,6 +32,12 @@ pub struct Tally {
     /// Sizes of tables by the places that were lent for them; more than all stand
     /// last.
     pub sizes: [u64; SIZE_PLACES + 2],
+    /// START's tests over bytes by the step told, by places likewise, and of refused
+    /// models; and those on numbers of any content. The reach has the others.
+    pub start_steps: [u64; STEPS],
+    pub start_places: [u64; START_PLACES + 2],
+    pub start_refused: u64,
+    pub any_starts: [u64; STEPS],
     pub model_events: [u64; NUMBERS],
     pub table_events: [u64; NUMBERS],
     pub lent_steps: [u64; NUMBERS],
@@ -148,6 +155,25 @@ impl Tally {
         }
     }
 
+    pub fn note_starts(&mut self, wanted: &StartTold, found: &[Lending<usize>]) {
+        match self.start_steps.get_mut(wanted.step) {
+            Some(count) => *count += 1,
+            None => self.start_refused += 1,
+        }
+        for lending in found {
+            self.start_places[lending.after.len().min(START_PLACES + 1)] += 1;
+        }
+    }
+
+    /// What is no step is found by the comparison.
+    pub fn note_any_starts(&mut self, found: &[Answered]) {
+        for answered in found {
+            if let Some(count) = self.any_starts.get_mut(answered.told[0]) {
+                *count += 1;
+            }
+        }
+    }
+
     pub fn note_table(&mut self, case: &Case, wanted: &Said) {
         self.tables[wanted.read.number as usize] += 1;
         self.table_records.note(&case.table, &wanted.read);
@@ -180,6 +206,10 @@ impl Tally {
         self.table_records.add(&other.table_records);
         add_each(&mut self.translations, &other.translations);
         add_each(&mut self.sizes, &other.sizes);
+        add_each(&mut self.start_steps, &other.start_steps);
+        add_each(&mut self.start_places, &other.start_places);
+        self.start_refused += other.start_refused;
+        add_each(&mut self.any_starts, &other.any_starts);
         add_each(&mut self.model_events, &other.model_events);
         add_each(&mut self.table_events, &other.table_events);
         add_each(&mut self.lent_steps, &other.lent_steps);
@@ -234,6 +264,7 @@ impl Display for Tally {
         writeln!(formatter, "{} cases", self.cases)?;
         self.write_numbers(formatter)?;
         self.write_kinds(formatter)?;
+        self.write_starts(formatter)?;
         writeln!(
             formatter,
             "states of models looked at: {}; whole runs of ten events or more: {}; \
@@ -291,8 +322,8 @@ impl Tally {
 
     /// The counts by places lent, and by kind of event.
     fn write_kinds(&self, formatter: &mut Formatter) -> fmt::Result {
-        let sizes: Vec<String> = self.sizes.iter().map(u64::to_string).collect();
-        writeln!(formatter, "sizes by places lent: {}", sizes.join(" "))?;
+        let sizes = joined(&self.sizes);
+        writeln!(formatter, "sizes by places lent: {sizes}")?;
         for (what, counts) in [
             ("taken by models", &self.taken_by_models),
             ("of these moved a value", &self.moved),
@@ -304,6 +335,29 @@ impl Tally {
         }
         Ok(())
     }
+
+    /// What START's test told and met.
+    fn write_starts(&self, formatter: &mut Formatter) -> fmt::Result {
+        let starts = &self.reach.starts;
+        writeln!(
+            formatter,
+            "START's test by step: {}; over bytes: {}, {} of refused models; by places lent: {}; \
+             on numbers of any content: {}",
+            joined(&starts.steps),
+            joined(&self.start_steps),
+            self.start_refused,
+            joined(&self.start_places),
+            joined(&self.any_starts)
+        )?;
+        let met = starts.met().map(|(what, count)| format!("{what} {count}"));
+        writeln!(formatter, "of these: {}", met.join(", "))
+    }
+}
+
+/// The counts in the order of the numbers.
+fn joined(counts: &[u64]) -> String {
+    let counts: Vec<String> = counts.iter().map(u64::to_string).collect();
+    counts.join(" ")
 }
 
 fn numbers(counts: &[u64]) -> String {

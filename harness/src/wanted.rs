@@ -6,14 +6,17 @@ use plain::model::{self, Duration, Model, State};
 use plain::refusal::{Refusal, EVENT};
 use plain::script::{self, Event};
 use plain::table::{self, Table};
-use plain::{listing, offers, show, size, translate};
+use plain::{listing, offers, show, size, start_test, translate};
 
 use crate::answers::{
     After, Listing, Offers, Run, Said, Size, Step, Told, Translation, Variables, BEHIND, BYTE, DUE,
     END, FIGURE, NOW, THREADS, VARIABLES,
 };
 use crate::case::Late;
+use crate::lending::Number;
+use crate::random::Random;
 use crate::reach::Reach;
+use crate::starts::{self, Asked, Question, StartTold};
 
 /// All that is to be said of a model and a script, and what the events did. The
 /// listing goes into an output with room behind it and, with `more_rooms`, one
@@ -36,6 +39,7 @@ pub fn of_model(bytes: &[u8], script: &[u8], more_rooms: bool) -> (Said, Reach) 
                 listings,
                 offers: seen.offers,
                 shown: seen.shown,
+                asked: seen.asked,
             };
             (said, reach)
         }
@@ -58,13 +62,48 @@ fn model_seen(model: &Model, start: State, script: &[u8]) -> (Seen, Reach) {
         reach.borrow_mut().note(model, state, event, &came);
         came
     };
+    let random = RefCell::new(Random::new(script.len() as u64, start.now.0));
     let look = |state: &State| Look {
         variables: show_without_times(model, state),
         shown: Some(show::show_jobs(model, state)),
         offers: offered(offers::of_model(model, state)),
+        asked: asked(
+            &mut random.borrow_mut(),
+            model,
+            state,
+            &mut reach.borrow_mut(),
+        ),
     };
     let seen = seen(script, start, step, look);
     (seen, reach.into_inner())
+}
+
+/// What START's test tells in a state, of some threads and lengths.
+fn asked(random: &mut Random, model: &Model, state: &State, reach: &mut Reach) -> Vec<Asked> {
+    let ask = |question: Question| {
+        let Question { thread, length } = question;
+        let step = model::start_test(model, state, thread, length);
+        let asked = Asked { question, step };
+        reach.starts.note(model, state, &asked);
+        asked
+    };
+    let questions = starts::questions(random, model, state);
+    questions.into_iter().map(ask).collect()
+}
+
+/// What START's test tells in the state that a script leaves.
+pub fn start_test(model: &[u8], script: &[u8], question: Question) -> StartTold {
+    let Question { thread, length } = question;
+    match start_test::start_test(model, script, thread, length) {
+        Ok(step) => StartTold {
+            told: Told::default(),
+            step: step.into(),
+        },
+        Err(refusal) => StartTold {
+            told: told(Some(refusal)),
+            step: usize::MARK,
+        },
+    }
 }
 
 /// All that is to be said of a table and a script.
@@ -84,6 +123,7 @@ pub fn of_table(bytes: &[u8], script: &[u8], more_rooms: bool) -> Said {
                 listings,
                 offers: seen.offers,
                 shown: seen.shown,
+                asked: seen.asked,
             }
         }
     }
@@ -103,6 +143,7 @@ fn table_seen(table: &Table, start: Variables, script: &[u8]) -> Seen {
         variables: *state,
         shown: None,
         offers: table_offers(table, state),
+        asked: Vec::new(),
     };
     seen(script, start, step, look)
 }
@@ -175,6 +216,7 @@ fn refused(refusal: Refusal, listings: Vec<Listing>) -> Said {
         listings,
         offers: Vec::new(),
         shown: Vec::new(),
+        asked: Vec::new(),
     }
 }
 
@@ -209,14 +251,16 @@ struct Look {
     /// As a lent state of a model shows them.
     shown: Option<Variables>,
     offers: Offers,
+    asked: Vec<Asked>,
 }
 
-/// What is seen along a script; offers and what is shown at the start too.
+/// What is seen along a script; all but the steps at the start too.
 #[derive(Default)]
 pub struct Seen {
     pub steps: Vec<Step>,
     pub shown: Vec<Variables>,
     pub offers: Vec<Offers>,
+    pub asked: Vec<Vec<Asked>>,
 }
 
 fn seen<S>(
@@ -229,10 +273,12 @@ fn seen<S>(
     let start = look(&state);
     seen.shown.extend(start.shown);
     seen.offers.push(start.offers);
+    seen.asked.push(start.asked);
     script::run_on(script, &mut state, step, |answer, state| {
         let look = look(state);
         seen.shown.extend(look.shown);
         seen.offers.push(look.offers);
+        seen.asked.push(look.asked);
         seen.steps.push(Step {
             number: seen.steps.len(),
             start: answer.start,

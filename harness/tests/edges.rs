@@ -4,8 +4,10 @@
 //! plain model read all of them alike.
 
 use harness::answers::{Listed, Said, Size, SIZE_PLACES};
+use harness::compare::Check;
 use harness::found::Indexes;
 use harness::records::{fields, model_body, split, table_body, Record};
+use harness::starts::{Question, StartTold, START_PLACES};
 use harness::stepped::StateWalk;
 use harness::tally::NUMBERS;
 use harness::{compare, found, stepped, wanted};
@@ -200,11 +202,13 @@ type Counts = [usize; NUMBERS];
 fn agree_on_model(counts: &mut Counts, bytes: &[u8]) {
     let (wanted, _) = wanted::of_model(bytes, &[], false);
     let found = found::of_model(bytes, &[], &[], &StateWalk::default());
-    let on_state = stepped::on_state(bytes, &[], false);
+    let on_state = stepped::on_state(bytes, &[], &wanted.asked, false);
     compare::reading(&wanted.read, &found.read)
         .and_then(|()| compare::reading(&wanted.read, &on_state.read))
         .and_then(|()| compare::shown(&wanted.shown, &on_state.shown))
         .and_then(|()| compare::enabled(&wanted.offers, &on_state.offers))
+        .and_then(|()| compare::start_step(&wanted.asked, &on_state.starts))
+        .and_then(|()| start_tests(bytes, SCRIPT))
         .unwrap_or_else(|how| panic!("{how}: {bytes:02x?}"));
     agree_on_size(bytes);
     counts[wanted.read.number as usize] += 1;
@@ -217,6 +221,19 @@ fn agree_on_model(counts: &mut Counts, bytes: &[u8]) {
             "{bytes:02x?}"
         );
     }
+}
+
+/// START's test over bytes, told into all places and two; of the first two threads
+/// and of none.
+fn start_tests(model: &[u8], script: &[u8]) -> Check {
+    (0..3).try_for_each(|thread| {
+        let question = Question { thread, length: 1 };
+        let places = [START_PLACES, START_PLACES - 1];
+        let found = found::start_tests(model, script, question, &places);
+        let wanted = wanted::start_test(model, script, question);
+        compare::start_told(&wanted, &StartTold::of(&found[0]))
+            .and_then(|()| compare::start_places(&found))
+    })
 }
 
 /// The size of the table, and translations into just as much room and into one
@@ -267,16 +284,18 @@ fn agree_on_script(script: &[u8]) {
     let model = model();
     let (wanted, _) = wanted::of_model(&model, script, false);
     let found = found::of_model(&model, script, &[], &StateWalk::default());
-    let on_state = stepped::on_state(&model, script, false);
+    let on_state = stepped::on_state(&model, script, &wanted.asked, false);
     compare::answers(&wanted.steps, &on_state.steps)
         .and_then(|()| compare::shown(&wanted.shown, &on_state.shown))
         .and_then(|()| compare::enabled(&wanted.offers, &on_state.offers))
+        .and_then(|()| compare::start_step(&wanted.asked, &on_state.starts))
         .unwrap_or_else(|how| panic!("{how} on a lent state: {script:02x?}"));
     let parts = found::part_lengths(script);
     compare::event_parts(&wanted.steps, &parts)
         .and_then(|()| compare::answers(&wanted.steps, &found.steps))
         .and_then(|()| compare::variables(&wanted.steps, &found.steps))
         .and_then(|()| compare::run(&wanted.run, &found.run))
+        .and_then(|()| start_tests(&model, script))
         .unwrap_or_else(|how| panic!("{how}: {script:02x?}"));
 }
 

@@ -12,7 +12,7 @@ use harness::runner::{self, Plan};
 
 /// The comparisons that a fault of the plain model cannot fail. The tests in
 /// loose.rs, touched.rs and touched_steps.rs fail them.
-const SHOWN_ELSEWHERE: [&str; 12] = [
+const SHOWN_ELSEWHERE: [&str; 14] = [
     "any_index",
     "any_state",
     "any_step",
@@ -23,6 +23,8 @@ const SHOWN_ELSEWHERE: [&str; 12] = [
     "listing_room",
     "size_made",
     "size_places",
+    "start_places",
+    "start_taken",
     "state_room",
     "translation_room",
 ];

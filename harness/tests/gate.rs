@@ -20,9 +20,12 @@ fn library_and_plain_model_agree() {
     assert_eq!(outcome.tally.cases, plan.cases.end);
     inputs_are_of_all_sorts(&outcome.tally);
     every_kind_of_record_is_refused(&outcome.tally);
+    answers_are_met(&outcome.tally);
+    kinds_are_met(&outcome.tally);
     runs_go_far(&outcome.tally);
     every_number_has_its_part(&outcome.tally.reach);
     thin_places_are_met(&outcome.tally);
+    every_step_is_told(&outcome.tally);
     every_comparison_is_made(&outcome.tally);
 }
 
@@ -97,7 +100,8 @@ fn refused_in_kinds(records: &Refused, number: u32, kinds: &[u8], floor: u64) {
     all_at_least(&what, &counts, floor);
 }
 
-fn runs_go_far(tally: &Tally) {
+/// Events are answered in every way that there is.
+fn answers_are_met(tally: &Tally) {
     at_least(
         "events on models",
         &tally.model_events,
@@ -131,15 +135,14 @@ fn runs_go_far(tally: &Tally) {
         &tally.any_steps,
         &[(0, 2_000), (9, 500), (10, 10_000), (11, 1_000), (12, 100)],
     );
+}
+
+/// Events of every kind are taken and offered.
+fn kinds_are_met(tally: &Tally) {
     for kind in 1..=11 {
         at_least("taken by models", &tally.taken_by_models, &[(kind, 200)]);
         at_least("taken by tables", &tally.taken_by_tables, &[(kind, 1_000)]);
     }
-    at_least(
-        "moved a value",
-        &tally.moved,
-        &[(3, 1_000), (4, 400), (5, 5_000), (6, 1_500)],
-    );
     for kind in 1..=11 {
         at_least(
             "offered by models",
@@ -153,6 +156,14 @@ fn runs_go_far(tally: &Tally) {
         );
     }
     assert!(tally.offered_twice > 20_000, "{}", tally.offered_twice);
+}
+
+fn runs_go_far(tally: &Tally) {
+    at_least(
+        "moved a value",
+        &tally.moved,
+        &[(3, 1_000), (4, 400), (5, 5_000), (6, 1_500)],
+    );
     assert!(tally.shown > 100_000, "{}", tally.shown);
     assert!(tally.whole_runs > 4_000, "{}", tally.whole_runs);
     assert!(tally.behavior_changes > 1_500, "{}", tally.behavior_changes);
@@ -213,13 +224,61 @@ fn thin_places_are_met(tally: &Tally) {
     }
 }
 
+/// START's test: each step in lent states, over bytes and on any numbers; and what
+/// else would have failed there.
+fn every_step_is_told(tally: &Tally) {
+    let starts = &tally.reach.starts;
+    for (what, counts, floors) in [
+        (
+            "START's test by step",
+            &starts.steps,
+            [73_000, 1_290_000, 360_000, 62_000, 72_000],
+        ),
+        (
+            "START's test over bytes",
+            &tally.start_steps,
+            [1_600, 8_600, 1_300, 450, 1_600],
+        ),
+        (
+            "START's test on any numbers",
+            &tally.any_starts,
+            [5_100, 130_000, 2_700, 1_100, 4_800],
+        ),
+    ] {
+        let floors: Vec<(usize, u64)> = floors.into_iter().enumerate().collect();
+        at_least(what, counts, &floors);
+    }
+    all_at_least("START's test by places lent", &tally.start_places, 6_600);
+    let refused = tally.start_refused;
+    assert!(
+        refused >= 1_700,
+        "START's test of refused models: {refused}"
+    );
+    let floors = [
+        380_000, 870_000, 28_000, 580_000, 17_000, 97_000, 179_000, 31_000, 48_000, 14_000,
+    ];
+    for ((what, count), floor) in starts.met().into_iter().zip(floors) {
+        assert!(
+            count >= floor,
+            "START's test, {what}: {count} below {floor}"
+        );
+    }
+}
+
 fn every_comparison_is_made(tally: &Tally) {
-    assert_eq!(tally.comparisons.len(), 36, "{:?}", tally.comparisons);
+    assert_eq!(tally.comparisons.len(), 40, "{:?}", tally.comparisons);
     for (comparison, &count) in &tally.comparisons {
         assert!(count >= tally.cases / 5, "{comparison} made {count} times");
     }
     // Of every model, accepted or not.
-    for comparison in ["size_told", "size_places", "size_made"] {
+    let of_every_model = [
+        "size_told",
+        "size_places",
+        "size_made",
+        "start_told",
+        "start_places",
+    ];
+    for comparison in of_every_model {
         assert_eq!(tally.comparisons[comparison], tally.cases, "{comparison}");
     }
 }

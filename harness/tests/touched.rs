@@ -4,6 +4,7 @@
 use harness::answers::{After, Listing, Said, Size, Step, Told, Translation};
 use harness::answers::{BEHIND, BYTE, FIGURE, SIZE_PLACES, VARIABLES};
 use harness::lending::{lend_marks, Lending, Number};
+use harness::starts::START_PLACES;
 use harness::stepped::StateWalk;
 use harness::{compare, found};
 
@@ -86,6 +87,40 @@ fn size_places() {
         let check = compare::size_places(&told_sizes(habit));
         assert!(check.is_err(), "habit {number}");
     }
+}
+
+/// A library that tells of START's test into more places than it needs, into two
+/// and into none, and then has some habit.
+fn told_starts(numbers: &'static [usize], habit: fn(&mut [usize]) -> u32) -> compare::Check {
+    let told = |count| {
+        lend_marks(count, |told: &mut [usize]| {
+            let places = told.iter_mut().zip(numbers);
+            places.for_each(|(told, number)| *told = *number);
+            habit(told)
+        })
+    };
+    compare::start_places(&[START_PLACES + BEHIND, 2, 0].map(told))
+}
+
+#[test]
+fn start_places() {
+    let taken: &[usize] = &[0, 0, 3];
+    assert!(told_starts(taken, |_| 0).is_ok());
+    let refused = &taken[..2];
+    assert!(told_starts(refused, |_| 14).is_ok());
+    // Of a refused model a step is told; a place behind is written; the number goes
+    // by the places; a place is told otherwise where there are few.
+    assert!(told_starts(taken, |_| 14).is_err());
+    assert!(told_starts(&[0, 0, 3, 0], |_| 0).is_err());
+    assert!(told_starts(taken, |told| told.len() as u32).is_err());
+    let few: fn(&mut [usize]) -> u32 = |told| {
+        if told.len() == 2 {
+            told[1] = 3;
+        }
+        0
+    };
+    assert!(told_starts(taken, few).is_err());
+    assert!(told_starts(refused, few).is_err());
 }
 
 #[test]

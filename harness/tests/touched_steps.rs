@@ -5,6 +5,7 @@
 use harness::answers::{After, Listed, BEHIND, FIGURE, VARIABLES};
 use harness::compare;
 use harness::lending::{lend, lend_marks, Lending, Number};
+use harness::starts::Answered;
 use harness::stepped::{listed, AnyState};
 
 const WORD: u32 = u32::MARK;
@@ -119,6 +120,67 @@ fn index_room() {
     assert!(check(3, &[7, 8, 9, 1]).is_err());
 }
 
+/// The step is told into several places on enough numbers, and on too few.
+fn told_step(habit: fn(&mut [usize]), short: fn(&mut [usize]) -> u32) -> compare::Check {
+    let told = |count| {
+        lend_marks(count, |told: &mut [usize]| {
+            told.iter_mut().take(1).for_each(|step| *step = 3);
+            habit(told);
+            0
+        })
+    };
+    let too_few = [lend_marks(2, short)];
+    compare::state_start_places(&[1 + BEHIND, 0, 1].map(told), &too_few)
+}
+
+#[test]
+fn start_places_on_a_state() {
+    assert!(told_step(|_| (), |_| 8).is_ok());
+    assert!(compare::state_start_places(&[], &[]).is_err());
+    // A place behind is written; the step goes by the places; too few numbers are
+    // taken, or a step is told of them.
+    let behind: fn(&mut [usize]) = |told| told.iter_mut().skip(1).for_each(|place| *place = 0);
+    assert!(told_step(behind, |_| 8).is_err());
+    let alone: fn(&mut [usize]) = |told| {
+        if told.len() == 1 {
+            told[0] = 2;
+        }
+    };
+    assert!(told_step(alone, |_| 8).is_err());
+    assert!(told_step(|_| (), |_| 0).is_err());
+    let told: fn(&mut [usize]) -> u32 = |told| {
+        told[0] = 1;
+        8
+    };
+    assert!(told_step(|_| (), told).is_err());
+}
+
+/// A step told, and the answer to that START.
+fn answered(step: usize, start: Option<u32>) -> Answered {
+    Answered {
+        answer: 0,
+        told: [step, usize::MARK],
+        start,
+    }
+}
+
+#[test]
+fn start_taken() {
+    let check = |step, start| {
+        let first = answered(0, Some(0));
+        compare::start_taken(&[vec![first], vec![first, answered(step, start)]])
+    };
+    assert!(check(0, Some(0)).is_ok());
+    assert!(check(1, None).is_ok());
+    for step in 1..=4 {
+        assert!(check(step, Some(10)).is_ok());
+        assert!(check(step, Some(0)).is_err());
+        assert!(check(step, Some(11)).is_err());
+    }
+    assert!(check(0, Some(10)).is_err());
+    assert!(check(0, Some(8)).is_err());
+}
+
 /// Two events are offered and taken, and time may pass.
 fn any_state() -> AnyState {
     AnyState {
@@ -131,6 +193,11 @@ fn any_state() -> AnyState {
         offers: list(TWO, |_, _| ()),
         taken: vec![0, 0],
         tick: 0,
+        starts: vec![
+            answered(0, Some(0)),
+            answered(1, None),
+            answered(4, Some(10)),
+        ],
     }
 }
 
@@ -152,4 +219,10 @@ fn numbers_of_any_content() {
     spoiled(|found| found.tick = 10);
     spoiled(|found| found.offers.rooms[0].1[0] += 1);
     spoiled(|found| found.offers.rooms[1].0.after[0] = WORD - 1);
+    spoiled(|found| found.starts[0].answer = 8);
+    spoiled(|found| found.starts[1].told[0] = 5);
+    spoiled(|found| found.starts[1].told[0] = usize::MARK);
+    spoiled(|found| found.starts[2].told[1] = 0);
+    spoiled(|found| found.starts[0].start = Some(10));
+    spoiled(|found| found.starts[2].start = Some(0));
 }

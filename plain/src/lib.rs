@@ -1,5 +1,5 @@
 //! A plain implementation of document 01, "Pad timing models and their rule
-//! tables", with the changes W1 to W3 of document 02.
+//! tables", with the changes W1 to W4 of document 02.
 //!
 //! It reads a timing model from bytes, runs event lists on it, translates it
 //! into a rule table, reads rule tables from bytes and runs event lists on
@@ -18,6 +18,7 @@
 //! * [`translate`]: the table made from a model
 //! * [`size`]: the size of that table, told without making it (W1)
 //! * [`listing`]: the lines that the programs `steps` and `rules` print
+//! * [`start_test`]: what START fails at in the state that a script leaves (W4)
 //! * [`show`]: a state of the model written as the table's variables
 //! * [`offers`]: what is enabled, of a model and of a table
 //!
@@ -32,5 +33,6 @@ pub mod refusal;
 pub mod script;
 pub mod show;
 pub mod size;
+pub mod start_test;
 pub mod table;
 pub mod translate;

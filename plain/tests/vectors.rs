@@ -7,7 +7,8 @@
 //!
 //! In the group `models`, `model.bin` and `script.bin` are given, and all else
 //! is the answer: what the two programs print, the translation with its table
-//! and counts, and the trace of variables, which goes on after refused events.
+//! and counts, and the trace of variables, which goes on after refused events. Some
+//! have `start.txt`: `THREAD LENGTH: STEP` of the test for START after the script.
 //! In the group `tables`, `table.bin` and `script.bin` are given.
 
 mod common;
@@ -19,6 +20,7 @@ use plain::refusal::Refusal;
 use plain::script::{run_on, Event};
 use plain::show::{show, without_idle_ends};
 use plain::size::table_size;
+use plain::start_test::start_test;
 use plain::table::{self, Table, Variables, LONGEST_TABLE};
 use plain::translate::{table_of, translate};
 use std::collections::BTreeMap;
@@ -203,6 +205,10 @@ fn check_model_case(case: &Case, differences: &mut Vec<String>) {
         rules(model_bytes, read_by_programs, LIMIT).as_bytes(),
     );
     check_size(case, differences);
+    if case.has("start.txt") {
+        let told = told_starts(case);
+        case.compare(differences, "start.txt", told.as_bytes());
+    }
     match translate(model_bytes, LONGEST_TABLE) {
         Err(refusal) => {
             case.compare(differences, "translate.txt", refused(&refusal).as_bytes());
@@ -223,6 +229,28 @@ fn check_size(case: &Case, differences: &mut Vec<String>) {
     if told.split_whitespace().ne(known) {
         differences.push(format!("{}: the size told differs", case.name));
     }
+}
+
+/// What the test for START tells of each thread and length that the case asks for.
+fn told_starts(case: &Case) -> String {
+    let known = String::from_utf8_lossy(case.input("start.txt"));
+    let (model_bytes, script) = (case.input("model.bin"), case.input("script.bin"));
+    let mut lines = String::new();
+    for line in known.lines() {
+        let (question, _) = line.split_once(':').expect("a question");
+        let (thread, length) = question.split_once(' ').expect("thread and length");
+        let (thread, length) = (number(thread), number(length));
+        let told = match start_test(model_bytes, script, thread, length) {
+            Ok(step) => format!("{step}\n"),
+            Err(refusal) => refused(&refusal),
+        };
+        write!(lines, "{thread} {length}: {told}").unwrap();
+    }
+    lines
+}
+
+fn number(text: &str) -> u32 {
+    text.parse().expect("a number of 32 bits")
 }
 
 fn check_accepted_model(case: &Case, table_bytes: &[u8], differences: &mut Vec<String>) {
@@ -277,7 +305,9 @@ fn check_table_case(case: &Case, differences: &mut Vec<String>) {
 #[test]
 fn models() {
     let cases = cases("models");
-    assert_eq!(cases.len(), 169);
+    assert_eq!(cases.len(), 189);
+    let of_start = cases.iter().filter(|case| case.has("start.txt"));
+    assert_eq!(of_start.count(), 12);
     let mut differences = Vec::new();
     for case in &cases {
         check_model_case(case, &mut differences);

@@ -9,6 +9,8 @@
 //! * [`table_size`]: how long that table is, before it is made
 //! * [`run_model`], [`run_table`]: a script up to its first refused event
 //! * [`model_listing`], [`table_listing`]: the lines of such a run
+//! * [`start_test`]: whether START is taken after a script, or the first [`StartStep`]
+//!   that fails
 //! * [`Model`], [`Table`]: one event after another on a [`State`] or [`Variables`]
 //!   of one's own, in any order, and what is [`Enabled`] there
 //! * [`refusals`]: what each refusal means, in words
@@ -43,9 +45,11 @@ use std::fmt;
 
 pub mod raw;
 pub mod refusals;
+mod start_step;
 mod stepping;
 
 use refusals::Holder;
+pub use start_step::StartStep;
 pub use stepping::{Enabled, Model, Offer, State, Table, MODEL_WORDS, STATE_WORDS};
 
 /// A refusal by its number in documents 01 and 02, and the part that it returns,
@@ -127,6 +131,9 @@ pub type Variables = [i32; VARIABLES];
 /// Room that suffices for the table of every accepted model; some tables take all
 /// of it.
 pub const ROOM_FOR_TABLE: usize = 171_637;
+
+/// A place for a step before the call: 0 would say that START is taken.
+const NOT_TOLD: usize = usize::MAX;
 
 /// The size of a table: its bytes, and its records of each kind but start
 /// records, which are in the bytes alone.
@@ -238,6 +245,20 @@ pub fn run_table(table: &[u8], script: &[u8]) -> Run {
 /// script.
 pub fn model_after(model: &[u8], script: &[u8], event: &[u8], variables: &mut Variables) -> u32 {
     raw::model_after(model, script, event, variables)
+}
+
+/// Runs a script on a model from its start, going on after refused events, and
+/// tests START of this thread and length in the state left.
+pub fn start_test(
+    model: &[u8],
+    script: &[u8],
+    thread: u32,
+    length: u32,
+) -> Result<StartStep, Refusal> {
+    let mut told = [0, 0, NOT_TOLD];
+    let number = raw::start_test(model, script, thread, length, &mut told);
+    let [start, end, step] = told;
+    Refusal::unless_zero(number, start, end).map(|()| StartStep::told(step))
 }
 
 /// The length of the part at the start of a script: a whole event, or the rest

@@ -98,6 +98,16 @@ extern "C" {
         variables: *mut i32,
         variables_length: usize,
     ) -> u32;
+    fn fk_start_test(
+        model: *const u8,
+        model_length: usize,
+        script: *const u8,
+        script_length: usize,
+        thread: u32,
+        length: u32,
+        told: *mut usize,
+        told_length: usize,
+    ) -> u32;
     fn fk_table_enabled(
         table: *const u8,
         table_length: usize,
@@ -149,6 +159,16 @@ extern "C" {
         state_length: usize,
         output: *mut u32,
         output_length: usize,
+        told: *mut usize,
+        told_length: usize,
+    ) -> u32;
+    fn fk_model_start_test(
+        words: *const u32,
+        words_length: usize,
+        state: *const u32,
+        state_length: usize,
+        thread: u32,
+        length: u32,
         told: *mut usize,
         told_length: usize,
     ) -> u32;
@@ -362,6 +382,34 @@ pub fn model_after(model: &[u8], script: &[u8], event: &[u8], variables: &mut [i
     }
 }
 
+/// Runs a script on a model from its start, going on after refused events, and
+/// tests whether START of this thread and length is taken in the state left. The
+/// result is 0 or the number of the model's refusal; told are start and end of the
+/// part refused, then the number of a [`crate::StartStep`]. Of a refused model no
+/// step is told, and its place stays as it was: 0 there would say that START is
+/// taken.
+pub fn start_test(
+    model: &[u8],
+    script: &[u8],
+    thread: u32,
+    length: u32,
+    told: &mut [usize],
+) -> u32 {
+    // SAFETY: pointers and counts are those of slices.
+    unsafe {
+        fk_start_test(
+            model.as_ptr(),
+            model.len(),
+            script.as_ptr(),
+            script.len(),
+            thread,
+            length,
+            told.as_mut_ptr(),
+            told.len(),
+        )
+    }
+}
+
 /// How many numbers a model takes that is read by [`model_read`].
 pub fn model_words() -> usize {
     // SAFETY: nothing is handed over.
@@ -444,6 +492,31 @@ pub fn model_enabled(words: &[u32], state: &[u32], output: &mut [u32], told: &mu
             state.len(),
             output.as_mut_ptr(),
             output.len(),
+            told.as_mut_ptr(),
+            told.len(),
+        )
+    }
+}
+
+/// Tests whether START of this thread and length is taken in a state. The result
+/// is 0, and told is the number of a [`crate::StartStep`]; or 8 for fewer numbers
+/// than a state takes, and then nothing is told.
+pub fn model_start_test(
+    words: &[u32],
+    state: &[u32],
+    thread: u32,
+    length: u32,
+    told: &mut [usize],
+) -> u32 {
+    // SAFETY: pointers and counts are those of slices.
+    unsafe {
+        fk_model_start_test(
+            words.as_ptr(),
+            words.len(),
+            state.as_ptr(),
+            state.len(),
+            thread,
+            length,
             told.as_mut_ptr(),
             told.len(),
         )

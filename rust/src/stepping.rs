@@ -1,6 +1,9 @@
 //! Models and tables stepped event by event, on states that the caller keeps.
 
-use crate::{raw, read_table, run_table, table_listing, Refusal, Run, Variables, VARIABLES};
+use crate::{
+    raw, read_table, run_table, table_listing, Refusal, Run, StartStep, Variables, NOT_TOLD,
+    VARIABLES,
+};
 
 /// How many numbers a model takes once it is read.
 pub const MODEL_WORDS: usize = 3_865;
@@ -114,6 +117,14 @@ impl Model {
     /// What is enabled; the model's table offers the same.
     pub fn enabled(&self, state: &State) -> Enabled {
         Enabled::listed(|output, told| raw::model_enabled(&self.words, &state.words, output, told))
+    }
+
+    /// Tests START of this thread and length in a state. A thread may have any
+    /// number: one that is not there fails at the first step.
+    pub fn start_test(&self, state: &State, thread: u32, length: u32) -> StartStep {
+        let mut told = [NOT_TOLD];
+        raw::model_start_test(&self.words, &state.words, thread, length, &mut told);
+        StartStep::told(told[0])
     }
 }
 

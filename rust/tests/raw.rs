@@ -791,3 +791,100 @@ fn nothing_is_enabled_in_a_short_state() {
         });
     }
 }
+
+/// M dispatched: START for 1 to 5 is taken.
+const DISPATCHED: &[u8] = &[0x01, 0, 0x03, 0];
+
+/// Numbers that no thread of M has; the low bytes of some are 0.
+const NOBODY: [u32; 7] = [1, 15, 16, 255, 256, 65_536, u32::MAX];
+
+/// A script, thread and length with the step that is told, on bytes and on a state.
+fn tells_step(script: &[u8], thread: u32, length: u32, step: usize) {
+    let words = words_of_m();
+    let state = state_after(&words, script);
+    tells(&[0, 0, step], 0, |told| {
+        raw::start_test(M, script, thread, length, told)
+    });
+    tells(&[step], 0, |told| {
+        raw::model_start_test(&words, &state, thread, length, told)
+    });
+}
+
+#[test]
+fn start_test_tells_the_first_step_that_fails() {
+    for (length, step) in [(0, 4), (1, 0), (5, 0), (6, 4), (257, 4), (u32::MAX, 4)] {
+        tells_step(DISPATCHED, 0, length, step);
+        tells_step(&DISPATCHED[..2], 0, length, 1);
+        tells_step(&SCRIPT[..10], 0, length, 1);
+        for thread in NOBODY {
+            tells_step(DISPATCHED, thread, length, 1);
+        }
+    }
+    // Refused events are passed over; a cut or unknown one ends the script.
+    let start = &SCRIPT[4..10];
+    for behind in [&[0x03, 0][..], &[0x0B, 0, 0], &start[..5], &[0x0C, 0x04, 0]] {
+        tells_step(&[DISPATCHED, behind].concat(), 0, 2, 0);
+    }
+    tells_step(&[DISPATCHED, &[0x0C], start].concat(), 0, 2, 0);
+    tells_step(&[DISPATCHED, &[0x03, 0], start].concat(), 0, 2, 1);
+}
+
+/// 0 in the third place would say that START is taken.
+#[test]
+fn start_test_tells_no_step_of_a_refused_model() {
+    for (number, model, start) in refused_models() {
+        tells(&[start, model.len()], number, |told| {
+            raw::start_test(&model, DISPATCHED, 0, 2, told)
+        });
+    }
+    tells(&[0, 0], 2, |told| raw::start_test(&[], &[], 0, 2, told));
+}
+
+#[test]
+fn start_test_of_a_short_state() {
+    let words = words_of_m();
+    for length in [0, 1, 6, STATE_WORDS - 1] {
+        tells(&[], 8, |told| {
+            raw::model_start_test(&words, &[WORD; STATE_WORDS][..length], 0, 2, told)
+        });
+    }
+    let state = [&state_after(&words, DISPATCHED)[..], &[WORD; 3]].concat();
+    tells(&[0], 0, |told| {
+        raw::model_start_test(&words, &state, 0, 2, told)
+    });
+}
+
+/// Any numbers stand for some model and some state, and START is taken there exactly
+/// at 0.
+#[test]
+fn start_test_on_numbers_of_any_content() {
+    let m = words_of_m();
+    for words in [
+        &m[..],
+        &[],
+        &m[..20],
+        &[u32::MAX; MODEL_WORDS],
+        &[WORD; 900],
+    ] {
+        for state in [
+            [u32::MAX; STATE_WORDS],
+            [2; STATE_WORDS],
+            [WORD; STATE_WORDS],
+        ] {
+            for thread in [0, 3, 15, 16, 255, 256] {
+                let mut told = [PLACE];
+                assert_eq!(
+                    raw::model_start_test(words, &state, thread, 2, &mut told),
+                    0
+                );
+                assert!(told[0] <= 4, "{told:?}");
+                let Ok(id) = u8::try_from(thread) else {
+                    continue;
+                };
+                let start = [0x04, id, 2, 0, 0, 0];
+                let answer = raw::model_step(words, &mut state.clone(), &start);
+                assert_eq!(answer, if told[0] == 0 { 0 } else { 10 }, "{thread}");
+            }
+        }
+    }
+}

@@ -13,8 +13,9 @@ use common::{
 use futonkestrel::refusals::{meaning_of, Holder, Meaning, MEANINGS};
 use futonkestrel::{
     event_length, events, model_after, model_listing, model_listing_into, read_model, read_table,
-    run_model, run_table, table_listing, table_listing_into, table_size, translate,
-    translate_to_vec, Enabled, Model, Offer, Refusal, Run, Table, ROOM_FOR_TABLE, VARIABLES,
+    run_model, run_table, start_test, table_listing, table_listing_into, table_size, translate,
+    translate_to_vec, Enabled, Model, Offer, Refusal, Run, StartStep, Table, ROOM_FOR_TABLE,
+    VARIABLES,
 };
 use longest::longest_model;
 
@@ -263,6 +264,80 @@ fn a_model_and_its_table_agree() {
     assert_eq!(offered[2].shortest(), [0x04, 0, 1, 0, 0, 0]);
     assert_eq!(offered[2].longest(), [0x04, 0, 5, 0, 0, 0]);
     assert_eq!(offered[3].shortest(), [0x05, 0]);
+}
+
+/// ACTIVATE and DISPATCH of all four threads of the lesson.
+const DISPATCHED: &[u8] = &[1, 0, 1, 1, 1, 2, 1, 3, 3, 0, 3, 1, 3, 2, 3, 3];
+
+fn start(thread: u8, length: u32) -> Vec<u8> {
+    [&[0x04, thread], &length.to_le_bytes()[..]].concat()
+}
+
+/// Each step before those behind it: thread 1 has an input from thread 0.
+#[test]
+fn the_first_step_that_fails() {
+    let running = [DISPATCHED, &start(0, 2)].concat();
+    let done = [&running[..], &[0x0B, 2, 0, 0x05, 0]].concat();
+    for (script, thread, length, step) in [
+        (&[][..], 0, 2, StartStep::State),
+        (DISPATCHED, 4, 2, StartStep::State),
+        (DISPATCHED, 256, 2, StartStep::State),
+        (DISPATCHED, 0, 2, StartStep::None),
+        (DISPATCHED, 0, 4, StartStep::Length),
+        (DISPATCHED, 1, 9, StartStep::Connections),
+        (&running, 1, 9, StartStep::Processor),
+        (&running, 0, 9, StartStep::State),
+        (&done, 1, 4, StartStep::None),
+        (&done, 1, 5, StartStep::Length),
+        (&done, 0, 2, StartStep::State),
+    ] {
+        let told = start_test(LESSON, script, thread, length);
+        assert_eq!(told, Ok(step), "{script:?} {thread} {length}");
+    }
+    assert_eq!(start_test(&LESSON[..9], &[], 0, 2), refused(1, 3, 9));
+    assert_eq!(start_test(&[], &[], 0, 2), refused(2, 0, 0));
+}
+
+/// On a state as on the bytes; START is taken exactly where no step fails, and
+/// offered with the lengths that pass.
+#[test]
+fn start_tests_along_a_run() {
+    let script = include_bytes!("../../examples/lesson/script.bin");
+    let model = Model::read(LESSON).expect("accepted");
+    let (mut state, mut taken, mut met) = (model.start(), 0, BTreeSet::new());
+    for event in events(script) {
+        let offers = model.enabled(&state).events;
+        for (thread, length) in (0..5).flat_map(|thread| (0..8).map(move |n| (thread, n))) {
+            let step = model.start_test(&state, thread.into(), length);
+            let whole = start_test(LESSON, &script[..taken], thread.into(), length);
+            assert_eq!(whole, Ok(step));
+            let answer = model.step(&mut state.clone(), &start(thread, length));
+            assert_eq!(answer, if step.is_taken() { Ok(()) } else { Err(10) });
+            let is_offer = |offer: &&Offer| (offer.kind, offer.id) == (0x04, thread);
+            let offer = offers.iter().find(is_offer);
+            assert_eq!(
+                offer.map(|offer| (offer.low..=offer.high).contains(&length)),
+                matches!(step, StartStep::None | StartStep::Length).then_some(step.is_taken())
+            );
+            met.insert(step);
+        }
+        assert_eq!(model.step(&mut state, event), Ok(()));
+        taken += event.len();
+    }
+    assert_eq!(met, BTreeSet::from(StartStep::ALL));
+}
+
+#[test]
+fn steps_have_numbers_and_words() {
+    for (number, step) in (0..).zip(StartStep::ALL) {
+        assert_eq!(step.number(), number);
+        assert_eq!(step.is_taken(), number == 0);
+    }
+    let words = StartStep::ALL.map(StartStep::word);
+    assert_eq!(
+        words,
+        ["none", "state", "processor", "connections", "length"]
+    );
 }
 
 /// Port and buffer begin at the value that the port's record gives, in model and

@@ -23,6 +23,7 @@ ghost use Rattle.model_words.specs.Words.{modelWords, timingIn};
 ghost use Rattle.enabled.specs.Enabled.{modelOffers, modelMayTick};
 ghost use Rattle.enabled.specs.Told.{toldFrom, listFrom};
 ghost use Rattle.futonkestrel_sizes.specs.Sizes.{TellsSize};
+ghost use Rattle.futonkestrel_starts.specs.Starts as starts;
 ghost use Rattle.futonkestrel.specs.Exports.{Exports};
 
 // ---- reading
@@ -187,6 +188,34 @@ pub extern "C" fn fk_model_variables(words: &[u32], state: &[u32], variables: &m
 {
     let c = futonkestrel_variables::model_variables(words, state, variables);
     futonkestrel_lending::number(c)
+}
+
+// ---- START's test
+// The first step that fails, 1 state, 2 processor, 3 connections, 4 length, or 0: in the state that a script leaves, or in one that is kept.
+#[no_mangle]
+pub extern "C" fn fk_start_test(
+    model: &[u8],
+    script: &[u8],
+    thread: u32,
+    length: u32,
+    told: &mut [usize],
+) -> u32
+    ensures { λ r. ⌜ starts.TellsStart (now (model .entry)) (now (script .entry)) thread length (now (told .entry)) r (now (told .exit)) ⌝ }
+{
+    futonkestrel_starts::start_test(model, script, thread, length, told)
+}
+
+#[no_mangle]
+pub extern "C" fn fk_model_start_test(
+    words: &[u32],
+    state: &[u32],
+    thread: u32,
+    length: u32,
+    told: &mut [usize],
+) -> u32
+    ensures { λ r. ⌜ starts.TellsStartIn (now (words .entry)) (now (state .entry)) thread length (now (told .entry)) r (now (told .exit)) ⌝ }
+{
+    futonkestrel_starts::model_start_test(words, state, thread, length, told)
 }
 
 // ---- what is enabled

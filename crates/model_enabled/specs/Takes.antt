@@ -14,6 +14,7 @@ use Rattle.model_format.specs.Model.{maxThreads, threadAt}
 use Rattle.model_semantics.specs.declared.State.{State}
 use Rattle.model_semantics.specs.State.{isActive, codeOf}
 use Rattle.model_semantics.specs.Tests.{isDue, canActivate, canDeactivate, canDispatch, startFault, canStart, canComplete, canMeetDeadline, canMiss, canEnter, canLeave}
+use Rattle.model_semantics.specs.StartLaws.{start-unready}
 use Rattle.enabled.specs.Enabled.{ids, lengthIn, mayTake}
 use Rattle.model_enabled.specs.Walks.{itemsOf}
 
@@ -94,8 +95,7 @@ module _ (m : Timing) (s : State) (i : ℕ) where
     not-active = item-past maxThreads (s .threads .active) i false h
 
     no-start : (n : ℕ) → canStart m s i n ≡ false
-    unfolding startFault
-    no-start n = rw (no-code, and-false (ltb i (m .threads)))
+    no-start n = start-unready m s i n (rw no-code (and-false (ltb i (m .threads))))
 
     no-miss : canMiss m s i ≡ false
     unfolding canMiss
@@ -103,8 +103,7 @@ module _ (m : Timing) (s : State) (i : ℕ) where
 
   -- nor one that the model has not
   absent-start : (n : ℕ) → m .threads ≤ i → canStart m s i n ≡ false
-  unfolding startFault
-  absent-start n h = rw (le-ltb i (m .threads) h)
+  absent-start n h = start-unready m s i n (rw (le-ltb i (m .threads) h))
 
 -- ---- so nothing past the ids that a kind is looked at for
 module _ (m : Timing) (s : State) (i : ℕ) where

@@ -1,5 +1,6 @@
 pub mod State
 pub mod Tests
+pub mod StartLaws
 pub mod Effects
 pub mod EffectLaws
 pub mod Machine

@@ -98,16 +98,36 @@ unfoldable pub awaitsImmediate : Timing → State → ℕ → Bool
 awaitsImmediate m s t =
     anyBelow (m .connections) (λ c. feeds m s immediate t c && (runsBeside s (sourceThread m c) t || comesBeside m s (sourceThread m c) t))
 
--- "START": the first step of its test that fails: 1 state, 2 processor, 3 connections, 4 length; 0 none
+-- ---- START, step by step
+-- its state: a thread that is there, "code 2, .. Due ≠ Now"
+abbrev pub isReady : Timing → State → ℕ → Bool
+isReady m s t = ltb t (m .threads) && (eqb (codeOf s t) waitingExecution && not (isDue m s t))
+
+-- its processor: "Cpu none"
+abbrev pub isFree : Timing → State → ℕ → Bool
+isFree m s t = eqb (cpuFor m s t) none
+
+-- its length: "in Min..Max"
+abbrev pub isAllowed : Timing → ℕ → ℕ → Bool
+isAllowed m t n = leb (threadAt m t .bcet .0) n && leb n (threadAt m t .wcet .0)
+
+-- "take those steps in that order and tell the first that fails: 1 state .., 2 processor, 3 connections, 4 length, 0 none"
 unfoldable pub startFault : Timing → State → ℕ → ℕ → ℕ
 startFault m s t n =
-    cond (ltb t (m .threads) && (eqb (codeOf s t) waitingExecution && not (isDue m s t)))
-    (cond (eqb (cpuFor m s t) none)
+    cond (not (isReady m s t)) 1
+    (cond (not (isFree m s t)) 2
     (cond (awaitsImmediate m s t) 3
-    (cond (leb (threadAt m t .bcet .0) n && leb n (threadAt m t .wcet .0)) 0 4)) 2) 1
+    (cond (not (isAllowed m t n)) 4 0)))
 
+-- "START is taken exactly at 0"
 abbrev pub canStart : Timing → State → ℕ → ℕ → Bool
 canStart m s t n = eqb (startFault m s t n) 0
+
+-- the same in the words of document 01, which have no order: "START: code 2, Cpu none, Due ≠ Now, length in Min..Max. No source of a live
+-- immediate connection .."
+unfoldable pub startEnabled : Timing → State → ℕ → ℕ → Bool
+startEnabled m s t n =
+    ltb t (m .threads) && (eqb (codeOf s t) waitingExecution && (isFree m s t && (not (isDue m s t) && (isAllowed m t n && not (awaitsImmediate m s t)))))
 
 -- "COMPLETE: code 3, Spent = Length"
 unfoldable pub canComplete : State → ℕ → Bool

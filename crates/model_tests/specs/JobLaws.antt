@@ -1,11 +1,13 @@
 -- Laws of the tests on jobs and views, and of the loops that look for an event.
 use mathlib.Core.Path.{_≡_, refl, sym, _∙_}
 use mathlib.Core.Bool.{Bool, true, false, cond, _&&_, _||_, not}
-use Prim.Native.Nat.{ℕ, zero, suc, _<_, _≤_, min}
+use Prim.Native.Nat.{ℕ, zero, suc, _+_, _<_, _≤_, min}
 use native.Mathlib.Omega.{arith}
 use native.Mathlib.Decide.{ℕ-discrete, decLt}
 use lib.Dec.{eqb, ltb, leb}
-use borrow.Author.Tests.{le-ltb, ne-eqb, not-true, not-false}
+use borrow.Author.Tests.{le-ltb, ne-eqb}
+use Rattle.numbers.specs.declared.Duration.{Duration}
+use Rattle.numbers.specs.Values.{duration}
 use Rattle.numbers.specs.Lists.{anyBelow}
 use Rattle.numbers.specs.ListLaws.{any-none, any-some}
 use Rattle.model_format.specs.declared.Thread.{Thread}
@@ -17,8 +19,8 @@ use Rattle.model_tests.specs.declared.Job.{Job}
 use Rattle.model_tests.specs.declared.ThreadView.{ThreadView}
 use Rattle.model_semantics.specs.State.{none, isActive, codeOf, dispatchTime, lengthOf, spentOf, isLive}
 use Rattle.model_tests.specs.Parts.{jobOf}
-use Rattle.model_semantics.specs.Tests.{dueOf, isDue, isPeriodic, feeds, canActivate, canDeactivate, awaitsDelayed, canDispatch, awaitsImmediate, startFault, canComplete, canMeetDeadline, canMiss, canEnter, canLeave, threadBusy, switchBusy, isBusy}
-use Rattle.model_tests.specs.Jobs.{threadViewOf, activates, deactivates, completes, dispatchesAlone, startsAlone, faultOf, meets, misses, mayAct, holdsDispatch, holdsStart, enters, leaves}
+use Rattle.model_semantics.specs.Tests.{waitingExecution, dueOf, isDue, isPeriodic, feeds, canActivate, canDeactivate, awaitsDelayed, canDispatch, awaitsImmediate, isReady, isAllowed, startFault, canComplete, canMeetDeadline, canMiss, canEnter, canLeave, threadBusy, switchBusy, isBusy}
+use Rattle.model_tests.specs.Jobs.{threadViewOf, activates, deactivates, completes, dispatchesAlone, meets, misses, mayAct, holdsDispatch, holdsStart, enters, leaves}
 
 -- ---- Bools
 pub false-true : {A : Type 0} → false ≡ true → A
@@ -60,34 +62,18 @@ module _ (m : Timing) (s : State) (t : ℕ) (v : ThreadView) (f : v ≡ threadVi
   unfolding threadViewOf canDispatch codeOf isActive jobOf
   dispatch-by w e = rw (e, f) (and-assoc (eqb (codeOf s t) 1) (isActive s t) (isPeriodic m s t) (not (awaitsDelayed m s t)))
 
-  pub start-by : (n : ℕ) (w : Bool) → w ≡ awaitsImmediate m s t → faultOf v (ltb t (m .threads) && startsAlone v) w n ≡ startFault m s t n
-  unfolding threadViewOf faultOf startFault dueOf codeOf dispatchTime jobOf
-  start-by n w e = rw (e, f)
+-- START's steps: k is the code, d the time of its dispatch, x its record, z the clock
+module _ (m : Timing) (s : State) (t k : ℕ) (e : k ≡ codeOf s t) where
+  pub unready-by : (k ≡ waitingExecution → ⊥) → false ≡ isReady m s t
+  unready-by h = rw (← e, ne-eqb k waitingExecution h) (sym (and-false (ltb t (m .threads))))
 
--- ---- the steps of START's test
-module _ (v : ThreadView) (ready waits : Bool) (n : ℕ) where
-  pub fault-state : not ready ≡ true → 1 ≡ faultOf v ready waits n
-  unfolding faultOf
-  fault-state h = rw (not-true ready h)
+  pub ready-by : k ≡ waitingExecution → (d z : Duration) (x : Thread) (a : ℕ) (b : Bool) → d ≡ duration (dispatchTime s t) → x ≡ threadAt m t → z ≡ s .clock .now →
+      b ≡ eqb (d .0 + x .deadline .0) (z .0) → a ≡ m .threads → (ltb t a && not b) ≡ isReady m s t
+  unfolding dueOf
+  ready-by h d z x a b p q i g j = rw (← e, h, g, p, q, i, j)
 
-  module _ (h : not ready ≡ false) where
-    pub fault-processor : (v .clock .cpu ≡ 255 → ⊥) → 2 ≡ faultOf v ready waits n
-    unfolding faultOf
-    fault-processor g = rw (not-false ready h, ne-eqb (v .clock .cpu) 255 g)
-
-    module _ (g : v .clock .cpu ≡ 255) where
-      pub fault-connections : waits ≡ true → 3 ≡ faultOf v ready waits n
-      unfolding faultOf
-      fault-connections w = rw (not-false ready h, g, w)
-
-      module _ (w : waits ≡ false) where
-        pub fault-none : (leb (v .thread .bcet .0) n && leb n (v .thread .wcet .0)) ≡ true → 0 ≡ faultOf v ready waits n
-        unfolding faultOf
-        fault-none k = rw (not-false ready h, g, w, k)
-
-        pub fault-length : (leb (v .thread .bcet .0) n && leb n (v .thread .wcet .0)) ≡ false → 4 ≡ faultOf v ready waits n
-        unfolding faultOf
-        fault-length k = rw (not-false ready h, g, w, k)
+pub allowed-by : (m : Timing) (t n : ℕ) (x : Thread) → x ≡ threadAt m t → (leb (x .bcet .0) n && leb n (x .wcet .0)) ≡ isAllowed m t n
+allowed-by m t n x e = rw e
 
 -- ---- mode transitions
 module _ (m : Timing) (s : State) (q : ℕ) (x : ModeTransition) (e : x ≡ switchAt m q) where
@@ -136,7 +122,7 @@ module _ (m : Timing) (s : State) (t n c : ℕ) (e : n ≡ min (m .connections) 
 calm-of : (a : Bool) (k : ℕ) (due done periodic free delay wait known fits : Bool) →
     cond (eqb k 0) a (cond (eqb k 1) (not a || periodic) (cond (eqb k 2) (free || due) (cond (eqb k 3) (done || due) (cond (eqb k 4) due false)))) ≡ false →
     ((a && eqb k 0) || ((not a && eqb k 1) || ((eqb k 1 && (a && (periodic && not delay))) ||
-    (eqb (cond (known && (eqb k 2 && not due)) (cond free (cond wait 3 (cond fits 0 4)) 2) 1) 0 ||
+    (eqb (cond (not (known && (eqb k 2 && not due))) 1 (cond (not free) 2 (cond wait 3 (cond (not fits) 4 0)))) 0 ||
     ((eqb k 3 && done) || ((eqb k 4 && due) || (due && (eqb k 2 || (eqb k 3 && not done))))))))) ≡ false
 calm-of true zero due done periodic free delay wait known fits h = false-true (sym h)
 calm-of false zero due done periodic free delay wait known fits h = simp and-false

@@ -1,7 +1,7 @@
 -- The tests of a thread on what the code has at hand: its job j, or the view v of the clock, its record and its job.
 use mathlib.Core.Bool.{Bool, false, cond, _&&_, _||_, not}
 use Prim.Native.Nat.{ℕ, _+_}
-use lib.Dec.{eqb, leb}
+use lib.Dec.{eqb}
 use Rattle.numbers.specs.Lists.{item}
 use Rattle.numbers.specs.Multiples.{isMultiple}
 use Rattle.model_format.specs.declared.Thread.{Thread}
@@ -15,7 +15,7 @@ use Rattle.model_tests.specs.declared.Job.{Job}
 use Rattle.model_tests.specs.declared.ThreadView.{ThreadView}
 use Rattle.model_semantics.specs.State.{none, codeOf}
 use Rattle.model_tests.specs.Parts.{jobOf}
-use Rattle.model_semantics.specs.Tests.{waitingMode, waitingDispatch, waitingExecution, execution, completed, isDue, feeds, hasJob, runsBeside, comesBeside}
+use Rattle.model_semantics.specs.Tests.{waitingMode, waitingDispatch, waitingExecution, execution, completed, isDue, feeds, hasJob, runsBeside, comesBeside, awaitsImmediate, isReady, isFree, isAllowed}
 
 unfoldable pub threadViewOf : Timing → State → ℕ → ThreadView
 threadViewOf m s t = record { clock = s .clock; thread = threadAt m t; job = jobOf (s .threads) t }
@@ -41,20 +41,9 @@ dueIn v = dueAt (v .clock) (v .thread) (v .job)
 abbrev pub periodicIn : ThreadView → Bool
 periodicIn v = isMultiple (v .clock .now .0) (v .thread .period .0)
 
--- the parts of DISPATCH and START that look at the thread alone
+-- the part of DISPATCH that looks at the thread alone
 abbrev pub dispatchesAlone : ThreadView → Bool
 dispatchesAlone v = eqb (v .job .code) waitingDispatch && (v .job .active && periodicIn v)
-
-abbrev pub startsAlone : ThreadView → Bool
-startsAlone v = eqb (v .job .code) waitingExecution && not (dueIn v)
-
--- START's steps, by what each has found
-unfoldable pub faultOf : ThreadView → Bool → Bool → ℕ → ℕ
-faultOf v ready waits n =
-    cond ready
-    (cond (eqb (v .clock .cpu) none)
-    (cond waits 3
-    (cond (leb (v .thread .bcet .0) n && leb n (v .thread .wcet .0)) 0 4)) 2) 1
 
 abbrev pub meets : ThreadView → Bool
 meets v = eqb (v .job .code) completed && dueIn v
@@ -93,6 +82,14 @@ holdsDispatch m s t c = feeds m s delayed t c && (hasJob (codeOf s (sourceThread
 
 unfoldable pub holdsStart : Timing → State → ℕ → ℕ → Bool
 holdsStart m s t c = feeds m s immediate t c && (runsBeside s (sourceThread m c) t || comesBeside m s (sourceThread m c) t)
+
+-- step k of START's test fails, whatever the others say
+unfoldable pub stepFails : Timing → State → ℕ → ℕ → ℕ → Bool
+stepFails m s t n k =
+    cond (eqb k 1) (not (isReady m s t))
+    (cond (eqb k 2) (not (isFree m s t))
+    (cond (eqb k 3) (awaitsImmediate m s t)
+    (not (isAllowed m t n))))
 
 -- ---- mode transitions: x is the record of q, k the clock
 unfoldable pub enters : Clock → ModeTransition → ℕ → Bool

@@ -2,7 +2,7 @@
 use mathlib.Core.Path.{_≡_, refl, sym, _∙_, ap}
 use mathlib.Core.Bool.{Bool, true, false, _&&_, _||_, not}
 use Prim.Native.Nat.{ℕ}
-use lib.Dec.{eqb, ltb, leb}
+use lib.Dec.{eqb}
 use borrow.Author.Tests.{ne-eqb, eq-eqb, not-true, not-false}
 use Rattle.numbers.specs.Values.{duration}
 use Rattle.model_format.specs.declared.Thread.{Thread}
@@ -12,12 +12,13 @@ use Rattle.model_format.specs.Model.{connectionAt, inputOwner, outputOwner, thr
 use Rattle.model_semantics.specs.declared.Clock.{Clock}
 use Rattle.model_semantics.specs.declared.State.{State}
 use Rattle.model_semantics.specs.State.{isActive, codeOf, dispatchTime, lengthOf, spentOf, isLive}
-use Rattle.model_semantics.specs.Tests.{isWaiting, isUnfinished, hasJob, dueOf, isDue, feeds, awaitsDelayed, canDispatch, runsBeside, comesBeside, awaitsImmediate, startFault, threadBusy}
+use Rattle.model_semantics.specs.Tests.{isWaiting, isUnfinished, hasJob, dueOf, isDue, feeds, awaitsDelayed, canDispatch, runsBeside, comesBeside, isReady, isFree, startFault, threadBusy}
+use Rattle.model_semantics.specs.StartLaws.{fault-state, fault-processor, fault-connections, fault-length, fault-none}
 use Rattle.model_tests.specs.declared.Job.{Job}
 use Rattle.model_tests.specs.declared.ThreadView.{ThreadView}
 use Rattle.model_tests.specs.Parts.{jobOf}
-use Rattle.model_tests.specs.Jobs.{threadViewOf, dispatchesAlone, startsAlone, faultOf, mayAct, dueWithJob, besideRuns, besideComes, sourceOf, holdsDispatch, holdsStart}
-use Rattle.model_tests.specs.JobLaws.{dispatch-by, start-by, fault-state, fault-processor, fault-connections, fault-none, fault-length, calm}
+use Rattle.model_tests.specs.Jobs.{threadViewOf, dispatchesAlone, mayAct, dueWithJob, besideRuns, besideComes, sourceOf, holdsDispatch, holdsStart, stepFails}
+use Rattle.model_tests.specs.JobLaws.{dispatch-by, calm}
 
 -- ---- a job and a view, part by part
 pub job-by : (s : State) (t code : ℕ) (active : Bool) (d l p : ℕ) → active ≡ isActive s t → code ≡ codeOf s t → d ≡ dispatchTime s t → l ≡ lengthOf s t → p ≡ spentOf s t →
@@ -99,7 +100,7 @@ module _ (m : Timing) (s : State) (t c : ℕ) (x : Connection) (live : Bool) (e 
       unfolding holdsStart feeds threadViewOf runsBeside comesBeside isUnfinished isWaiting isActive codeOf dispatchTime jobOf
       start-held j q z = rw (source-is, q) (on (eqb (connectionAt m c .kind) immediate) (eqb (targetThread m c) t) (isLive s c) (sourceBeside m s t c) (rw (e, f) at z) at-target)
 
--- ---- DISPATCH and START, step by step
+-- ---- DISPATCH, step by step
 module _ (m : Timing) (s : State) (t : ℕ) (v : ThreadView) (f : v ≡ threadViewOf m s t) where
   pub dispatch-unready : (a : Bool) → a ≡ dispatchesAlone v → not a ≡ true → false ≡ canDispatch m s t
   dispatch-unready a e h = go (dispatchesAlone v) (ap not (sym e) ∙ h) (dispatch-by m s t v f (awaitsDelayed m s t) refl)
@@ -113,26 +114,44 @@ module _ (m : Timing) (s : State) (t : ℕ) (v : ThreadView) (f : v ≡ threadVi
       go : (b : Bool) → not b ≡ false → (b && not w) ≡ canDispatch m s t → not w ≡ canDispatch m s t
       go b g z = rw (not-false b g) at z
 
-  module _ (n a : ℕ) (alone : Bool) (g : a ≡ m .threads) (h : alone ≡ startsAlone v) where
-    whole : (w : Bool) → w ≡ awaitsImmediate m s t → faultOf v (ltb t a && alone) w n ≡ startFault m s t n
-    whole w p = rw (g, h) (start-by m s t v f n w p)
+-- ---- START
+-- its processor, which is one for all threads
+pub processor-by : (m : Timing) (s : State) (t n k : ℕ) {b : Bool} → k ≡ 2 → ((x : Timing) (u : ℕ) → b ≡ isFree x s u) → not b ≡ stepFails m s t n k
+unfolding stepFails
+processor-by m s t n k e h = rw (e, h m t)
 
-    pub start-state : not (ltb t a && alone) ≡ true → 1 ≡ startFault m s t n
-    start-state z = fault-state v (ltb t a && alone) (awaitsImmediate m s t) n z ∙ whole (awaitsImmediate m s t) refl
+-- the steps of START's test: each is looked at where those before it passed
+module _ (m : Timing) (s : State) (t n : ℕ) (a : Bool) (e : a ≡ stepFails m s t n 1) where
+  pub at-state : a ≡ true → 1 ≡ startFault m s t n
+  unfolding stepFails
+  at-state h = sym (fault-state m s t n (not-true _ (sym e ∙ h)))
 
-    module _ (z : not (ltb t a && alone) ≡ false) where
-      pub start-processor : (v .clock .cpu ≡ 255 → ⊥) → 2 ≡ startFault m s t n
-      start-processor q = fault-processor v (ltb t a && alone) (awaitsImmediate m s t) n z q ∙ whole (awaitsImmediate m s t) refl
+  module _ (h : a ≡ false) (b : Bool) (f : b ≡ stepFails m s t n 2) where
+    ready : isReady m s t ≡ true
+    unfolding stepFails
+    ready = not-false _ (sym e ∙ h)
 
-      module _ (q : v .clock .cpu ≡ 255) (w : Bool) (p : w ≡ awaitsImmediate m s t) where
-        pub start-connections : w ≡ true → 3 ≡ startFault m s t n
-        start-connections i = fault-connections v (ltb t a && alone) w n z q i ∙ whole w p
+    pub at-processor : b ≡ true → 2 ≡ startFault m s t n
+    unfolding stepFails
+    at-processor g = sym (fault-processor m s t n ready (not-true _ (sym f ∙ g)))
 
-        pub start-none : w ≡ false → (leb (v .thread .bcet .0) n && leb n (v .thread .wcet .0)) ≡ true → 0 ≡ startFault m s t n
-        start-none i j = fault-none v (ltb t a && alone) w n z q i j ∙ whole w p
+    module _ (g : b ≡ false) (c : Bool) (k : c ≡ stepFails m s t n 3) where
+      free : isFree m s t ≡ true
+      unfolding stepFails
+      free = not-false _ (sym f ∙ g)
 
-        pub start-length : w ≡ false → (leb (v .thread .bcet .0) n && leb n (v .thread .wcet .0)) ≡ false → 4 ≡ startFault m s t n
-        start-length i j = fault-length v (ltb t a && alone) w n z q i j ∙ whole w p
+      pub at-connections : c ≡ true → 3 ≡ startFault m s t n
+      unfolding stepFails
+      at-connections w = sym (fault-connections m s t n ready free (sym k ∙ w))
+
+      module _ (w : c ≡ false) (d : Bool) (l : d ≡ stepFails m s t n 4) where
+        pub at-length : d ≡ true → 4 ≡ startFault m s t n
+        unfolding stepFails
+        at-length i = sym (fault-length m s t n ready free (sym k ∙ w) (not-true _ (sym l ∙ i)))
+
+        pub at-none : d ≡ false → 0 ≡ startFault m s t n
+        unfolding stepFails
+        at-none i = sym (fault-none m s t n ready free (sym k ∙ w) (not-false _ (sym l ∙ i)))
 
 -- ---- a calm thread, from what the code reads of it
 pub calm-by : (m : Timing) (s : State) (t : ℕ) (k : Clock) (x : Thread) (j : Job) (b : Bool) → k ≡ s .clock → x ≡ threadAt m t → j ≡ jobOf (s .threads) t →

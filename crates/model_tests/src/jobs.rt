@@ -35,7 +35,7 @@ pub fn completes(job: Job) -> bool
 }
 
 // The sum of two durations may need more than their 32 bits.
-fn falls_due(dispatched: u32, deadline: u32, now: u32) -> bool
+pub fn falls_due(dispatched: u32, deadline: u32, now: u32) -> bool
     ensures { λ r. ⌜ r ≡ eqb (dispatched + deadline) now ⌝ }
 {
     (dispatched as u64) + (deadline as u64) == (now as u64)
@@ -57,17 +57,11 @@ fn periodic_in(view: ThreadView) -> bool
     is_multiple(view.clock.now.0, view.thread.period.0)
 }
 
-// What DISPATCH asks of the thread alone, and START but for the processor and the length.
+// What DISPATCH asks of the thread alone.
 pub fn dispatches_alone(view: ThreadView) -> bool
     ensures { λ r. ⌜ r ≡ jobs.dispatchesAlone view ⌝ }
 {
     (view.job.code == WAITING_DISPATCH) & (view.job.active & periodic_in(view))
-}
-
-pub fn starts_alone(view: ThreadView) -> bool
-    ensures { λ r. ⌜ r ≡ jobs.startsAlone view ⌝ }
-{
-    (view.job.code == WAITING_EXECUTION) & !due_in(view)
 }
 
 pub fn meets(view: ThreadView) -> bool

@@ -8,9 +8,9 @@ use crate::jobs::completes;
 use crate::jobs::deactivates;
 use crate::jobs::dispatches_alone;
 use crate::jobs::due_with_job;
+use crate::jobs::falls_due;
 use crate::jobs::meets;
 use crate::jobs::misses;
-use crate::jobs::starts_alone;
 use crate::rooms::within;
 use crate::views::job_of;
 use crate::views::thread_view_of;
@@ -19,30 +19,38 @@ use model_format::DELAYED;
 use model_format::IMMEDIATE;
 use model_format::MAX_CONNECTIONS;
 use model_semantics::NONE;
+use model_semantics::WAITING_EXECUTION;
+use model_state::clock_of;
+use model_state::code_of;
+use model_state::dispatch_time;
 use model_state::is_live;
+use model_state::now_of;
 use model_words::connection_at;
 use model_words::connections;
 use model_words::input_owner;
 use model_words::output_owner;
+use model_words::thread_at;
 use model_words::threads;
 use numbers::usize_of_u8;
 use numbers::usize_of_u16;
 ghost use mathlib.Core.Path.{_≡_};
+ghost use Prim.Native.Nat.{ℕ};
+ghost use Rattle.model_format.specs.declared.Timing.{Timing};
 ghost use Rattle.model_semantics.specs.Tests as tests;
 ghost use Rattle.model_state.specs.Words.{stateIn};
 ghost use Rattle.model_words.specs.Words.{timingIn};
 ghost use Rattle.model_tests.specs.Jobs as jobs;
 
-// What START's test finds.
+// The steps of START's test, in the order in which they are looked at.
 pub const NO_FAULT: u8 = 0;
 
-const NOT_READY: u8 = 1;
+const STATE: u8 = 1;
 
-const PROCESSOR_HELD: u8 = 2;
+const PROCESSOR: u8 = 2;
 
-const CONNECTIONS_AWAITED: u8 = 3;
+const CONNECTIONS: u8 = 3;
 
-const WRONG_TIME: u8 = 4;
+const LENGTH: u8 = 4;
 
 // The thread that a connection comes from.
 fn source_of(model: &[u32], state: &[u32], connection: Connection) -> ThreadView
@@ -141,27 +149,65 @@ pub fn can_dispatch(model: &[u32], state: &[u32], t: usize) -> bool
     !awaits_delayed(model, state, t)
 }
 
-// The first that is wrong with START: its state, the processor, its connections, its length.
+// ---- START
+// Thread t is there, waits for its processor, and its deadline is not now. Most threads do not wait, so that comes first.
+fn is_ready(model: &[u32], state: &[u32], t: usize) -> bool
+    ensures { λ r. ⌜ r ≡ tests.isReady (timingIn (now (model .entry))) (stateIn (now (state .entry))) t ⌝ }
+{
+    if code_of(state, t) != WAITING_EXECUTION {
+        return false;
+    }
+    let dispatched = dispatch_time(state, t);
+    let thread = thread_at(model, t);
+    let now = now_of(state);
+    let due = falls_due(dispatched.0, thread.deadline.0, now.0);
+    (t < threads(model)) & !due
+}
+
+// The processor is free, for whichever thread asks.
+fn is_free(state: &[u32]) -> bool
+    ensures { λ r. ⌜ ((m : Timing) (t : ℕ) → r ≡ tests.isFree m (stateIn (now (state .entry))) t) ⌝ }
+{
+    let clock = clock_of(state);
+    clock.cpu == NONE
+}
+
+fn is_allowed(model: &[u32], t: usize, time: u32) -> bool
+    ensures { λ r. ⌜ r ≡ tests.isAllowed (timingIn (now (model .entry))) t time ⌝ }
+{
+    let thread = thread_at(model, t);
+    (thread.bcet.0 <= time) & (time <= thread.wcet.0)
+}
+
+// A step of START's test fails, whatever the others say.
+fn fails(model: &[u32], state: &[u32], t: usize, time: u32, step: u8) -> bool
+    ensures { λ r. ⌜ r ≡ jobs.stepFails (timingIn (now (model .entry))) (stateIn (now (state .entry))) t time step ⌝ }
+{
+    match step {
+        STATE => !is_ready(model, state, t),
+        PROCESSOR => !is_free(state),
+        CONNECTIONS => awaits_immediate(model, state, t),
+        _ => !is_allowed(model, t, time),
+    }
+}
+
+// The first step that fails. None is looked at before those that come earlier have passed.
 pub fn start_fault(model: &[u32], state: &[u32], t: usize, time: u32) -> u8
     ensures { λ r. ⌜ r ≡ tests.startFault (timingIn (now (model .entry))) (stateIn (now (state .entry))) t time ⌝ }
 {
-    let view = thread_view_of(model, state, t);
-    let alone = starts_alone(view);
-    let ready = (t < threads(model)) & alone;
-    if !ready {
-        return NOT_READY;
+    if fails(model, state, t, time, STATE) {
+        return STATE;
     }
-    if view.clock.cpu != NONE {
-        return PROCESSOR_HELD;
+    if fails(model, state, t, time, PROCESSOR) {
+        return PROCESSOR;
     }
-    if awaits_immediate(model, state, t) {
-        return CONNECTIONS_AWAITED;
+    if fails(model, state, t, time, CONNECTIONS) {
+        return CONNECTIONS;
     }
-    if (view.thread.bcet.0 <= time) & (time <= view.thread.wcet.0) {
-        NO_FAULT
-    } else {
-        WRONG_TIME
+    if fails(model, state, t, time, LENGTH) {
+        return LENGTH;
     }
+    NO_FAULT
 }
 
 pub fn can_complete(state: &[u32], t: usize) -> bool

@@ -1,20 +1,21 @@
 -- A thread that runs is the one that its processor names.
 use mathlib.Core.Path.{_≡_, refl, sym, _∙_, ap}
-use mathlib.Core.Bool.{Bool, true, false, cond, _&&_, not, false≢true}
+use mathlib.Core.Bool.{Bool, true, false, cond, _&&_, false≢true}
 use Prim.Native.Nat.{ℕ, _<_, _≤_}
 use native.Mathlib.Omega.{arith}
 use native.Mathlib.Decide.{ℕ-discrete, decLt}
-use lib.Dec.{eqb, ltb, leb}
+use lib.Dec.{eqb}
 use lib.ListN.{length, replicate, getD-replicate}
-use borrow.Author.Tests.{eqb-true, lt-ltb, ltb-true}
+use borrow.Author.Tests.{lt-ltb}
 use Rattle.numbers.specs.Lists.{item, store}
 use Rattle.numbers.specs.ListLaws.{length-store, item-past, item-store-same, item-store-other}
 use Rattle.model_format.specs.declared.Timing.{Timing}
 use Rattle.model_format.specs.declared.Model.{Model}
-use Rattle.model_format.specs.Model.{maxThreads, threadAt, switchAt}
+use Rattle.model_format.specs.Model.{maxThreads, switchAt}
 use Rattle.model_semantics.specs.declared.State.{State}
 use Rattle.model_semantics.specs.State.{none, isActive, codeOf, cpuFor, withLive, withPorts, withNow, withEntered, withMode, withPhase, withCpu, withActive, withCode, withDispatchTime, withJob, withBehavior, withMissed}
-use Rattle.model_semantics.specs.Tests.{waitingMode, waitingDispatch, waitingExecution, execution, completed, runs, isDue, awaitsImmediate, startFault, canStart, canComplete}
+use Rattle.model_semantics.specs.Tests.{waitingMode, waitingDispatch, waitingExecution, execution, completed, runs, canComplete}
+use Rattle.model_semantics.specs.StartLaws.{start-passed}
 use Rattle.model_semantics.specs.Effects.{dispatch, start, restCode, advance, finish, complete, meetDeadline, miss, request, enter, leave, tick}
 use Rattle.model_semantics.specs.Machine.{startState}
 use Rattle.reached.specs.Reachable.{Reachable}
@@ -47,20 +48,7 @@ module _ (m : Timing) (s r : State) (t code : ℕ) (l : t < maxThreads) (e : r .
       go u q (yes k) = let c : codeOf r u ≡ code = ap (codeOf r) k ∙ code-there in here (rw c at q) ∙ sym k
       go u q (no k) = there u k (rw (code-elsewhere u k) at q)
 
--- ---- START finds the processor free
-start-free : (m : Timing) (s : State) (t n : ℕ) → canStart m s t n ≡ true → (t < m .threads) × (cpuFor m s t ≡ none)
-unfolding startFault
-start-free m s t n e =
-    let (a, b) = go (ltb t (m .threads)) (eqb (codeOf s t) waitingExecution && not (isDue m s t)) (eqb (cpuFor m s t) none) (awaitsImmediate m s t) (leb (threadAt m t .bcet .0) n && leb n (threadAt m t .wcet .0)) e in
-    (ltb-true t (m .threads) a, eqb-true (cpuFor m s t) none b)
-  where
-    go : (a b c w x : Bool) → eqb (cond (a && b) (cond c (cond w 3 (cond x 0 4)) 2) 1) 0 ≡ true → (a ≡ true) × (c ≡ true)
-    go false b c w x q = absurd (false≢true q)
-    go true false c w x q = absurd (false≢true q)
-    go true true false w x q = absurd (false≢true q)
-    go true true true w x q = (refl, refl)
-
--- then no thread runs
+-- ---- where the processor is free no thread runs
 none-runs : (m : Timing) (s : State) (u : ℕ) → Held m s → s .clock .cpu ≡ none → runs (codeOf s u) ≡ true → ⊥
 unfolding codeOf
 none-runs m s u h c q = let k : u ≡ none = sym (h .holder u q) ∙ c in false≢true (rw k at q)
@@ -85,8 +73,9 @@ module _ (m : Model) (few : m .timing .threads ≤ maxThreads) where
   move-held s r h (deactivates t l c) = stored-held (m .timing) s _ t waitingMode (omega arith) refl h (λ q. absurd (false≢true q)) (λ u n q. h .holder u q)
   move-held s r h (dispatches t l c) = stored-held (m .timing) s _ t waitingExecution (omega arith) refl h (λ q. absurd (false≢true q)) (λ u n q. h .holder u q)
   move-held s r h (starts t n c) =
-      let (l, f) = start-free (m .timing) s t n c in
-      stored-held (m .timing) s _ t execution (omega arith) refl h (λ q. refl) (λ u k q. absurd (none-runs (m .timing) s u h f q))
+      let p = start-passed (m .timing) s t n c in
+      let l = p .there in
+      stored-held (m .timing) s _ t execution (omega arith) refl h (λ q. refl) (λ u k q. absurd (none-runs (m .timing) s u h (p .free) q))
   move-held s r h (completes t l c) =
       end-held (m .timing) (advance m s t) _ t completed (omega arith) refl (end-code (m .timing) (advance m s t) t completed) (end-cpu (m .timing) (advance m s t) t completed) (same-held refl refl h)
   move-held s r h (meets t l c) =

@@ -1,11 +1,9 @@
 -- START.
 use mathlib.Core.Path.{_≡_, refl, _∙_, ap}
-use mathlib.Core.Bool.{Bool, true, false, cond, _&&_, not, false≢true}
+use mathlib.Core.Bool.{true}
 use mathlib.Core.List.{List, _∷_}
 use Prim.Native.Nat.{ℕ, _<_, _≤_}
 use native.Mathlib.Omega.{arith}
-use lib.Dec.{eqb, ltb, leb}
-use borrow.Author.Tests.{eqb-true, leb-true}
 use Rattle.numbers.specs.declared.Value.{Value}
 use Rattle.numbers.specs.ListLaws.{item-store-same}
 use Rattle.numbers.specs.Values.{duration, natural}
@@ -15,8 +13,9 @@ use Rattle.model_format.specs.Model.{maxThreads, threadAt}
 use Rattle.model_format.specs.Reading.{longestTime}
 use Rattle.model_format.specs.WellFormed.{GoodTiming, GoodThread}
 use Rattle.model_semantics.specs.declared.State.{State}
-use Rattle.model_semantics.specs.State.{isActive, codeOf, dispatchTime, lengthOf, spentOf, behaviorOf, missedOf, nowOf, cpuFor, none, withPorts, withCpu, withCode, withJob}
-use Rattle.model_semantics.specs.Tests.{waitingExecution, execution, isDue, awaitsImmediate, startFault, canStart}
+use Rattle.model_semantics.specs.State.{isActive, codeOf, dispatchTime, lengthOf, spentOf, behaviorOf, missedOf, nowOf, withPorts, withCpu, withCode, withJob}
+use Rattle.model_semantics.specs.Tests.{waitingExecution, execution, canStart}
+use Rattle.model_semantics.specs.StartLaws.{Passed, start-passed}
 use Rattle.model_semantics.specs.Effects.{freeze, start}
 use Rattle.table_format.specs.declared.Update.{Update}
 use Rattle.table_format.specs.Variables.{variables, nowVar, cpuVar, activeVar, stateVar, dispatchVar, dueVar, endVar, behaviorVar, missedVar, flagVar, inputVar, bufferVar, outputVar, localVar, inputRoom, threadVar}
@@ -26,16 +25,8 @@ use Rattle.translation.specs.Rules.{perInput, startPort, startRules}
 use Rattle.simulation.specs.Compared.{Dispatched}
 use Rattle.simulation.specs.Match.{Match}
 use Rattle.simulation.specs.Writes.{value-written, updated-here, updated-there, constant-worth, chosen-worth, Misses, Apart, misses-within, column-kept, NotInput}
-use Rattle.simulation.specs.Effects.{Does, firstUpdates, InParts, ThreadsSized, JobShown, jobOf, same, put, in-parts, afterwards, kept, cpu-set, thread-does, and-left, and-right}
+use Rattle.simulation.specs.Effects.{Does, firstUpdates, InParts, ThreadsSized, JobShown, jobOf, same, put, in-parts, afterwards, kept, cpu-set, thread-does}
 use Rattle.simulation.specs.EffectPorts.{start-takes, start-single, inputs-within, inputs-apart, freeze-shown}
-
--- no step of START's test fails
-no-fault : (a b c d : Bool) → eqb (cond a (cond b (cond c 3 (cond d 0 4)) 2) 1) 0 ≡ true → (a ≡ true) × (d ≡ true)
-no-fault true true true d e = absurd (false≢true e)
-no-fault true true false true e = (refl, refl)
-no-fault true true false false e = absurd (false≢true e)
-no-fault true false c d e = absurd (false≢true e)
-no-fault false b c d e = absurd (false≢true e)
 
 module _ (m : Timing) (g : GoodTiming m) (d : Dispatched) (s : State) (v : List Value) (h : InParts m d s v) (n t : ℕ) (l : t < m .threads)
     (waits : codeOf s t ≡ waitingExecution) (short : n ≤ longestTime) where
@@ -144,24 +135,11 @@ module _ (m : Timing) (g : GoodTiming m) (d : Dispatched) (s : State) (v : List 
         };
       })
 
--- what START's test says of the thread
-module _ (m : Timing) (s : State) (t n : ℕ) (e : canStart m s t n ≡ true) where
-  passed : ((ltb t (m .threads) && (eqb (codeOf s t) waitingExecution && not (isDue m s t))) ≡ true) × ((leb (threadAt m t .bcet .0) n && leb n (threadAt m t .wcet .0)) ≡ true)
-  unfolding startFault
-  passed =
-      no-fault (ltb t (m .threads) && (eqb (codeOf s t) waitingExecution && not (isDue m s t))) (eqb (cpuFor m s t) none) (awaitsImmediate m s t)
-      (leb (threadAt m t .bcet .0) n && leb n (threadAt m t .wcet .0)) e
-
-  start-waits : codeOf s t ≡ waitingExecution
-  start-waits = eqb-true (codeOf s t) waitingExecution (and-left _ (not (isDue m s t)) (and-right (ltb t (m .threads)) _ (passed .0)))
-
-  start-short : n ≤ threadAt m t .wcet .0
-  start-short = leb-true n (threadAt m t .wcet .0) (and-right (leb (threadAt m t .bcet .0) n) _ (passed .1))
-
 pub start-does : (m : Timing) → GoodTiming m → (d : Dispatched) (s : State) (v : List Value) → Match m d s v → (n t : ℕ) → t < m .threads → canStart m s t n ≡ true →
     Does m d (start m s t n) n v (firstUpdates (startRules m t))
 unfolding firstUpdates startRules
 start-does m g d s v h n t l e =
     let x : GoodThread (threadAt m t) = g .thread t l in
-    let k : n ≤ threadAt m t .wcet .0 = start-short m s t n e in
-    starts m g d s v (in-parts m d s v h) n t l (start-waits m s t n e) (omega arith)
+    let p : Passed m s t n = start-passed m s t n e in
+    let k : n ≤ threadAt m t .wcet .0 = p .most in
+    starts m g d s v (in-parts m d s v h) n t l (p .waits) (omega arith)

@@ -12,7 +12,8 @@ use Rattle.model_format.specs.Model.{maxThreads, maxConnections, threadAt, imme
 use Rattle.model_format.specs.WellFormed.{GoodTiming}
 use Rattle.model_semantics.specs.declared.State.{State}
 use Rattle.model_semantics.specs.State.{none, isActive, codeOf, dispatchTime, isLive, nowOf, cpuFor}
-use Rattle.model_semantics.specs.Tests.{waitingExecution, isWaiting, isUnfinished, isDue, isPeriodic, feeds, runsBeside, comesBeside, awaitsImmediate, startFault, canStart, completed, lastCode}
+use Rattle.model_semantics.specs.Tests.{waitingExecution, isWaiting, isUnfinished, isDue, isPeriodic, feeds, runsBeside, comesBeside, awaitsImmediate, isFree, isAllowed, canStart, startEnabled, completed, lastCode}
+use Rattle.model_semantics.specs.StartLaws.{start-sentence}
 use Rattle.table_format.specs.Variables.{nowVar, cpuVar, activeVar, stateVar, dispatchVar, dueVar, flagVar}
 use Rattle.table_semantics.specs.Rules.{clauseHolds, allHold}
 use Rattle.translation.specs.Shown.{bit}
@@ -29,19 +30,21 @@ mayStart m s t =
 
 pub start-test : (m : Timing) (s : State) (t n : ℕ) →
     canStart m s t n ≡ (ltb t (m .threads) && (mayStart m s t && (leb (threadAt m t .bcet .0) n && leb n (threadAt m t .wcet .0))))
-unfolding startFault mayStart
+unfolding startEnabled mayStart
 start-test m s t n =
-    go (ltb t (m .threads)) (eqb (codeOf s t) waitingExecution) (isDue m s t) (eqb (cpuFor m s t) none) (awaitsImmediate m s t)
-    (leb (threadAt m t .bcet .0) n && leb n (threadAt m t .wcet .0))
+    start-sentence m s t n ∙
+    go (ltb t (m .threads)) (eqb (codeOf s t) waitingExecution) (isFree m s t) (isDue m s t) (isAllowed m t n) (awaitsImmediate m s t)
   where
-    go : (a b c e w x : Bool) → eqb (cond (a && (b && not c)) (cond e (cond w 3 (cond x 0 4)) 2) 1) 0 ≡ (a && ((b && (not c && (e && not w))) && x))
-    go false b c e w x = refl
-    go true false c e w x = refl
-    go true true true e w x = refl
-    go true true false false w x = refl
-    go true true false true true x = refl
-    go true true false true false true = refl
-    go true true false true false false = refl
+    go : (a b f d x w : Bool) → (a && (b && (f && (not d && (x && not w))))) ≡ (a && ((b && (not d && (f && not w))) && x))
+    go false b f d x w = refl
+    go true false f d x w = refl
+    go true true false true x w = refl
+    go true true false false x w = refl
+    go true true true true x w = refl
+    go true true true false true true = refl
+    go true true true false true false = refl
+    go true true true false false true = refl
+    go true true true false false false = refl
 
 -- "START counts with any allowed length", so with the shortest
 pub start-shortest : (m : Timing) (s : State) (t : ℕ) → GoodTiming m → t < m .threads → canStart m s t (threadAt m t .bcet .0) ≡ mayStart m s t

@@ -1,5 +1,5 @@
--- The starred examples of document 01, as a group, one of written start values and some of finer field faults (document 02, W2 and W3). Those that
--- are runs are proved of the model's run and of the run of its table.
+-- The starred examples of document 01, as a group, one of written start values, some of finer field faults and some of START's test (document 02, W2, W3
+-- and W4). Those that are runs are proved of the model's run and of the run of its table.
 use mathlib.Core.Path.{_≡_, refl}
 use mathlib.Core.List.{List, [], _∷_, _++_}
 use Prim.Native.Nat.{ℕ}
@@ -12,7 +12,7 @@ use Rattle.numbers.specs.declared.Value.{Value}
 use Rattle.records.specs.declared.Cause.the-variants.{None, WrongField, NamesNothing, FaultyTime}
 use Rattle.table_format.specs.declared.Atom.{Atom}
 use Rattle.table_format.specs.Variables.{nowVar, phaseVar, pendingVar}
-use Rattle.spec_examples.specs.Evaluate.{steps, rules, modelCause, tableCause, readCause, modelLocal, tableLocal, modelPort, tablePort, firstH1, firstEnter, modelAt, tableAt}
+use Rattle.spec_examples.specs.Evaluate.{steps, rules, modelCause, tableCause, readCause, modelLocal, tableLocal, modelPort, tablePort, firstH1, firstEnter, modelAt, tableAt, startStep}
 
 -- ---- notation
 abbrev ascii : String → List ℕ
@@ -247,3 +247,25 @@ ruleUpdate tag = (33 ∷ 1 ∷ 0 ∷ u32To 0 (u32To 0 [])) ++ (36 ∷ u16To 6553
 updates-refused : (readCause (ruleUpdate 1) ≡ NamesNothing) × (readCause (ruleUpdate 2) ≡ WrongField)
 unfolding readCause
 updates-refused = (refl, refl)
+
+-- ---- "Start test in the order of the paper": thread 0 sends to thread 1 by an immediate connection, both like that of M
+abbrev pair : List ℕ
+pair = M ++ thread 5 4 1 5 0 ++ (3 ∷ 1 ∷ []) ++ (4 ∷ 0 ∷ []) ++ (6 ∷ 0 ∷ 0 ∷ 0 ∷ 1 ∷ [])
+
+abbrev dispatched : List ℕ
+dispatched = activate ++ (1 ∷ 1 ∷ []) ++ dispatch ++ (3 ∷ 1 ∷ [])
+
+-- nobody is dispatched; a thread that is not there; the length; the connections, whatever the length; none
+start-steps : (startStep pair [] 0 1 ≡ 1) × (startStep pair dispatched 2 1 ≡ 1) × (startStep pair dispatched 0 6 ≡ 4) × (startStep pair dispatched 1 6 ≡ 3) × (startStep pair dispatched 0 5 ≡ 0)
+unfolding startStep
+start-steps = (refl, refl, refl, refl, refl)
+
+-- thread 0 holds the processor: its own state, and for thread 1 the processor, though the connection waits too
+held-steps : (startStep pair (dispatched ++ start 5) 0 5 ≡ 1) × (startStep pair (dispatched ++ start 5) 1 6 ≡ 2)
+unfolding startStep
+held-steps = (refl, refl)
+
+-- "Due ≠ Now" is of the first step, though the processor is held; COMPLETE, refused, is passed over
+due-step : startStep pair (dispatched ++ start 5 ++ tick 4 ++ complete) 1 1 ≡ 1
+unfolding startStep
+due-step = refl

@@ -19,6 +19,13 @@ pub const COMPLETED: u8 = 4;
 /// Pending and Cpu where there is none.
 pub const NONE: u8 = 255;
 
+/// The steps of the test for START, in the order in which they are looked at.
+pub const NO_STEP_FAILS: u8 = 0;
+pub const STATE_STEP: u8 = 1;
+pub const PROCESSOR_STEP: u8 = 2;
+pub const CONNECTIONS_STEP: u8 = 3;
+pub const LENGTH_STEP: u8 = 4;
+
 /// The phases: steady, request pending, mode transition in progress.
 const STEADY: u8 = 0;
 const REQUEST_PENDING: u8 = 1;
@@ -104,7 +111,11 @@ pub fn step(model: &Model, state: &State, event: &Event) -> Result<State, u8> {
         }
         return Ok(next);
     }
-    if !enabled(model, state, event.kind, event.id) || !length_allowed(model, event) {
+    let may_happen = match event.kind {
+        START => start_test(model, state, u32::from(event.id), event.length) == NO_STEP_FAILS,
+        kind => enabled(model, state, kind, event.id),
+    };
+    if !may_happen {
         return Err(NOT_ENABLED);
     }
     take_effect(model, &mut next, event);
@@ -225,20 +236,46 @@ fn freeze(state: &mut State, port: usize) {
 
 // START
 
-/// Waiting for execution, with a free processor and before Due, and not held
-/// back by a thread that feeds it over an active immediate connection.
+/// The first step of the test for START that fails, or none of them. Any number
+/// may be asked for; one that no thread has fails at the first step.
+pub fn start_test(model: &Model, state: &State, number: u32, length: u32) -> u8 {
+    let thread = number as usize;
+    if !waits_for_start(model, state, thread) {
+        STATE_STEP
+    } else if state.cpu != NONE {
+        PROCESSOR_STEP
+    } else if held_back(model, state, thread) {
+        CONNECTIONS_STEP
+    } else if !length_allowed(model, thread, length) {
+        LENGTH_STEP
+    } else {
+        NO_STEP_FAILS
+    }
+}
+
+/// Enabled with some allowed length, so with the shortest.
 fn start_enabled(model: &Model, state: &State, thread: usize) -> bool {
-    state.threads[thread].code == WAITING_EXECUTION
-        && state.cpu == NONE
+    let shortest = model.threads[thread].bcet.0 as u32;
+    start_test(model, state, thread as u32, shortest) == NO_STEP_FAILS
+}
+
+/// There is such a thread, it waits for execution, and its Due is not now.
+fn waits_for_start(model: &Model, state: &State, thread: usize) -> bool {
+    thread < model.threads.len()
+        && state.threads[thread].code == WAITING_EXECUTION
         && due(model, state, thread) != state.now
-        && !model
-            .connections_into(thread, Timing::Immediate)
-            .any(|connection| {
-                let source = model.source(connection);
-                state.connection_active[connection]
-                    && (source_at_work(state, source, thread)
-                        || source_to_be_dispatched(model, state, source, thread))
-            })
+}
+
+/// Some thread that feeds it over an active immediate connection is to run first.
+fn held_back(model: &Model, state: &State, thread: usize) -> bool {
+    model
+        .connections_into(thread, Timing::Immediate)
+        .any(|connection| {
+            let source = model.source(connection);
+            state.connection_active[connection]
+                && (source_at_work(state, source, thread)
+                    || source_to_be_dispatched(model, state, source, thread))
+        })
 }
 
 /// The source was dispatched in the same instant and has not completed.
@@ -255,13 +292,10 @@ fn source_to_be_dispatched(model: &Model, state: &State, source: usize, thread: 
         && state.now.is_multiple(model.threads[source].period)
 }
 
-/// The length that a START chooses lies in Min to Max; other events have none.
-fn length_allowed(model: &Model, event: &Event) -> bool {
-    if event.kind != START {
-        return true;
-    }
-    let thread = &model.threads[usize::from(event.id)];
-    let length = Duration(u64::from(event.length));
+/// The length that a START chooses lies in Min to Max.
+fn length_allowed(model: &Model, thread: usize, length: u32) -> bool {
+    let thread = &model.threads[thread];
+    let length = Duration(u64::from(length));
     thread.bcet <= length && length <= thread.wcet
 }
 

@@ -5,8 +5,9 @@ mod machine;
 mod reader;
 
 pub use machine::{
-    due, enabled, first_enabled, item_count, start_state, step, State, ThreadState, COMPLETED,
-    EXECUTION, NONE, WAITING_DISPATCH, WAITING_EXECUTION, WAITING_MODE,
+    due, enabled, first_enabled, item_count, start_state, start_test, step, State, ThreadState,
+    COMPLETED, CONNECTIONS_STEP, EXECUTION, LENGTH_STEP, NONE, NO_STEP_FAILS, PROCESSOR_STEP,
+    STATE_STEP, WAITING_DISPATCH, WAITING_EXECUTION, WAITING_MODE,
 };
 pub use reader::{hyperperiod, read};
 

@@ -24,6 +24,16 @@ fn answers(words: &[&str]) {
     );
 }
 
+/// A number and why, and notes on what the script passed over.
+fn tests_start(model: &str, script: &str, thread: usize) {
+    let done = run(&["start", model, script, &thread.to_string(), "2"]);
+    let number = done.out.split(' ').next().unwrap_or("");
+    let noted = done.err.lines().all(|line| line.starts_with("note: "));
+    let told = done.status == 0 && ["0", "1", "2", "3", "4"].contains(&number) && noted;
+    let refused = done.status == 1 && done.out.is_empty() && done.err.starts_with("refused ");
+    assert!(told || refused, "{done:?}");
+}
+
 #[test]
 fn every_command_answers() {
     let folder = Folder::new("any");
@@ -52,6 +62,9 @@ fn every_command_answers() {
             &["show", &model],
         ] {
             answers(words);
+        }
+        for model in [&model, &good_model] {
+            tests_start(model, &script, random.below(5));
         }
     }
 }

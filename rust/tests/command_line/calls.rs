@@ -2,9 +2,9 @@
 
 use crate::tools::{example, run};
 
-const COMMANDS: [&str; 13] = [
-    "steps", "rules", "run", "table", "size", "check", "compare", "trace", "timeline", "explore",
-    "promela", "show", "pack",
+const COMMANDS: [&str; 14] = [
+    "steps", "rules", "run", "table", "size", "check", "compare", "trace", "start", "timeline",
+    "explore", "promela", "show", "pack",
 ];
 
 #[test]

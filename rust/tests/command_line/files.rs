@@ -28,6 +28,8 @@ fn missing_files() {
         &["rules", "nowhere", &model],
         &["run", "nowhere", &model],
         &["trace", &model, "nowhere"],
+        &["start", &model, "nowhere", "0", "1"],
+        &["start", "nowhere", &model, "0", "1"],
         &["compare", &model, "nowhere"],
         &["timeline", &model, "nowhere", "-"],
         &["steps", "--names", "nowhere", &model, &model],
@@ -75,6 +77,7 @@ fn a_full_disk() {
         &["show", &model],
         &["check", &model],
         &["size", &model],
+        &["start", &model, &script, "0", "1"],
         &["table", &model, "-"],
         &["--help"],
     ] {

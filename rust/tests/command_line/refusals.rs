@@ -34,6 +34,7 @@ refused 15 3 23 {file}
         &["compare", &file, &script],
         &["table", &file, "-"],
         &["size", &file],
+        &["start", &file, &script, "0", "1"],
     ] {
         let done = run(words);
         assert_eq!(done.out, "");
@@ -341,7 +342,8 @@ fn a_table_that_is_too_long() {
     );
 }
 
-/// One change in the script of the lesson: what is said about the event.
+/// One change in the script of the lesson: what is said about the event. Why START is
+/// refused has tests of its own.
 #[test]
 fn refused_events() {
     let folder = Folder::new("events");
@@ -351,8 +353,8 @@ fn refused_events() {
         ("COMPLETE thread 0\n", "TICK 5\n", 10, "step 11: TICK 5 refused (10) at clock 2: COMPLETE 0 is enabled", None),
         ("TICK 2", "TICK 1", 10, "step 11: COMPLETE 0 refused (10) at clock 1: COMPLETE 0 is due at clock 2", Some("it wants End(0) = Now, but Now is 1, End(0) is 2")),
         ("ACTIVATE thread 0\n", "", 10, "step 4: DISPATCH 0 refused (10) at clock 0: ACTIVATE 0, DISPATCH 1, DISPATCH 2 and DISPATCH 3 are enabled", Some("it wants State(0) = waiting_dispatch, but State(0) is waiting_mode")),
-        ("for 2", "for 9", 10, "step 9: START 0 for 9 refused (10) at clock 0: START 0 for 1 to 3, START 2 for 2 to 6 and START 3 for 1 to 5 are enabled", Some("its length must be from 1 to 3")),
-        ("START thread 0", "START thread 7", 10, "step 9: START 7 for 2 refused (10) at clock 0: START 0 for 1 to 3, START 2 for 2 to 6 and START 3 for 1 to 5 are enabled", Some("there is no thread 7")),
+        ("for 2", "for 9", 10, "step 9: START 0 for 9 refused (10) at clock 0: START 0 for 1 to 3, START 2 for 2 to 6 and START 3 for 1 to 5 are enabled", None),
+        ("START thread 0", "START thread 7", 10, "step 9: START 7 for 2 refused (10) at clock 0: START 0 for 1 to 3, START 2 for 2 to 6 and START 3 for 1 to 5 are enabled", None),
         ("TICK 2", "LEAVE transition 1", 10, "step 10: LEAVE 1 refused (10) at clock 0: COMPLETE 0 is due at clock 2", Some("it wants Phase = 2, but Phase is 0")),
         ("TICK 2", "TICK 0", 9, "step 10: TICK 0 refused (9) at clock 0: the ticks must be at least 1", None),
         ("TICK 2", "55 66", 9, "step 10: event of kind 55 refused (9) at clock 0: no event has the kind 55", None),

@@ -452,7 +452,7 @@ fn missing(item: Item, number: i64, count: i64) -> Option<Fault> {
     )
 }
 
-fn only(item: Item, count: i64) -> String {
+pub fn only(item: Item, count: i64) -> String {
     let word = item.word();
     match count {
         0 => format!("but there is no {word}"),

@@ -104,11 +104,10 @@ impl<'a> Machine<'a> {
         "nothing but TICK and REQUEST is enabled".to_string()
     }
 
-    /// A refused event: the line about it, and why it was refused where that can be told.
-    pub fn refused(&self, event: &Record, number: u32, names: &Names) -> Vec<String> {
+    /// The line about a refused event.
+    pub fn refused(&self, event: &Record, number: u32, names: &Names) -> String {
         let shown = event_words(event.bytes, names);
         let clock = self.clock();
-        let mut lines = Vec::new();
         let instead = match number {
             9 => broken(event),
             11 => "the last clock is 1000000000".to_string(),
@@ -117,20 +116,13 @@ impl<'a> Machine<'a> {
                 "rule {} sets a variable twice",
                 self.enabled_rules(event.bytes)
             ),
-            _ => {
-                lines.extend(self.why_not(event.bytes, names));
-                self.instead(names)
-            }
+            _ => self.instead(names),
         };
-        lines.insert(
-            0,
-            format!("{shown} refused ({number}) at clock {clock}: {instead}"),
-        );
-        lines
+        format!("{shown} refused ({number}) at clock {clock}: {instead}")
     }
 
-    /// What an event lacks first.
-    fn why_not(&self, event: &[u8], names: &Names) -> Option<String> {
+    /// What an event that is not enabled lacks first, by the clauses of its rule.
+    pub fn why_not(&self, event: &[u8], names: &Names) -> Option<String> {
         let (kind, id) = (event[0], event[1]);
         if kind == TICK {
             return None;
@@ -347,7 +339,7 @@ pub fn event_words(event: &[u8], names: &Names) -> String {
 }
 
 /// Why an event is none.
-fn broken(event: &Record) -> String {
+pub fn broken(event: &Record) -> String {
     match (event.kind, &event.values) {
         (None, _) => format!("no event has the kind {:02x}", event.bytes[0]),
         (Some(kind), None) => {

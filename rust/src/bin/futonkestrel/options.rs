@@ -4,7 +4,7 @@ use std::ffi::{OsStr, OsString};
 use std::os::unix::ffi::OsStrExt;
 
 use crate::commands::{
-    check, compare, explore, listing, promela, show, size, table, timeline, trace,
+    check, compare, explore, listing, promela, show, size, start, table, timeline, trace,
 };
 use crate::figures::counted;
 use crate::{files, Failure, Status};
@@ -18,7 +18,7 @@ struct Opt {
 
 struct Command {
     name: &'static str,
-    /// The files it takes, as the usage line shows them.
+    /// The files and numbers it takes, as the usage line shows them.
     operands: &'static str,
     options: &'static [Opt],
     /// One line for the list of commands.
@@ -30,6 +30,7 @@ struct Command {
 
 /// What a command was called with.
 pub struct Call {
+    command: &'static Command,
     pub operands: Vec<OsString>,
     options: Vec<(&'static str, OsString)>,
 }
@@ -42,6 +43,11 @@ impl Call {
     pub fn value(&self, option: &str) -> Option<&OsStr> {
         let found = self.options.iter().rev().find(|(word, _)| *word == option);
         found.map(|(_, value)| value.as_os_str())
+    }
+
+    /// Why the call makes no sense, with how it should be.
+    pub fn wrong(&self, text: &str) -> Failure {
+        self.command.wrong(text)
     }
 }
 
@@ -74,6 +80,25 @@ on standard error, and the status is then 1.
 
 A file of names has a line for each item, first its sort (thread, mode, input,
 output, local, connection, transition), then its number, then its name.";
+
+const START_HELP: &str = "\
+Runs SCRIPT, going on after refused events, and asks in the state that it leaves
+whether START of THREAD for LENGTH would be taken. The test takes four steps in
+order, and the first that fails is told by its number, with what fails in words:
+
+  0  none fails: START would be taken; otherwise it is refused with 10
+  1  state: the thread is not there, does not wait for the processor (code 2), or
+     has its deadline now
+  2  processor: a thread holds it
+  3  connections: an immediate one that is live waits for the thread it comes from
+  4  length: it lies outside the thread's Min and Max
+
+The number is the library's; that it is the first step to fail is proved. The words
+are this program's own look at the state. The status is 0 whatever the number is,
+and 1 for a refused model. Events of SCRIPT that were refused, and an end that is
+cut, are noted on standard error. THREAD may be a name that --names gives.
+
+'steps' and 'timeline' say the same about a START that is refused in a script.";
 
 const EXPLORE_OPTIONS: &[Opt] = &[
     opt(
@@ -235,6 +260,15 @@ for a refused model or table.",
         run: trace::trace,
     },
     Command {
+        name: "start",
+        operands: "MODEL SCRIPT THREAD LENGTH",
+        options: &[NAMES],
+        about: "would START be taken, or which step of its test fails?",
+        help: START_HELP,
+        example: "futonkestrel start examples/lesson/model.bin examples/lesson/script.bin 1 2",
+        run: start::start,
+    },
+    Command {
         name: "timeline",
         operands: "MODEL SCRIPT OUT.svg",
         options: &[
@@ -320,6 +354,9 @@ file is accepted, 'check' tells.",
     },
 ];
 
+/// Operands that are numbers; all others are files.
+const NUMBERS: [&str; 2] = ["THREAD", "LENGTH"];
+
 /// What options do is told from here on, or further to the right.
 const OPTION_WIDTH: usize = 13;
 
@@ -372,7 +409,7 @@ commands:
     );
     for command in COMMANDS {
         text += &format!(
-            "  {:8} {:20} {}\n",
+            "  {:8} {:26} {}\n",
             command.name, command.operands, command.about
         );
     }
@@ -419,7 +456,7 @@ impl Command {
         text + &format!("\nexample:\n  {}\n", self.example)
     }
 
-    fn call(&self, words: &[OsString]) -> Result<Status, Failure> {
+    fn call(&'static self, words: &[OsString]) -> Result<Status, Failure> {
         if words
             .iter()
             .take_while(|word| *word != "--")
@@ -430,17 +467,24 @@ impl Command {
         let call = self.parse(words)?;
         let wanted = self.operands.split(' ').count();
         if call.operands.len() != wanted {
-            let given = call.operands.len();
-            return Err(self.wrong(&format!(
-                "{} wanted, {given} given",
-                counted(wanted, "file")
-            )));
+            let (given, sort) = (call.operands.len(), self.sort_of_operands());
+            return Err(self.wrong(&format!("{} wanted, {given} given", counted(wanted, sort))));
         }
         (self.run)(&call)
     }
 
-    fn parse(&self, words: &[OsString]) -> Result<Call, Failure> {
+    /// Files, unless some of them are numbers.
+    fn sort_of_operands(&self) -> &'static str {
+        let mut operands = self.operands.split(' ');
+        match operands.any(|operand| NUMBERS.contains(&operand)) {
+            true => "argument",
+            false => "file",
+        }
+    }
+
+    fn parse(&'static self, words: &[OsString]) -> Result<Call, Failure> {
         let mut call = Call {
+            command: self,
             operands: Vec::new(),
             options: Vec::new(),
         };

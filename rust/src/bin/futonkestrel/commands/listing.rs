@@ -2,17 +2,20 @@
 
 use futonkestrel::refusals::Holder;
 use futonkestrel::{
-    events, model_listing, read_table, run_model, run_table, table_listing, translate,
+    events, model_listing, read_table, run_model, run_table, start_test, table_listing, translate,
     translate_to_vec, Refusal, Table,
 };
 
 use super::{tell, tell_file};
 use crate::files::{self, Input};
-use crate::format::{Format, Item, MODEL, REQUEST, SCRIPT, TABLE};
+use crate::format::{Format, Item, MODEL, REQUEST, SCRIPT, START, TABLE};
+use crate::items::Items;
+use crate::look::Look;
 use crate::machine::{item_of_event, Machine};
 use crate::names::Names;
 use crate::options::Call;
 use crate::record::{records, Record};
+use crate::start_words::Asked;
 use crate::variables::{is_of_table_only, name_with, value_with};
 use crate::{Failure, Status};
 
@@ -20,6 +23,8 @@ use crate::{Failure, Status};
 const LIMIT: usize = 65_536;
 /// What is said stands behind the line from here on.
 const COLUMN: usize = 9;
+/// The refusal of an event that is whole but cannot happen now.
+const NOT_ENABLED: u32 = 10;
 
 /// A run that is to be shown.
 pub struct Job<'a> {
@@ -172,10 +177,41 @@ impl<'a> Job<'a> {
             machine.step(event);
             taken += 1;
         }
-        let part = records(&SCRIPT, &self.events[refusal.start..refusal.end]);
-        let mut lines = machine.refused(&part[0], refusal.number, names);
-        lines[0] = format!("step {}: {}", taken + 1, lines[0]);
+        let part = &records(&SCRIPT, &self.events[refusal.start..refusal.end])[0];
+        let line = machine.refused(part, refusal.number, names);
+        let mut lines = vec![format!("step {}: {line}", taken + 1)];
+        if refusal.number == NOT_ENABLED {
+            let step = self.failing_step(&machine, part, refusal.start, names);
+            lines.extend(step.or_else(|| machine.why_not(part.bytes, names)));
+        }
         Some(lines)
+    }
+
+    /// The step at which a START that the model refused fails its test, as `start` tells
+    /// it: the clauses of the table's rule stand in another order.
+    fn failing_step(
+        &self,
+        machine: &Machine,
+        event: &Record,
+        place: usize,
+        names: &Names,
+    ) -> Option<String> {
+        let (kind, values) = event.whole()?;
+        if !self.of_model || kind.byte != START {
+            return None;
+        }
+        // Both fields are unsigned, of 32 bits at most.
+        let [thread, length] = [0, 1].map(|field| values[field] as u32);
+        let step = start_test(self.bytes, &self.events[..place], thread, length);
+        let asked = Asked {
+            items: &Items::of(self.bytes, names),
+            names,
+            look: &Look::new(machine.variables),
+            thread,
+            length,
+        };
+        let words = asked.words(step.expect("it was accepted"));
+        Some(format!("START's test fails at {words}"))
     }
 
     fn machine(&self) -> Option<Machine<'_>> {

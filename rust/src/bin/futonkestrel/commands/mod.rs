@@ -14,6 +14,7 @@ pub mod listing;
 pub mod promela;
 pub mod show;
 pub mod size;
+pub mod start;
 pub mod table;
 pub mod timeline;
 pub mod trace;

@@ -6,9 +6,10 @@ use futonkestrel::Table;
 
 use super::listing::{self, Job};
 use crate::files::{self, Input};
+use crate::items::Items;
 use crate::names::Names;
 use crate::options::Call;
-use crate::timeline::{draw, moments, pieces, range, steps, Items, Subject};
+use crate::timeline::{draw, moments, pieces, range, steps, Subject};
 use crate::{Failure, Status};
 
 pub fn timeline(call: &Call) -> Result<Status, Failure> {

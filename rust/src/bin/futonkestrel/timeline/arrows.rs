@@ -1,12 +1,12 @@
 //! Arrows for the values that connections carry: immediate ones when their
 //! thread completes, delayed ones at its deadline.
 
-use super::items::{Connection, Items};
 use super::layout::{Column, Frame, SMALL};
 use super::measure::width;
 use super::steps::Moment;
 use super::svg::Svg;
 use crate::format::{COMPLETE, DEADLINE};
+use crate::items::{Connection, Items};
 
 /// The room beside a value, and the length of an arrow's head.
 const BESIDE: i32 = 10;

@@ -1,7 +1,7 @@
 //! Stretches of a row in which something stays the same.
 
 use super::layout::Column;
-use super::steps::Look;
+use crate::look::Look;
 
 #[derive(Debug, PartialEq, Eq)]
 pub struct Block<T> {

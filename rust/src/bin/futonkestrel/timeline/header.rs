@@ -1,12 +1,12 @@
 //! Over the columns: the number of each step and its event, and from there a
 //! line to the lane that it concerns.
 
-use super::items::Items;
 use super::layout::{clocks_of, number_of, Column, Frame, BAND, LARGE, SMALL};
 use super::measure::width;
 use super::steps::Moment;
 use super::svg::Svg;
 use crate::format::{Item, MISS, REQUEST, SCRIPT, START, TICK};
+use crate::items::Items;
 use crate::machine::item_of_event;
 
 /// What stands over a column: `START 2`, `TICK 5`.

@@ -1,11 +1,11 @@
 //! The lanes: the codes of each thread, and who holds the processor.
 
 use super::blocks::{blocks, Block};
-use super::items::{Items, Thread};
 use super::layout::{Column, Frame, LARGE, MARGIN, SMALL};
 use super::measure::{fitted, width};
 use super::svg::Svg;
 use crate::format::MISS;
+use crate::items::{Items, Thread};
 
 /// The size of the letters of a thread's figures.
 const ABOUT: i32 = 11;

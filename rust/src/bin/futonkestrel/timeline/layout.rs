@@ -1,11 +1,12 @@
 //! Places: columns of steps and of passing time, broken into rows as music is.
 
 use super::arrows::{self, Carried};
-use super::items::Items;
 use super::measure::{bold_width, width};
-use super::steps::{Look, Moment};
+use super::steps::Moment;
 use crate::figures::grouped;
 use crate::format::MISS;
+use crate::items::Items;
+use crate::look::Look;
 
 /// The picture's width, if no row needs more, and the room around it.
 pub const PAGE: i32 = 1280;

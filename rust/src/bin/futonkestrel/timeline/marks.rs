@@ -1,9 +1,9 @@
 //! Marks of periods and deadlines, at the begin of an instant.
 
-use super::items::{Items, Thread};
 use super::layout::{Frame, Instant};
-use super::steps::Look;
 use super::svg::Svg;
+use crate::items::{Items, Thread};
+use crate::look::Look;
 
 /// From the middle of a lane to the ends of a mark.
 const REACH: i32 = 15;

@@ -2,7 +2,7 @@
 //!
 //! What happens comes from the library: the steps from the listing, the values
 //! from the table's variables after each event. Here it is only laid out and
-//! drawn: [`items`] and [`steps`] hold what is drawn, [`range`] and [`folding`]
+//! drawn: [`steps`] and the model's items are what is drawn, [`range`] and [`folding`]
 //! choose the steps, [`layout`] gives them places, the other modules draw.
 
 mod arrows;
@@ -10,7 +10,6 @@ mod axis;
 mod blocks;
 mod folding;
 mod header;
-mod items;
 mod lanes;
 mod layout;
 mod legend;
@@ -24,6 +23,5 @@ mod style;
 mod svg;
 
 pub use folding::pieces;
-pub use items::Items;
 pub use page::{draw, Subject};
 pub use steps::{moments, steps};

@@ -1,10 +1,10 @@
 //! The band of modes and phases.
 
 use super::blocks::blocks;
-use super::items::Items;
 use super::layout::{Column, Frame, BAND, SMALL};
 use super::measure::fitted;
 use super::svg::Svg;
+use crate::items::Items;
 
 /// How the phases 0, 1 and 2 are drawn.
 pub const PHASES: [&str; 3] = ["steady", "asked", "changing"];

@@ -1,12 +1,12 @@
 //! The whole picture: title, legend and rows.
 
-use super::items::Items;
 use super::layout::{self, Frame, Row, LABELS, LARGE, MARGIN, PAGE};
 use super::steps::{Moment, Step};
 use super::svg::Svg;
 use super::{arrows, axis, header, lanes, legend, marks, modes, style};
 use crate::figures::grouped;
 use crate::format::MISS;
+use crate::items::Items;
 
 /// The space between two rows.
 const BETWEEN: i32 = 22;

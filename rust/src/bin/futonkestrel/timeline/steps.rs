@@ -1,12 +1,12 @@
 //! The steps of a run, and the variables around those that are drawn.
 
-use futonkestrel::{events, Table, Variables};
+use futonkestrel::{events, Table};
 
 use super::folding::Piece;
 use crate::format::TICK;
+use crate::look::Look;
 use crate::machine::event_words;
 use crate::names::Names;
-use crate::variables;
 
 /// A line of the listing.
 #[derive(Clone, Copy, Debug, PartialEq, Eq)]
@@ -46,67 +46,6 @@ pub fn steps(listing: &[u8]) -> Vec<Step> {
         Some(step)
     };
     lines.map_while(step).collect()
-}
-
-/// The variables at some moment, by what they stand for.
-#[derive(Clone)]
-pub struct Look {
-    variables: Variables,
-}
-
-impl Look {
-    fn single(&self, name: &str) -> i64 {
-        self.value(variables::number(name, None))
-    }
-
-    fn of(&self, name: &str, item: usize) -> i64 {
-        self.value(variables::number(name, Some(item as i64)))
-    }
-
-    fn value(&self, variable: Option<i64>) -> i64 {
-        let variable = variable.expect("a variable of this name");
-        i64::from(self.variables[variable as usize])
-    }
-
-    pub fn clock(&self) -> i64 {
-        self.single("Now")
-    }
-
-    pub fn mode(&self) -> usize {
-        self.single("Mode") as usize
-    }
-
-    pub fn phase(&self) -> i64 {
-        self.single("Phase")
-    }
-
-    pub fn pending(&self) -> usize {
-        self.single("Pending") as usize
-    }
-
-    pub fn processor(&self) -> usize {
-        self.single("Cpu") as usize
-    }
-
-    pub fn is_active(&self, thread: usize) -> bool {
-        self.of("Active", thread) == 1
-    }
-
-    pub fn code(&self, thread: usize) -> usize {
-        self.of("State", thread) as usize
-    }
-
-    pub fn due(&self, thread: usize) -> i64 {
-        self.of("Due", thread)
-    }
-
-    pub fn is_live(&self, connection: usize) -> bool {
-        self.of("Flag", connection) == 1
-    }
-
-    pub fn buffer(&self, input: i64) -> i64 {
-        self.of("Buffer", input as usize)
-    }
 }
 
 /// A piece of the run with the variables around it.
@@ -157,15 +96,15 @@ pub fn moments(
                 piece: piece.clone(),
                 first: steps[piece.first],
                 last: steps[piece.last],
-                before: Look { variables: before },
-                after: Look { variables },
+                before: Look::new(before),
+                after: Look::new(variables),
                 words: event_words(event, names),
                 begins_instant: begins_instant(steps, piece.first),
             });
         }
         if at == piece.last {
             if let Some(moment) = moments.last_mut() {
-                moment.after = Look { variables };
+                moment.after = Look::new(variables);
             }
             next = wanted.next();
         }

@@ -1,4 +1,4 @@
-//! The items of a model that a picture shows, with their names.
+//! The items of a model that pictures and words speak of, with their names.
 
 use crate::format::{Item, MODEL};
 use crate::names::Names;
@@ -8,6 +8,9 @@ pub struct Thread {
     pub name: String,
     pub period: i64,
     pub deadline: i64,
+    /// How long a job may take.
+    pub min: i64,
+    pub max: i64,
 }
 
 pub struct Connection {
@@ -75,6 +78,8 @@ fn thread(record: &Record, names: &Names) -> Thread {
         name: names.or_number(Item::Thread, record.number as i64),
         period: field(record, "period"),
         deadline: field(record, "deadline"),
+        min: field(record, "min"),
+        max: field(record, "max"),
     }
 }
 
