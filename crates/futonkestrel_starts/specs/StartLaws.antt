@@ -28,10 +28,10 @@ at-start : (m : Model) (s : State) (t n : ℕ) → step m s (startEvent t n) ≡
 unfolding step onStart isBroken recordSize
 at-start m s t n = refl
 
-pub start-decides : (m : Model) (s : State) (t n : ℕ) → StartTest m s t n (startFault (m .timing) s t n)
-start-decides m s t n = record { first = refl; taken = at-start m s t n; sentence = start-sentence (m .timing) s t n }
+pub start-decides : (m : Model) (s : State) (t n : ℕ) → StartTest m s t n
+start-decides m s t n = record { taken = at-start m s t n; sentence = start-sentence (m .timing) s t n }
 
--- ---- by bytes: x is the state that the script leaves, u the thread and j the step in other widths
+-- ---- by bytes: x is the state that the script leaves
 module _ (model script : List ℕ) (t n : ℕ) {m : ModelRead} (h : m ≡ readModel model) {b : Bool} (e : b ≡ isNone (m .refusal .cause)) {before after : List ℕ} {r : ℕ}
     (w : Tells (m .refusal .cause) (toldRefusal (m .refusal)) before r after) where
   pub start-refused : b ≡ false → TellsStart model script t n before r after
@@ -41,11 +41,11 @@ module _ (model script : List ℕ) (t n : ℕ) {m : ModelRead} (h : m ≡ readMo
     test = start-decides (readModel model .model) (leftBy (readModel model .model) script) t n;
   }
 
-  pub start-told : b ≡ true → {x : State} → x ≡ leftBy (m .model) script → {u : ℕ} → u ≡ t → {k : ℕ} → k ≡ startFault (m .model .timing) x u n → {j : ℕ} → j ≡ k →
-      {last : List ℕ} → last ≡ set after 2 j → TellsStart model script t n before r last
+  pub start-told : b ≡ true → {x : State} → x ≡ leftBy (m .model) script → {k : ℕ} → k ≡ startFault (m .model .timing) x t n → {last : List ℕ} → last ≡ set after 2 k →
+      TellsStart model script t n before r last
   unfolding toldStart
-  start-told g p z q i l = record {
-    tells = record { number = rw (← h) (w .number); told = rw (← h, ← e, g, ← p, ← z, ← q, ← i, l, w .told) };
+  start-told g p q l = record {
+    tells = record { number = rw (← h) (w .number); told = rw (← h, ← e, g, ← p, ← q, l, w .told) };
     test = start-decides (readModel model .model) (leftBy (readModel model .model) script) t n;
   }
 
@@ -58,10 +58,10 @@ module _ (words state : List ℕ) (t n : ℕ) {before : List ℕ} {r : ℕ} wher
     test = start-decides (modelIn words) (stateIn state) t n;
   }
 
-  pub start-kept : stateWords ≤ length state → r ≡ numberOf None → {u : ℕ} → u ≡ t → {k : ℕ} → k ≡ startFault (timingIn words) (stateIn state) u n → {j : ℕ} → j ≡ k →
-      {after : List ℕ} → after ≡ set before 0 j → TellsStartIn words state t n before r after
+  pub start-kept : stateWords ≤ length state → r ≡ numberOf None → {k : ℕ} → k ≡ startFault (timingIn words) (stateIn state) t n → {after : List ℕ} → after ≡ set before 0 k →
+      TellsStartIn words state t n before r after
   unfolding startedAnswer toldStartIn
-  start-kept h e z q i l = record {
-    tells = rw (le-ltb (length state) stateWords h) (record { number = e; told = rw (← z, ← q, ← i) l });
+  start-kept h e q l = record {
+    tells = rw (le-ltb (length state) stateWords h) (record { number = e; told = rw (← q) l });
     test = start-decides (modelIn words) (stateIn state) t n;
   }

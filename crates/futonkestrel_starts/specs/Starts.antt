@@ -23,31 +23,27 @@ use Rattle.futonkestrel_states.specs.States.{isNarrow, startedAnswer}
 abbrev pub startEvent : ℕ → ℕ → Event
 startEvent t n = record { kind = startKind; id = t; amount = n }
 
--- What the number k of a test says of START in state s, with thread t and length n.
-pub record StartTest (m : Model) (s : State) (t n k : ℕ) : Type 0 where
-  -- "tell the first that fails"
-  pub first : k ≡ startFault (m .timing) s t n
+-- What the number of the test says of START in state s, with thread t and length n.
+pub record StartTest (m : Model) (s : State) (t n : ℕ) : Type 0 where
   -- "START is taken exactly at 0", and else refused with 10, the state staying as it is
-  pub taken : step m s (startEvent t n) ≡ attempt (eqb k 0) (start (m .timing) s t n) s
+  pub taken : step m s (startEvent t n) ≡ attempt (eqb (startFault (m .timing) s t n) 0) (start (m .timing) s t n) s
   -- "and no result of a run differs": 0 is document 01's test
-  pub sentence : eqb k 0 ≡ startEnabled (m .timing) s t n
+  pub sentence : eqb (startFault (m .timing) s t n) 0 ≡ startEnabled (m .timing) s t n
 
 -- ---- by a model's bytes and a script: the state that it leaves, "going on after refusals"
 abbrev pub leftBy : Model → List ℕ → State
 leftBy m script = tallyModel m script .state
 
-abbrev pub stepAfter : List ℕ → List ℕ → ℕ → ℕ → ℕ
-stepAfter model script t n = startFault (readModel model .model .timing) (leftBy (readModel model .model) script) t n
-
 -- the refusal's part, then the step; of a refused model there is none, and its place stays as it was
 unfoldable pub toldStart : List ℕ → List ℕ → ℕ → ℕ → List ℕ
 toldStart model script t n =
     let r = readModel model .refusal in
-    cond (isNone (r .cause)) (r .start ∷ r .end ∷ stepAfter model script t n ∷ []) (toldRefusal r)
+    let m = readModel model .model in
+    cond (isNone (r .cause)) (r .start ∷ r .end ∷ startFault (m .timing) (leftBy m script) t n ∷ []) (toldRefusal r)
 
 pub record TellsStart (model script : List ℕ) (t n : ℕ) (before : List ℕ) (r : ℕ) (told : List ℕ) : Type 0 where
   pub tells : Tells (readModel model .refusal .cause) (toldStart model script t n) before r told
-  pub test : StartTest (readModel model .model) (leftBy (readModel model .model) script) t n (stepAfter model script t n)
+  pub test : StartTest (readModel model .model) (leftBy (readModel model .model) script) t n
 
 -- ---- by numbers that the caller keeps: 8 where they are too few for a state
 unfoldable pub toldStartIn : List ℕ → List ℕ → ℕ → ℕ → List ℕ
@@ -55,4 +51,4 @@ toldStartIn words state t n = cond (isNarrow state) [] (startFault (timingIn wor
 
 pub record TellsStartIn (words state : List ℕ) (t n : ℕ) (before : List ℕ) (r : ℕ) (told : List ℕ) : Type 0 where
   pub tells : Tells (startedAnswer state) (toldStartIn words state t n) before r told
-  pub test : StartTest (modelIn words) (stateIn state) t n (startFault (timingIn words) (stateIn state) t n)
+  pub test : StartTest (modelIn words) (stateIn state) t n

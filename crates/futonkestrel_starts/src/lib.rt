@@ -7,8 +7,6 @@ use listing_writer::tell;
 use model_state::STATE_WORDS;
 use model_tests::start_fault;
 use model_words::MODEL_WORDS;
-use numbers::usize_of_u8;
-use numbers::usize_of_u32;
 use records::Cause;
 ghost use Rattle.futonkestrel_starts.specs.Starts.{TellsStart, TellsStartIn};
 
@@ -25,8 +23,8 @@ pub fn start_test(model: &[u8], script: &[u8], thread: u32, length: u32, told: &
     }
     let mut state = [0u32; STATE_WORDS];
     model_runs::run_on_in(&words, &mut state, script);
-    let step = start_fault(&words, &state, usize_of_u32(thread), length);
-    tell(told, 2, usize_of_u8(step));
+    let step = start_fault(&words, &state, thread as usize, length);
+    tell(told, 2, step as usize);
     result
 }
 
@@ -43,7 +41,7 @@ pub fn model_start_test(
     if state.len() < STATE_WORDS {
         return number(Cause::ShortOutput);
     }
-    let step = start_fault(words, state, usize_of_u32(thread), length);
-    tell(told, 0, usize_of_u8(step));
+    let step = start_fault(words, state, thread as usize, length);
+    tell(told, 0, step as usize);
     number(Cause::None)
 }

@@ -1,9 +1,9 @@
 -- START's test: its steps one by one, and that none fails exactly where document 01 enables START.
-use mathlib.Core.Path.{_≡_, refl}
+use mathlib.Core.Path.{_≡_, refl, sym, _∙_}
 use mathlib.Core.Bool.{Bool, true, false, cond, _&&_, not, false≢true}
 use Prim.Native.Nat.{ℕ, _<_, _≤_}
 use lib.Dec.{eqb, ltb, leb}
-use borrow.Author.Tests.{eqb-true, ltb-true, leb-true}
+use borrow.Author.Tests.{eqb-true, ltb-true, leb-true, not-true}
 use Rattle.model_format.specs.declared.Timing.{Timing}
 use Rattle.model_format.specs.Model.{threadAt}
 use Rattle.model_semantics.specs.declared.State.{State}
@@ -19,6 +19,11 @@ pub record Passed (m : Timing) (s : State) (t n : ℕ) : Type 0 where
   pub unheld : awaitsImmediate m s t ≡ false
   pub least : threadAt m t .bcet .0 ≤ n
   pub most : n ≤ threadAt m t .wcet .0
+
+both : (a b : Bool) → (a && b) ≡ true → (a ≡ true) × (b ≡ true)
+both true true e = (refl, refl)
+both true false e = absurd (false≢true e)
+both false b e = absurd (false≢true e)
 
 module _ (m : Timing) (s : State) (t n : ℕ) where
   -- ---- the first step that fails
@@ -49,32 +54,6 @@ module _ (m : Timing) (s : State) (t n : ℕ) where
   pub start-unready : isReady m s t ≡ false → canStart m s t n ≡ false
   start-unready h = rw (fault-state h)
 
-  pub start-passed : canStart m s t n ≡ true → Passed m s t n
-  unfolding startFault
-  start-passed e =
-      go (ltb t (m .threads)) (eqb (codeOf s t) waitingExecution) (isDue m s t) (isFree m s t) (awaitsImmediate m s t) (leb (threadAt m t .bcet .0) n) (leb n (threadAt m t .wcet .0))
-      refl refl refl refl refl refl refl e
-    where
-      go : (a b d f w x y : Bool) → ltb t (m .threads) ≡ a → eqb (codeOf s t) waitingExecution ≡ b → isDue m s t ≡ d → isFree m s t ≡ f → awaitsImmediate m s t ≡ w →
-          leb (threadAt m t .bcet .0) n ≡ x → leb n (threadAt m t .wcet .0) ≡ y →
-          eqb (cond (not (a && (b && not d))) 1 (cond (not f) 2 (cond w 3 (cond (not (x && y)) 4 0)))) 0 ≡ true → Passed m s t n
-      go false b d f w x y ha hb hd hf hw hx hy e = absurd (false≢true e)
-      go true false d f w x y ha hb hd hf hw hx hy e = absurd (false≢true e)
-      go true true true f w x y ha hb hd hf hw hx hy e = absurd (false≢true e)
-      go true true false false w x y ha hb hd hf hw hx hy e = absurd (false≢true e)
-      go true true false true true x y ha hb hd hf hw hx hy e = absurd (false≢true e)
-      go true true false true false false y ha hb hd hf hw hx hy e = absurd (false≢true e)
-      go true true false true false true false ha hb hd hf hw hx hy e = absurd (false≢true e)
-      go true true false true false true true ha hb hd hf hw hx hy e = record {
-        there = ltb-true t (m .threads) ha;
-        waits = eqb-true (codeOf s t) waitingExecution hb;
-        undue = hd;
-        free = eqb-true (cpuFor m s t) none hf;
-        unheld = hw;
-        least = leb-true (threadAt m t .bcet .0) n hx;
-        most = leb-true n (threadAt m t .wcet .0) hy;
-      }
-
   -- the test at 0 is document 01's conjunction
   pub start-sentence : canStart m s t n ≡ startEnabled m s t n
   unfolding startFault startEnabled
@@ -90,3 +69,22 @@ module _ (m : Timing) (s : State) (t n : ℕ) where
       go true true true false true false = refl
       go true true true false false true = refl
       go true true true false false false = refl
+
+  pub start-passed : canStart m s t n ≡ true → Passed m s t n
+  unfolding startEnabled
+  start-passed e =
+      let (there, r) = both (ltb t (m .threads)) _ (sym start-sentence ∙ e) in
+      let (waits, r) = both (eqb (codeOf s t) waitingExecution) _ r in
+      let (free, r) = both (isFree m s t) _ r in
+      let (undue, r) = both (not (isDue m s t)) _ r in
+      let (allowed, unheld) = both (isAllowed m t n) _ r in
+      let (least, most) = both (leb (threadAt m t .bcet .0) n) _ allowed in
+      record {
+        there = ltb-true t (m .threads) there;
+        waits = eqb-true (codeOf s t) waitingExecution waits;
+        undue = not-true (isDue m s t) undue;
+        free = eqb-true (cpuFor m s t) none free;
+        unheld = not-true (awaitsImmediate m s t) unheld;
+        least = leb-true (threadAt m t .bcet .0) n least;
+        most = leb-true n (threadAt m t .wcet .0) most;
+      }

@@ -9,14 +9,11 @@ number-requires c κs = search needs
 returns : tie.Need-returns
 returns c = start-narrow _ _ _ _ (c .before .if1 .taken) (c .number .ensures)
 
-usize-of-u32-requires : tie.Need-usize-of-u32-requires
-usize-of-u32-requires c κs = search needs
-
 start-fault-requires : tie.Need-start-fault-requires
 start-fault-requires c κs = search needs
 
-usize-of-u8-requires : tie.Need-usize-of-u8-requires
-usize-of-u8-requires c κs = search needs
+cast-tell : tie.Need-cast-tell
+cast-tell c = search needs
 
 tell-requires : tie.Need-tell-requires
 tell-requires c κs = search needs
@@ -28,7 +25,7 @@ same-length : tie.Need-same-length
 same-length c = search needs
 
 returns-2 : tie.Need-returns-2
-returns-2 c = start-kept _ _ _ _ (c .before .before .before .before .before .before .before .before .if1 .left) (c .number2 .ensures) (c .before .before .before .before .before .before .before .usize-of-u32 .ensures .0) (c .before .before .before .before .before .before .start-fault .ensures) (c .before .before .before .before .usize-of-u8 .ensures .0) (c .before .before .before .tell .ensures)
+returns-2 c = start-kept _ _ _ _ (c .before .before .before .before .before .before .if1 .left) (c .number2 .ensures) (c .before .before .before .before .before .start-fault .ensures) (c .before .before .before .tell .ensures)
 
 pub model-start-test-spec : {M : Type 1} → statement M
 model-start-test-spec =
@@ -36,9 +33,8 @@ model-start-test-spec =
     (tie.spec
     number-requires
     returns
-    usize-of-u32-requires
     start-fault-requires
-    usize-of-u8-requires
+    cast-tell
     tell-requires
     number-requires-2
     same-length

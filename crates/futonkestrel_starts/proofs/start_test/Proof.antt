@@ -41,14 +41,11 @@ slice-aggregate-start-fault c = search needs
 slice-aggregate-start-fault-2 : tie.Need-slice-aggregate-start-fault-2
 slice-aggregate-start-fault-2 c = search needs
 
-usize-of-u32-requires : tie.Need-usize-of-u32-requires
-usize-of-u32-requires c κs = search needs
-
 start-fault-requires : tie.Need-start-fault-requires
 start-fault-requires c κs = search needs
 
-usize-of-u8-requires : tie.Need-usize-of-u8-requires
-usize-of-u8-requires c κs = search needs
+cast-tell : tie.Need-cast-tell
+cast-tell c = search needs
 
 tell-requires : tie.Need-tell-requires
 tell-requires c κs = search needs
@@ -57,7 +54,7 @@ same-length-2 : tie.Need-same-length-2
 same-length-2 c = search needs
 
 returns-2 : tie.Need-returns-2
-returns-2 c = start-told _ _ _ _ (read-new (c .before .before .before .before .before .before .before .before .before .before .before .before .before .before .before .before .before .before .before .before .read-model-into .ensures)) (c .before .before .before .before .before .before .before .before .before .before .before .before .before .before .is-none .ensures) (c .before .before .before .before .before .before .before .before .before .before .before .before .before .before .before .before .before .tell-refusal .ensures) (not-false _ (c .before .before .before .before .before .before .before .before .before .before .before .before .before .if1 .left)) (ap (λ (x : Tally State). x .state) (c .before .before .before .before .before .before .before .before .before .before .run-on-in .ensures)) (c .before .before .before .before .before .before .usize-of-u32 .ensures .0) (c .before .before .before .before .before .start-fault .ensures) (c .before .before .before .usize-of-u8 .ensures .0) (c .before .before .tell .ensures)
+returns-2 c = start-told _ _ _ _ (read-new (c .before .before .before .before .before .before .before .before .before .before .before .before .before .before .before .before .before .before .read-model-into .ensures)) (c .before .before .before .before .before .before .before .before .before .before .before .before .is-none .ensures) (c .before .before .before .before .before .before .before .before .before .before .before .before .before .before .before .tell-refusal .ensures) (not-false _ (c .before .before .before .before .before .before .before .before .before .before .before .if1 .left)) (ap (λ (x : Tally State). x .state) (c .before .before .before .before .before .before .before .before .run-on-in .ensures)) (c .before .before .before .before .start-fault .ensures) (c .before .before .tell .ensures)
 
 pub start-test-spec : {M : Type 1} → statement M
 start-test-spec =
@@ -74,9 +71,8 @@ start-test-spec =
     run-on-in-requires
     slice-aggregate-start-fault
     slice-aggregate-start-fault-2
-    usize-of-u32-requires
     start-fault-requires
-    usize-of-u8-requires
+    cast-tell
     tell-requires
     same-length-2
     returns-2)

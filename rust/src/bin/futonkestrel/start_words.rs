@@ -9,14 +9,10 @@ use crate::format::{Item, NONE};
 use crate::items::{Items, Thread};
 use crate::look::Look;
 use crate::names::Names;
-use crate::variables::CODES;
+use crate::variables::{CODES, EXECUTION, WAITING_EXECUTION};
 
 #[cfg(test)]
 mod tests;
-
-/// Codes of a thread that waits for the processor, and of one that has it.
-const WAITING_EXECUTION: usize = 2;
-const EXECUTION: usize = 3;
 
 /// A START that is asked for, and the state that it is asked for in.
 pub struct Asked<'a> {

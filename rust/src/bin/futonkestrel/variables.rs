@@ -72,6 +72,10 @@ pub const CODES: [&str; 5] = [
     "completed",
 ];
 
+/// The codes of a thread that waits for the processor, and of one that has it.
+pub const WAITING_EXECUTION: usize = 2;
+pub const EXECUTION: usize = 3;
+
 /// The word for a processor or a request that nobody has.
 pub const NOBODY: &str = "none";
 

@@ -13,7 +13,7 @@ use futonkestrel::Variables;
 use super::LAST_CLOCK;
 use crate::format::{Item, MODEL};
 use crate::record::records;
-use crate::variables::is_time;
+use crate::variables::{is_time, EXECUTION, WAITING_EXECUTION};
 
 const NOW: usize = 0;
 const PHASE: usize = 2;
@@ -28,8 +28,6 @@ const THREADS: usize = 16;
 
 /// The phase in which LEAVE looks at EnteredAt.
 const CHANGING: i32 = 2;
-const WAITING_EXECUTION: i32 = 2;
-const EXECUTION: i32 = 3;
 
 #[derive(Clone, Copy, Debug, PartialEq, Eq)]
 pub struct Fold {
@@ -79,8 +77,8 @@ impl Fold {
         folded[ENTERED_AT] = from_now(variables[ENTERED_AT], changing);
         for thread in 0..THREADS {
             let code = variables[STATE + thread];
-            let has_job = code >= WAITING_EXECUTION;
-            let runs = code == EXECUTION;
+            let has_job = code >= WAITING_EXECUTION as i32;
+            let runs = code == EXECUTION as i32;
             for (instant, is_live) in [(DISPATCH_TIME, has_job), (DUE, has_job), (END, runs)] {
                 let at = instant + thread;
                 folded[at] = from_now(variables[at], is_live);
