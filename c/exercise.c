@@ -580,6 +580,47 @@ static void start_tests_of_the_script(void)
         MUST(seen[step] > 0);
 }
 
+/* Two modes and the way from the first to the second; thread 0, which is critical, and thread 1, which is not, are in the first alone. */
+static const uint8_t leaving[] = {
+    0x01, 2, 0,
+    0x02, 2, 0, 0, 0, 2, 0, 0, 0, 1, 0, 0, 0, 1, 0, 0, 0, 1, 1, 0,
+    0x02, 4, 0, 0, 0, 4, 0, 0, 0, 1, 0, 0, 0, 3, 0, 0, 0, 1, 0, 0,
+    0x07, 0, 1,
+};
+
+/* Up to ENTER at clock 2, with a job in hand of both; thread 1 runs. Then it is stopped, and thread 0 gets the processor. */
+static const uint8_t stopping[] = {
+    0x01, 0, 0x01, 1, 0x03, 0, 0x03, 1, 0x04, 0, 1, 0, 0, 0, 0x0b, 1, 0, 0x05, 0,
+    0x04, 1, 3, 0, 0, 0, 0x08, 0, 0x0b, 1, 0, 0x06, 0, 0x03, 0, 0x09, 0,
+    0x02, 1, 0x04, 0, 1, 0, 0, 0,
+};
+
+/* A critical thread that leaves goes on with its job; another one is stopped and frees the processor, and time waits for that. */
+static void threads_that_leave(void)
+{
+    enum { CPU = 5, STATE = 32, END = 80, STOP = sizeof stopping - 8, START = sizeof stopping - 6 };
+    static uint32_t read[FK_MODEL_WORDS];
+    static const uint8_t one_tick[] = {0x0b, 1, 0}, of_critical[] = {0x02, 0};
+    uint32_t state[FK_STATE_WORDS], before[FK_STATE_WORDS];
+    int32_t shown[FK_VARIABLES];
+    MUST(fk_model_read(leaving, sizeof leaving, read, FK_MODEL_WORDS, NULL, 0) == 0);
+    MUST(fk_model_start(read, FK_MODEL_WORDS, state, FK_STATE_WORDS) == 0);
+    for (size_t at = 0; at < STOP; at += fk_event_length(stopping + at, STOP - at))
+        MUST(fk_model_step(read, FK_MODEL_WORDS, state, FK_STATE_WORDS, stopping + at, fk_event_length(stopping + at, STOP - at)) == 0);
+    memcpy(before, state, sizeof state);
+    MUST(fk_model_step(read, FK_MODEL_WORDS, state, FK_STATE_WORDS, one_tick, 3) == 10);
+    MUST(fk_model_step(read, FK_MODEL_WORDS, state, FK_STATE_WORDS, of_critical, 2) == 10);
+    MUST(memcmp(before, state, sizeof state) == 0);
+    MUST(fk_model_step(read, FK_MODEL_WORDS, state, FK_STATE_WORDS, stopping + STOP, 2) == 0);
+    MUST(fk_model_variables(read, FK_MODEL_WORDS, state, FK_STATE_WORDS, shown, FK_VARIABLES) == 0);
+    MUST(shown[CPU] == 255 && shown[STATE] == 2 && shown[STATE + 1] == 0 && shown[END + 1] == 0);
+    MUST(fk_model_step(read, FK_MODEL_WORDS, state, FK_STATE_WORDS, stopping + START, 6) == 0);
+
+    size_t told[4], made[3];
+    MUST(fk_translate(leaving, sizeof leaving, output, sizeof output, made, 3) == 0);
+    MUST(fk_run_table(output, made[2], stopping, sizeof stopping, told, 4) == 0 && told[2] == 15 && told[3] == 2);
+}
+
 int main(int count, char **names)
 {
     MUST(count == 3);
@@ -613,6 +654,7 @@ int main(int count, char **names)
     steps_of_the_start_test();
     start_tests_that_are_refused();
     start_tests_of_the_script();
+    threads_that_leave();
     puts("every promise held");
     return 0;
 }

@@ -60,7 +60,7 @@ __all__ = [
 # How many variables a table has.
 VARIABLES = 288
 # No table made from a model is longer; some are as long.
-LONGEST_MADE_TABLE = 171_637
+LONGEST_MADE_TABLE = 174_485
 # How many numbers a model takes once it is read, and a state of it.
 MODEL_WORDS = 3865
 STATE_WORDS = 278
@@ -126,7 +126,7 @@ MEANINGS: dict[int, Meaning] = {
     8: Meaning(
         "model",
         "the output is shorter than the table",
-        "give more room: 'futonkestrel size MODEL' tells how much, at most 171,637 bytes",
+        "give more room: 'futonkestrel size MODEL' tells how much, at most 174,485 bytes",
     ),
     9: Meaning(
         "script",

@@ -67,7 +67,7 @@ class Sizes(unittest.TestCase):
             model = fk.Model(example(f"{name}/model.bin"))
             self.assertEqual(model.table_size(), self.counted(model.table().data))
         size = fk.Model(example("m/model.bin")).table_size()
-        self.assertEqual(size, fk.Size(887, 11, 32, 32, 25))
+        self.assertEqual(size, fk.Size(1065, 14, 38, 38, 30))
 
     def test_room_of_the_size_told(self) -> None:
         data = example("lesson/model.bin")
@@ -160,6 +160,46 @@ class SideBySide(unittest.TestCase):
         self.assertEqual(numbers, [0, *range(100)])
         self.assertEqual(table.answer(variables, fk.request(0)), 12)
         self.assertEqual(table.answer(variables, fk.request(1)), 0)
+
+
+class Leaving(unittest.TestCase):
+    """Threads that the new mode does not have, with a job in hand."""
+
+    # Two modes; thread 0 is critical, thread 1 is not, and both are in the first alone.
+    MODEL = bytes.fromhex(
+        "010200"
+        "02 02000000 02000000 01000000 01000000 01 01 00"
+        "02 04000000 04000000 01000000 03000000 01 00 00"
+        "070001"
+    )
+    # Up to clock 2, where thread 0 is dispatched again and thread 1 has run for 1 of 3.
+    EVENTS = [
+        *(fk.activate(0), fk.activate(1), fk.dispatch(0), fk.dispatch(1)),
+        *(fk.start(0, 1), fk.tick(1), fk.complete(0), fk.start(1, 3)),
+        *(fk.request(0), fk.tick(1), fk.deadline(0), fk.dispatch(0), fk.enter(0)),
+    ]
+    # Cpu, State of both threads, End of thread 1.
+    SHOWN = [5, 32, 33, 81]
+
+    def shown(self, model: fk.Model, at: fk.State | fk.Variables) -> list[int]:
+        variables = at if isinstance(at, fk.Variables) else model.variables(at)
+        return [variables[number] for number in self.SHOWN]
+
+    def test_one_finishes_and_one_is_stopped(self) -> None:
+        model = fk.Model(self.MODEL)
+        table = model.table()
+        for machine, at in [(model, model.start()), (table, table.start())]:
+            for event in self.EVENTS:
+                machine.step(at, event)
+            kept = at.copy()
+            for refused in [fk.tick(1), fk.deactivate(0)]:
+                self.assertEqual(machine.answer(at, refused), 10)
+            self.assertEqual(at, kept)
+            self.assertEqual(self.shown(model, at), [1, 2, 3, 4])
+            machine.step(at, fk.deactivate(1))
+            self.assertEqual(self.shown(model, at), [255, 2, 0, 0])
+            machine.step(at, fk.start(0, 1))
+            self.assertEqual(self.shown(model, at), [0, 3, 0, 0])
 
 
 class StartTests(unittest.TestCase):
@@ -336,7 +376,7 @@ class Library(unittest.TestCase):
     def test_events(self) -> None:
         script = example("lesson/script.bin")
         self.assertEqual(b"".join(fk.events(script)), script)
-        self.assertEqual(len(list(fk.events(script))), 105)
+        self.assertEqual(len(list(fk.events(script))), 101)
         self.assertEqual(list(fk.events(b"\x01\x00\x0b\x01")), [b"\x01\x00", b"\x0b\x01"])
         self.assertEqual(fk.event_length(b""), 0)
 

@@ -68,8 +68,8 @@ fn counting(thread: usize) -> Vec<u8> {
 
 /// A model with the most of every kind and the longest table: all behaviour
 /// transitions are of one thread and from one state, that thread has all
-/// connections, immediate ones, and whatever can start otherwise than at 0 does
-/// so. The transitions are taken in turn.
+/// connections, immediate ones, no thread is critical, and whatever can start
+/// otherwise than at 0 does so. The transitions are taken in turn.
 pub fn full(unit: u32) -> Vec<u8> {
     const SENDER: usize = 15;
     let modes = 8;
@@ -78,7 +78,7 @@ pub fn full(unit: u32) -> Vec<u8> {
         model.extend(thread(
             [50, 50, 1, 3].map(|figure| figure * unit),
             255,
-            true,
+            false,
             7,
         ));
     }

@@ -15,7 +15,7 @@ use crate::work::{measurement, with, GOAL};
 /// making it.
 const SIZE_GOAL: f64 = 20.0;
 /// The longest table that a model can have.
-const LONGEST_MADE: usize = 171_637;
+const LONGEST_MADE: usize = 174_485;
 
 /// What is told of an accepted model: its part refused, which is none, then bytes,
 /// rules, clauses, atoms and updates.

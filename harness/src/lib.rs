@@ -9,6 +9,7 @@
 //! * [`lending`], [`stepped`]: numbers lent to a call; what the library says event
 //!   by event on a lent state or by an index, and what is enabled
 //! * [`starts`]: what the test for START is asked for, and what it meets
+//! * [`stops`]: what the threads that leave meet
 //! * [`compare`]: the comparisons
 //! * [`check`], [`runner`]: one case, many cases
 //! * [`tally`], [`reach`], [`refused`]: what they came to, by number, and by kind
@@ -32,6 +33,7 @@ pub mod runner;
 pub mod scripts;
 pub mod starts;
 pub mod stepped;
+pub mod stops;
 pub mod tables;
 pub mod tally;
 pub mod wanted;

@@ -9,7 +9,7 @@ use crate::records::{model_body, operand, place, split, Record};
 
 /// A model of some style: plain ones often, rare shapes now and then.
 pub fn model(random: &mut Random) -> Vec<u8> {
-    match random.weighted(&[380, 170, 100, 15, 50, 20, 25, 1, 9, 220, 10, 18, 1]) {
+    match random.weighted(&[330, 140, 100, 15, 50, 20, 25, 1, 9, 220, 10, 18, 1, 80]) {
         0 => drawn(random, few_threads),
         1 => drawn(random, flowing),
         2 => drawn(random, coinciding_threads),
@@ -22,7 +22,8 @@ pub fn model(random: &mut Random) -> Vec<u8> {
         9 => damaged(random),
         10 => any_bytes(random),
         11 => large(random),
-        _ => drawn(random, far_threads),
+        12 => drawn(random, far_threads),
+        _ => drawn(random, parting),
     }
 }
 
@@ -167,6 +168,20 @@ fn far_threads(random: &mut Random) -> Style {
         mode_transitions: 2,
         mask: 90,
         ..extreme_figures(random)
+    }
+}
+
+/// Threads, critical and not, that the other mode often has not, with periods at
+/// whose ends modes change while jobs are in hand.
+fn parting(random: &mut Random) -> Style {
+    Style {
+        modes: 2,
+        threads: random.within(2, 4),
+        figures: Figures::Coinciding(random.within(1, 4)),
+        critical: 35,
+        mask: 50,
+        mode_transitions: 4,
+        ..flowing(random)
     }
 }
 
@@ -504,8 +519,8 @@ fn ordered(random: &mut Random) -> [usize; 2] {
 }
 
 /// The most of every kind. The longest table comes from one thread that has all
-/// behaviour and sends over all connections, where all is live at the start and
-/// nothing starts at 0.
+/// behaviour and sends over all connections, where all is live at the start,
+/// nothing starts at 0 and no thread is critical.
 fn full(random: &mut Random) -> Vec<Record> {
     let longest = random.chance(50);
     let style = Style {
@@ -514,6 +529,7 @@ fn full(random: &mut Random) -> Vec<Record> {
         connected: 100,
         immediate: if longest { 100 } else { 50 },
         mask: if longest { 100 } else { 75 },
+        critical: if longest { 0 } else { 30 },
         shape: Shape::Ring,
         ..many_threads(random)
     };

@@ -11,6 +11,7 @@ use plain::script::{
 };
 
 use crate::starts::Starts;
+use crate::stops::Stops;
 
 /// Clocks above this one are late.
 pub const LATE: u64 = 70_000;
@@ -38,6 +39,8 @@ pub struct Reach {
     pub places: Places,
     /// What the test for START was asked for in the states before and after.
     pub starts: Starts,
+    /// What became of threads that left with a job.
+    pub stops: Stops,
     /// Events taken at late clocks, by kind.
     pub late: [u64; 12],
 }
@@ -70,6 +73,7 @@ impl Default for Reach {
             assigned: [0; 64],
             places: Places::default(),
             starts: Starts::default(),
+            stops: Stops::default(),
             late: [0; 12],
         }
     }
@@ -85,6 +89,7 @@ impl Reach {
 
     /// An event, the state before it, and what came of it.
     pub fn note(&mut self, model: &Model, before: &State, event: &Event, came: &Result<State, u8>) {
+        self.stops.note(model, before, event, came);
         match came {
             Err(number) => self.note_refusal(before, event, *number),
             Ok(after) => self.note_taken(model, before, event, after),
@@ -192,6 +197,7 @@ impl Reach {
         add_each(&mut self.assigned, &other.assigned);
         add_each(&mut self.late, &other.late);
         self.starts.add(&other.starts);
+        self.stops.add(&other.stops);
         let (places, others) = (&mut self.places, &other.places);
         places.default_sends += others.default_sends;
         places.four_atoms += others.four_atoms;
@@ -257,6 +263,13 @@ impl Display for Reach {
             "assignments of other values, by transition",
             &self.assigned,
         )?;
+        writeln!(formatter, "{}", self.places)?;
+        write!(formatter, "{}", self.stops)
+    }
+}
+
+impl Display for Places {
+    fn fmt(&self, formatter: &mut Formatter) -> fmt::Result {
         let Places {
             default_sends,
             four_atoms,
@@ -264,8 +277,8 @@ impl Display for Reach {
             wrapped_differences,
             past_the_last_clock,
             held_at_the_last_clock,
-        } = self.places;
-        writeln!(
+        } = *self;
+        write!(
             formatter,
             "COMPLETE without transition that changed a buffer: {default_sends}; guards of four \
              atoms that held: {four_atoms}; sums that wrapped: {wrapped_sums}; differences: \

@@ -4,7 +4,8 @@
 use std::ops::RangeInclusive;
 
 use plain::model::{
-    self, Model, State, EXECUTION, NONE, WAITING_DISPATCH, WAITING_EXECUTION, WAITING_MODE,
+    self, Model, State, COMPLETED, EXECUTION, NONE, WAITING_DISPATCH, WAITING_EXECUTION,
+    WAITING_MODE,
 };
 use plain::script::{
     read_event, ACTIVATE, COMPLETE, DEACTIVATE, DEADLINE, DISPATCH, ENTER, LAST_NOW, LEAVE, MISS,
@@ -94,6 +95,11 @@ pub fn start(id: u8, length: u32) -> Vec<u8> {
     [&[START, id], &length.to_le_bytes()[..]].concat()
 }
 
+/// Whether threads are to be deactivated, and nothing else is to be done.
+fn only_deactivate(urgent: &[(u8, u8)]) -> bool {
+    urgent.iter().all(|&(kind, _)| kind == DEACTIVATE)
+}
+
 /// A script under way, and the state of a run that goes on after refusals.
 struct Writer<'a> {
     model: &'a Model,
@@ -130,12 +136,16 @@ impl Writer<'_> {
                 return self.event_of(random, kind, id);
             }
         }
-        if random.chance(8) && !self.model.mode_transitions.is_empty() {
+        let urgent = self.urgent();
+        if random.chance(self.request_chance(&urgent)) {
             return vec![REQUEST, self.request(random)];
         }
-        let urgent = self.urgent();
         if urgent.is_empty() {
             return self.tick_onward(random);
+        }
+        if self.noise > 0 && only_deactivate(&urgent) && random.chance(40) {
+            // Time waits for threads that leave.
+            return tick(1);
         }
         if self.state.now.0 == u64::from(LAST_NOW) && random.chance(30) {
             // What is due goes before the clock's end.
@@ -162,11 +172,23 @@ impl Writer<'_> {
             .collect()
     }
 
-    /// A DISPATCH or START that nothing holds back but another thread.
+    /// In percent. More often where a job ends, so that the mode changes beside it.
+    fn request_chance(&self, urgent: &[(u8, u8)]) -> usize {
+        let ends = |&(kind, _): &(u8, u8)| matches!(kind, COMPLETE | DEADLINE | MISS);
+        match self.model.mode_transitions.is_empty() {
+            true => 0,
+            false if urgent.iter().any(ends) => 15,
+            false => 8,
+        }
+    }
+
+    /// A DISPATCH or START that nothing holds back but another thread, or the stop
+    /// of a thread that leaves, which nothing holds back but that it is critical.
     fn held_back(&self, random: &mut Random) -> Option<(u8, u8)> {
         let id = random.below(self.model.threads.len().max(1));
         let own = self.state.threads.get(id)?;
         let kind = match own.code {
+            WAITING_EXECUTION | EXECUTION | COMPLETED if !own.active => DEACTIVATE,
             WAITING_DISPATCH if own.active && self.now_is_multiple(id) => DISPATCH,
             WAITING_EXECUTION if self.state.cpu == NONE && !self.due_now(id) => START,
             _ => return None,
@@ -285,9 +307,9 @@ impl Writer<'_> {
         let kind = match code {
             Some(0) => random.one_of(&[ACTIVATE, DISPATCH]),
             Some(1) => random.one_of(&[DEACTIVATE, DISPATCH, DISPATCH]),
-            Some(2) => random.one_of(&[START, START, MISS]),
-            Some(3) => random.one_of(&[COMPLETE, MISS]),
-            Some(_) => random.one_of(&[DEADLINE, MISS]),
+            Some(2) => random.one_of(&[START, START, MISS, DEACTIVATE]),
+            Some(3) => random.one_of(&[COMPLETE, MISS, DEACTIVATE]),
+            Some(_) => random.one_of(&[DEADLINE, MISS, DEACTIVATE]),
             None => random.one_of(&[ENTER, LEAVE]),
         };
         if random.chance(15) {

@@ -14,19 +14,21 @@ use harness::{compare, found, stepped, wanted};
 
 /// A model with all kinds of records, small enough to change it everywhere.
 fn model() -> Vec<u8> {
-    let thread = |period: u32, mask: u8| {
+    let thread = |period: u32, mask: u8, critical: u8| {
         let mut record = vec![0x02];
         for figure in [period, 4, 1, 2] {
             record.extend(figure.to_le_bytes());
         }
-        record.extend([mask, 1, 0]);
+        record.extend([mask, critical, 0]);
         record
     };
-    let records: [&[u8]; 18] = [
+    let records: [&[u8]; 19] = [
         &[0x01, 2, 0],
-        &thread(4, 3),
+        &thread(4, 3, 1),
         // With 1,000,000 the least common multiple is just too great.
-        &thread(1_001, 1),
+        &thread(1_001, 1, 1),
+        // It leaves, and is stopped.
+        &thread(8, 1, 0),
         &[0x03, 1],
         &[0x0B, 0, 0xFE, 0xFF, 0xFF, 0xFF],
         &[0x03, 1],
@@ -64,10 +66,10 @@ fn table() -> Vec<u8> {
     records.concat()
 }
 
-/// Events of all kinds.
+/// Events of all kinds, a stop of the third thread among them.
 const SCRIPT: &[u8] = &[
-    0x01, 0, 0x0B, 1, 0, 0x03, 0, 0x04, 0, 1, 0, 0, 0, 0x08, 0, 0x0B, 1, 0, 0x05, 0, 0x02, 0, 0x09,
-    0, 0x0B, 3, 0, 0x06, 0, 0x07, 0, 0x0A, 0,
+    0x01, 0, 0x0B, 1, 0, 0x03, 0, 0x04, 0, 1, 0, 0, 0, 0x01, 2, 0x03, 2, 0x08, 0, 0x0B, 1, 0, 0x05,
+    0, 0x02, 0, 0x09, 0, 0x02, 2, 0x0B, 3, 0, 0x06, 0, 0x07, 0, 0x0A, 0,
 ];
 
 fn every_byte(bytes: &[u8]) -> impl Iterator<Item = Vec<u8>> + '_ {
@@ -223,10 +225,10 @@ fn agree_on_model(counts: &mut Counts, bytes: &[u8]) {
     }
 }
 
-/// START's test over bytes, told into all places and two; of the first two threads
-/// and of none.
+/// START's test over bytes, told into all places and two; of the three threads and
+/// of none.
 fn start_tests(model: &[u8], script: &[u8]) -> Check {
-    (0..3).try_for_each(|thread| {
+    (0..4).try_for_each(|thread| {
         let question = Question { thread, length: 1 };
         let places = [START_PLACES, START_PLACES - 1];
         let found = found::start_tests(model, script, question, &places);
@@ -354,6 +356,8 @@ fn tables_with_two_fields_changed() {
 
 #[test]
 fn scripts_with_one_thing_changed() {
+    let (_, reach) = wanted::of_model(&model(), SCRIPT, false);
+    assert_eq!(reach.stops.by_thread[2], 1, "the script has a stop");
     every_byte(SCRIPT)
         .chain(every_cut(SCRIPT))
         .for_each(|changed| agree_on_script(&changed));

@@ -4,6 +4,7 @@
 use harness::reach::Reach;
 use harness::refused::Refused;
 use harness::runner::{self, Plan};
+use harness::stops::Stops;
 use harness::tally::Tally;
 use plain::script::{
     ACTIVATE, COMPLETE, DEACTIVATE, DEADLINE, DISPATCH, ENTER, LEAVE, MISS, REQUEST, START,
@@ -26,6 +27,7 @@ fn library_and_plain_model_agree() {
     every_number_has_its_part(&outcome.tally.reach);
     thin_places_are_met(&outcome.tally);
     every_step_is_told(&outcome.tally);
+    threads_leave_in_every_way(&outcome.tally.reach.stops);
     every_comparison_is_made(&outcome.tally);
 }
 
@@ -74,7 +76,7 @@ fn inputs_are_of_all_sorts(tally: &Tally) {
     );
     assert_eq!(tally.most_threads, 16);
     assert_eq!(tally.longest_model, 7_123);
-    assert_eq!(tally.longest_made_table, 171_637);
+    assert_eq!(tally.longest_made_table, 174_485);
 }
 
 /// Each number in the kinds of records that have such a field.
@@ -262,6 +264,28 @@ fn every_step_is_told(tally: &Tally) {
             count >= floor,
             "START's test, {what}: {count} below {floor}"
         );
+    }
+}
+
+/// Threads with a job, by its code: stopped, not stopped because they are critical
+/// or active, waited for by time and not; and what else could have happened.
+fn threads_leave_in_every_way(stops: &Stops) {
+    let floors = [
+        [500, 400, 400],
+        [35, 35, 50],
+        [800, 700, 600],
+        [45, 80, 45],
+        [110, 180, 350],
+    ];
+    for ((what, counts), floors) in stops.by_code().into_iter().zip(floors) {
+        let floors: Vec<(usize, u64)> = (2..).zip(floors).collect();
+        at_least(what, counts, &floors);
+        assert_eq!(counts[..2], [0, 0], "{what}");
+    }
+    all_at_least("stops by thread", &stops.by_thread, 22);
+    let floors = [30, 60, 15, 600, 85, 290];
+    for ((what, count), floor) in stops.places.met().into_iter().zip(floors) {
+        assert!(count >= floor, "stops {what}: {count} below {floor}");
     }
 }
 

@@ -1,5 +1,5 @@
 //! A plain implementation of document 01, "Pad timing models and their rule
-//! tables", with the changes W1 to W4 of document 02.
+//! tables", with the changes W1 to W5 of document 02.
 //!
 //! It reads a timing model from bytes, runs event lists on it, translates it
 //! into a rule table, reads rule tables from bytes and runs event lists on
@@ -13,7 +13,7 @@
 //!   and the part handed back
 //! * [`script`]: reading events, and runs that stop at or go on after refusals
 //! * [`model`]: reading a model, with written starts of input ports (W2), and the
-//!   model's machine
+//!   model's machine, which stops threads that leave (W5)
 //! * [`table`]: reading and writing a table, and the table's machine
 //! * [`translate`]: the table made from a model
 //! * [`size`]: the size of that table, told without making it (W1)

@@ -50,12 +50,15 @@ pub fn size_of(model: &Model) -> TableSize {
         .iter()
         .map(|connection| connection_size(model, connection))
         .sum();
+    let threads = model.threads.iter();
+    let stoppable = threads.filter(|thread| !thread.critical).count();
     let transitions = &model.behavior_transitions;
     let behavior: TableSize = (0..transitions.len())
         .map(|number| transition_size(&transitions[number], &transitions[..number]))
         .sum();
     START * start_count(model)
         + thread_size() * model.threads.len()
+        + stop_size() * stoppable
         + port_size() * model.input_ports.len()
         + connections
         + mode_transition_size(model) * model.mode_transitions.len()
@@ -195,6 +198,15 @@ fn thread_size() -> TableSize {
         + start
         + default_complete
         + (deadline + miss_waiting + miss_running) * 2
+}
+
+/// The rules of DEACTIVATE that a thread which is not critical has besides: one for
+/// each code at which it is stopped.
+fn stop_size() -> TableSize {
+    let waiting = rule(2, 1);
+    let running = rule(2, 3);
+    let completed = rule(2, 1);
+    waiting + running + completed
 }
 
 /// Every input port takes its buffer at DISPATCH, be it connected or not.

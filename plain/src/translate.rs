@@ -77,7 +77,7 @@ fn rules(model: &Model) -> Vec<Rule> {
 fn rules_of_thread(model: &Model, kind: u8, thread: usize) -> Vec<Rule> {
     match kind {
         ACTIVATE => vec![activate_rule(thread)],
-        DEACTIVATE => vec![deactivate_rule(thread)],
+        DEACTIVATE => deactivate_rules(model, thread),
         DISPATCH => vec![dispatch_rule(model, thread)],
         START => vec![start_rule(model, thread)],
         COMPLETE => complete_rules(model, thread),
@@ -193,12 +193,30 @@ fn activate_rule(thread: usize) -> Rule {
     rule(ACTIVATE, thread, clauses, updates)
 }
 
-fn deactivate_rule(thread: usize) -> Rule {
+/// One rule for a thread without a job; where it is not critical, one for each code
+/// at which it is stopped.
+fn deactivate_rules(model: &Model, thread: usize) -> Vec<Rule> {
+    let mut codes = vec![WAITING_DISPATCH];
+    if !model.threads[thread].critical {
+        codes.extend([WAITING_EXECUTION, EXECUTION, COMPLETED]);
+    }
+    codes
+        .into_iter()
+        .map(|code| deactivate_rule(thread, code))
+        .collect()
+}
+
+/// Only a thread that runs has a processor and an End to give up.
+fn deactivate_rule(thread: usize, code: u8) -> Rule {
     let clauses = vec![
         equal(variable::active(thread), 0),
-        equal(variable::state(thread), WAITING_DISPATCH),
+        equal(variable::state(thread), code),
     ];
-    let updates = vec![copy(variable::state(thread), constant(WAITING_MODE))];
+    let mut updates = vec![copy(variable::state(thread), constant(WAITING_MODE))];
+    if code == EXECUTION {
+        updates.push(copy(CPU, constant(NONE)));
+        updates.push(copy(variable::end(thread), constant(0)));
+    }
     rule(DEACTIVATE, thread, clauses, updates)
 }
 

@@ -7,11 +7,11 @@ mod models;
 
 use common::simulation;
 use models::{damage, random_model, Random};
-use plain::model::{self, Model, State};
+use plain::model::{self, Model, State, ThreadState};
 use plain::refusal::Refusal;
 use plain::script::{
-    read_event, run_on, Event, ACTIVATE, COMPLETE, DEACTIVATE, DEADLINE, DISPATCH, ENTER, LEAVE,
-    MISS, REQUEST, START, TICK,
+    answer_one, read_event, run_on, Event, ACTIVATE, COMPLETE, DEACTIVATE, DEADLINE, DISPATCH,
+    ENTER, LEAVE, MISS, REQUEST, START, TICK,
 };
 use plain::table::{self, LONGEST_TABLE};
 use plain::translate::translate;
@@ -84,16 +84,22 @@ fn any_event(random: &mut Random) -> Vec<u8> {
     bytes
 }
 
-/// An event that fits a thread's code, whatever else may hold it back.
+/// An event that fits a thread's code, whatever else may hold it back; often the
+/// stop of a thread that leaves with a job, critical or not.
 fn tempting_event(random: &mut Random, model: &Model, state: &State) -> Vec<u8> {
+    let leaves = |own: &ThreadState| !own.active && own.code > 1;
+    let leaving = state.threads.iter().position(leaves);
+    if let Some(thread) = leaving.filter(|_| random.chance(60)) {
+        return vec![DEACTIVATE, thread as u8];
+    }
     let thread = random.below(model.threads.len().max(1));
     let code = state.threads.get(thread).map_or(0, |own| own.code);
     let kind = match code {
         0 => ACTIVATE,
         1 => random.one_of(&[DEACTIVATE, DISPATCH, DISPATCH]),
-        2 => random.one_of(&[START, START, MISS]),
-        3 => random.one_of(&[COMPLETE, MISS]),
-        _ => DEADLINE,
+        2 => random.one_of(&[START, START, MISS, DEACTIVATE]),
+        3 => random.one_of(&[COMPLETE, MISS, DEACTIVATE]),
+        _ => random.one_of(&[DEADLINE, DEACTIVATE]),
     };
     event_bytes(random, model, kind, thread as u8)
 }
@@ -157,11 +163,78 @@ fn model_and_table_agree() {
     }
 }
 
+/// What came of DEACTIVATE along some scripts, by the code of its thread.
+#[derive(Default)]
+struct Stops {
+    taken: [usize; 5],
+    /// Of threads that are not active, but critical.
+    refused: [usize; 5],
+}
+
+impl Stops {
+    /// Runs a script. DEACTIVATE is answered by activity, code and mark alone, and no
+    /// thread that could be stopped is there once the instant of ENTER is over.
+    fn note(&mut self, model: &Model, script: &[u8]) {
+        let mut state = model::start_state(model);
+        let mut position = 0;
+        while position < script.len() {
+            let before = state.clone();
+            let step = |state: &_, event: &_| model::step(model, state, event);
+            let answer = answer_one(script, position, &mut state, step);
+            match answer.event {
+                Some(Event {
+                    kind: DEACTIVATE,
+                    id,
+                    ..
+                }) if usize::from(id) < model.threads.len() => {
+                    self.note_answer(model, &before, id, answer.number)
+                }
+                _ => {}
+            }
+            let entering = state.phase == 2 && state.now == state.entered_at;
+            assert!(entering || !someone_lingers(model, &state), "{state:?}");
+            position = answer.end;
+        }
+    }
+
+    fn note_answer(&mut self, model: &Model, before: &State, id: u8, number: u8) {
+        let own = &before.threads[usize::from(id)];
+        let critical = model.threads[usize::from(id)].critical;
+        let code = usize::from(own.code);
+        let wanted = !own.active && (code == 1 || (code > 1 && !critical));
+        assert_eq!(number == 0, wanted, "{own:?}");
+        self.taken[code] += usize::from(wanted);
+        self.refused[code] += usize::from(!own.active && critical && !wanted);
+    }
+}
+
+/// Whether a thread that is neither active nor critical has a job.
+fn someone_lingers(model: &Model, state: &State) -> bool {
+    let mut threads = state.threads.iter().zip(&model.threads);
+    threads.any(|(own, thread)| !own.active && !thread.critical && own.code > 1)
+}
+
+#[test]
+fn who_leaves_is_stopped_at_once() {
+    let mut random = Random(0x5851_F42D_4C95_7F2D);
+    let mut stops = Stops::default();
+    for _ in 0..3000 {
+        let model_bytes = random_model(&mut random);
+        let model = model::read(&model_bytes).expect("an accepted model");
+        let script = random_script(&mut random, &model);
+        stops.note(&model, &script);
+    }
+    for code in 2..=4 {
+        assert!(stops.taken[code] > 15, "taken: {:?}", stops.taken);
+        assert!(stops.refused[code] > 15, "refused: {:?}", stops.refused);
+    }
+}
+
 #[test]
 fn damaged_models_are_refused_or_agree() {
     let mut random = Random(0xD1B5_4A32_D192_ED03);
     let (mut accepted, mut refused) = (0, [0; 16]);
-    for case in 0..4000 {
+    for case in 0..6000 {
         let mut model_bytes = random_model(&mut random);
         damage(&mut random, &mut model_bytes);
         match model::read(&model_bytes) {

@@ -15,7 +15,7 @@ use plain::table::{self, Rule, LONGEST_TABLE};
 use plain::translate::translate;
 
 /// The longest table that a model can have.
-const LONGEST_MADE: usize = 171_637;
+const LONGEST_MADE: usize = 174_485;
 
 /// The bytes of a table, and its records as they are read back.
 fn counted(bytes: &[u8]) -> TableSize {
@@ -97,21 +97,22 @@ fn counts(model: &[u8]) -> Counts {
     size.told()
 }
 
-/// Records of a model, and what each adds to the table, counted by hand in document
-/// 01.
+/// Records of a model, and what each adds to the table, counted by hand in the
+/// documents.
 const ITEMS: [(&[u8], Counts); 19] = [
     // Mode, Pending and Cpu start otherwise than at 0.
     (&[0x01, 2, 1], [21, 0, 0, 0, 0]),
-    // Not in mode 1; then Active and a behaviour state besides.
+    // Not in mode 1, and stopped when it leaves; then critical, with Active and a
+    // behaviour state besides.
     (
         &[
             0x02, 5, 0, 0, 0, 4, 0, 0, 0, 1, 0, 0, 0, 5, 0, 0, 0, 1, 0, 0,
         ],
-        [866, 11, 32, 32, 25],
+        [1_044, 14, 38, 38, 30],
     ),
     (
         &[
-            0x02, 5, 0, 0, 0, 4, 0, 0, 0, 1, 0, 0, 0, 5, 0, 0, 0, 3, 0, 7,
+            0x02, 5, 0, 0, 0, 4, 0, 0, 0, 1, 0, 0, 0, 5, 0, 0, 0, 3, 1, 7,
         ],
         [880, 11, 32, 32, 25],
     ),
@@ -160,7 +161,7 @@ const FIRST_ATOM: usize = 983;
 #[test]
 fn the_longest_table() {
     let model = longest_model();
-    assert_eq!(counts(&model), [LONGEST_MADE, 304, 3_264, 9_808, 4_448]);
+    assert_eq!(counts(&model), [LONGEST_MADE, 352, 3_360, 9_904, 4_528]);
     assert_eq!(told_rightly(&model), 0);
 }
 

@@ -305,7 +305,7 @@ fn check_table_case(case: &Case, differences: &mut Vec<String>) {
 #[test]
 fn models() {
     let cases = cases("models");
-    assert_eq!(cases.len(), 189);
+    assert_eq!(cases.len(), 204);
     let of_start = cases.iter().filter(|case| case.has("start.txt"));
     assert_eq!(of_start.count(), 12);
     let mut differences = Vec::new();

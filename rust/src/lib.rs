@@ -130,7 +130,7 @@ pub type Variables = [i32; VARIABLES];
 
 /// Room that suffices for the table of every accepted model; some tables take all
 /// of it.
-pub const ROOM_FOR_TABLE: usize = 171_637;
+pub const ROOM_FOR_TABLE: usize = 174_485;
 
 /// A place for a step before the call: 0 would say that START is taken.
 const NOT_TOLD: usize = usize::MAX;

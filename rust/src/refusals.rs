@@ -92,7 +92,7 @@ pub const MEANINGS: &[Meaning] = &[
         8,
         Holder::Model,
         "the output is shorter than the table",
-        "give more room: 'futonkestrel size MODEL' tells how much, at most 171,637 bytes",
+        "give more room: 'futonkestrel size MODEL' tells how much, at most 174,485 bytes",
     ),
     meaning(
         9,

@@ -35,16 +35,16 @@ fn m_can_miss_twice() {
 #[test]
 fn the_lesson_step_by_step() {
     let wanted = "\
-5249 bytes of table
+5605 bytes of table
 depth 1: 5 new states
 depth 2: 15 new states
 depth 3: 36 new states
 depth 4: 69 new states
-depth 5: 111 new states
-depth 6: 141 new states
-depth 7: 144 new states
-depth 8: 111 new states
-633 states, 2912 events taken, largest clock 0, largest Missed 0
+depth 5: 112 new states
+depth 6: 144 new states
+depth 7: 150 new states
+depth 8: 122 new states
+654 states, 3004 events taken, largest clock 0, largest Missed 0
 model and table agreed in all of them
 ";
     assert_eq!(report(&[&model_file("lesson"), "8"]), wanted);
@@ -54,7 +54,7 @@ model and table agreed in all of them
 #[test]
 fn the_lesson_can_miss() {
     let report = report(&[]);
-    let last = "2111 states, 7711 events taken, largest clock 10, largest Missed 1\n\
+    let last = "1933 states, 7410 events taken, largest clock 10, largest Missed 1\n\
                 model and table agreed in all of them\n";
     assert!(report.ends_with(last), "{report}");
 }

@@ -4,8 +4,8 @@
 mod common;
 
 use common::{
-    table_of_m, ACTIVE, BYTE, DUE, END, FIGURE, LISTING, M, NOW, PLACE, SCRIPT, SIZE_OF_M, STATE,
-    WORD,
+    table_of_m, ACTIVE, BYTE, CPU, DUE, END, FIGURE, LEAVING, LEFT_WITH_JOBS, LISTING, M, NOW,
+    PLACE, SCRIPT, SIZE_OF_M, STATE, WORD,
 };
 use futonkestrel::{events, raw, MODEL_WORDS, STATE_WORDS, VARIABLES};
 
@@ -618,6 +618,47 @@ fn model_step_takes_or_refuses_an_event() {
     refuses_short_state(|state| raw::model_step(&words, state, &[]));
 }
 
+/// The model of threads that leave, and the state when one has to be stopped.
+fn left_with_jobs() -> (Vec<u32>, Vec<u32>) {
+    let mut words = vec![0; MODEL_WORDS];
+    assert_eq!(raw::model_read(LEAVING, &mut words, &mut []), 0);
+    let state = state_after(&words, LEFT_WITH_JOBS);
+    (words, state)
+}
+
+/// A critical thread is refused and nothing touched; the other one is stopped: code 0, the
+/// processor free, no End, and all else as it was.
+#[test]
+fn model_step_stops_a_thread_that_leaves() {
+    let (words, left) = left_with_jobs();
+    let shown = |state: &[u32]| {
+        let shown = on_variables(|variables| raw::model_variables(&words, state, variables));
+        assert_eq!(shown.0, 0);
+        shown.1
+    };
+    let step = |event: &[u8]| on_state(&left, |state| raw::model_step(&words, state, event));
+    assert_eq!(step(&[0x02, 0]), (10, left.clone()));
+    let mut wanted = shown(&left);
+    assert_eq!([wanted[CPU], wanted[STATE], wanted[STATE + 1]], [1, 2, 3]);
+    assert_eq!([wanted[DUE + 1], wanted[END + 1]], [4, 4]);
+    wanted[CPU] = 255;
+    for variable in [STATE, DUE, END] {
+        wanted[variable + 1] = 0;
+    }
+    let (answer, stopped) = step(&[0x02, 1]);
+    assert_eq!((answer, shown(&stopped)), (0, wanted));
+    refuses_short_state(|state| raw::model_step(&words, state, &[0x02, 1]));
+}
+
+/// It is listed, and a tick waits for it.
+#[test]
+fn a_stop_is_enabled() {
+    let (words, left) = left_with_jobs();
+    offers(&[[2, 1, 0, 0], [8, 0, 0, 0]], false, |output, told| {
+        raw::model_enabled(&words, &left, output, told)
+    });
+}
+
 #[test]
 fn model_step_on_numbers_of_any_content() {
     for words in [
@@ -640,7 +681,7 @@ fn model_step_on_numbers_of_any_content() {
     }
 }
 
-/// The state of M after a script.
+/// The state of a model after a script.
 fn state_after(words: &[u32], script: &[u8]) -> Vec<u32> {
     let mut state = start_of(words);
     for event in events(script) {

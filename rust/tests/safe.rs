@@ -7,8 +7,8 @@ mod longest;
 use std::collections::BTreeSet;
 
 use common::{
-    counted, table_of_m, BUFFER, BYTE, DUE, INPUT, LESSON, LISTING, M, NOW, SCRIPT, SIZE_OF_M,
-    STATE,
+    counted, table_of_m, BUFFER, BYTE, CPU, DUE, END, INPUT, LEAVING, LEFT_WITH_JOBS, LESSON,
+    LISTING, M, NOW, SCRIPT, SIZE_OF_M, STATE,
 };
 use futonkestrel::refusals::{meaning_of, Holder, Meaning, MEANINGS};
 use futonkestrel::{
@@ -264,6 +264,36 @@ fn a_model_and_its_table_agree() {
     assert_eq!(offered[2].shortest(), [0x04, 0, 1, 0, 0, 0]);
     assert_eq!(offered[2].longest(), [0x04, 0, 5, 0, 0, 0]);
     assert_eq!(offered[3].shortest(), [0x05, 0]);
+}
+
+/// When the mode is left, a critical thread goes on with its job, and no tick passes before
+/// the other is stopped. It gives the processor back at once.
+#[test]
+fn threads_that_leave() {
+    let bytes = translate_to_vec(LEAVING).expect("accepted");
+    let (model, table) = (Model::read(LEAVING), Table::read(&bytes));
+    let (model, table) = (model.expect("accepted"), table.expect("accepted"));
+    let (mut state, mut variables) = (model.start(), table.start());
+    let mut step = |event: &[u8]| {
+        let answer = model.step(&mut state, event);
+        assert_eq!(answer, table.step(&mut variables, event), "{event:?}");
+        let codes = [variables[STATE], variables[STATE + 1]];
+        assert_eq!(model.variables(&state)[CPU], variables[CPU]);
+        (answer, codes, variables[CPU], variables[END + 1])
+    };
+    for event in events(LEFT_WITH_JOBS) {
+        assert_eq!(step(event).0, Ok(()));
+    }
+    let left = (Err(10), [2, 3], 1, 4);
+    assert_eq!(step(&[0x0B, 1, 0]), left);
+    assert_eq!(step(&[0x02, 0]), left);
+    assert_eq!(step(&[0x02, 1]), (Ok(()), [2, 0], 255, 0));
+    assert_eq!(step(&[0x02, 1]), (Err(10), [2, 0], 255, 0));
+    assert_eq!(step(&start(0, 1)), (Ok(()), [3, 0], 0, 0));
+    for event in [&[0x0B, 1, 0][..], &[0x05, 0], &[0x0A, 0], &[0x0B, 1, 0]] {
+        assert_eq!(step(event).0, Ok(()));
+    }
+    assert_eq!(step(&[0x06, 0]), (Ok(()), [0, 0], 255, 0));
 }
 
 /// ACTIVATE and DISPATCH of all four threads of the lesson.

@@ -94,6 +94,8 @@ pub struct Model {
     pub atoms: Vec<Atom>,
     pub assignments: Vec<Assignment>,
     pub changes: Vec<Change>,
+    /// The threads that are not critical, and so are stopped when they leave.
+    pub stopped: u16,
     /// At the start.
     pub mode: u8,
     pub active: u16,
@@ -108,6 +110,7 @@ impl Model {
     pub fn decode(read: &model::Model) -> Model {
         let mut model = Model {
             mode: read.initial_mode,
+            stopped: threads(read, |thread| !thread.critical),
             active: active(read, read.initial_mode),
             flags: flags(read, &[read.initial_mode]),
             behavior_states: read
@@ -229,11 +232,16 @@ fn holds(mask: u8, mode: u8) -> bool {
     mask >> mode & 1 == 1
 }
 
+/// The threads of which something is so.
+fn threads(read: &model::Model, so: impl Fn(&model::Thread) -> bool) -> u16 {
+    let bits = read.threads.iter().enumerate();
+    let chosen = bits.filter(|(_, thread)| so(thread));
+    chosen.fold(0, |bits, (number, _)| bits | 1 << number)
+}
+
 /// The threads that are active in a mode.
 fn active(read: &model::Model, mode: u8) -> u16 {
-    let bits = read.threads.iter().enumerate();
-    let active = bits.filter(|(_, thread)| holds(thread.mode_mask, mode));
-    active.fold(0, |bits, (number, _)| bits | 1 << number)
+    threads(read, |thread| holds(thread.mode_mask, mode))
 }
 
 /// The connections that live in all these modes.

@@ -112,7 +112,7 @@ impl State {
     fn thread_event(&mut self, model: &Model, event: &Event, id: usize, thread: &Thread) -> bool {
         match event.kind {
             ACTIVATE => self.activate(id, thread),
-            DEACTIVATE => self.deactivate(id),
+            DEACTIVATE => self.deactivate(model, id),
             DISPATCH => self.dispatch(model, id, thread),
             START => self.start_job(model, id, thread, event.figure),
             COMPLETE => self.complete(model, id, thread),
@@ -147,12 +147,23 @@ impl State {
         enabled
     }
 
-    fn deactivate(&mut self, id: usize) -> bool {
-        let enabled = self.codes[id] == WAITING_DISPATCH && !self.is_active(id);
+    /// A job in hand is stopped, and frees the processor if it runs.
+    fn deactivate(&mut self, model: &Model, id: usize) -> bool {
+        let enabled = self.leaving(model) >> id & 1 == 1;
         if enabled {
+            if self.codes[id] == EXECUTION {
+                self.cpu = NONE;
+            }
             self.set_code(id, WAITING_MODE);
         }
         enabled
+    }
+
+    /// The threads that are to be deactivated: with no job, or with one that is
+    /// stopped.
+    fn leaving(&self, model: &Model) -> u16 {
+        let [_, at_rest, waiting, running, completed] = self.with;
+        (at_rest | (waiting | running | completed) & model.stopped) & !self.active
     }
 
     fn dispatch(&mut self, model: &Model, id: usize, thread: &Thread) -> bool {
@@ -386,7 +397,7 @@ impl State {
         let now = self.now;
         let [in_no_mode, at_rest, waiting, running, completed] = self.with;
         in_no_mode & self.active != 0
-            || at_rest & !self.active != 0
+            || self.leaving(model) != 0
             || bits(at_rest).any(|id| self.next_period[id] == now)
             || bits(waiting | running | completed).any(|id| self.due[id] == now)
             || bits(running).any(|id| self.end[id] == now)

@@ -1,7 +1,11 @@
 //! The limit beside the plain model, on the harness's random cases: the same
 //! answers and the same variables after every event, refused ones among them.
 
+use std::cell::RefCell;
+
 use harness::case::Case;
+use harness::stops::Stops;
+use plain::model::{COMPLETED, EXECUTION, WAITING_EXECUTION};
 use plain::refusal::EVENT;
 use plain::script::run_on;
 use plain::show::show;
@@ -13,38 +17,58 @@ use super::{read, Machine, Model, Scratch, State, Table};
 const SEED: u64 = 7;
 const CASES: u64 = 4_000;
 
+/// Runs a model's script on both; what became of threads that left with a job.
+fn model_agrees(read_model: &model::Model, case: &Case) -> Stops {
+    let number = case.number;
+    let decoded = Model::decode(read_model);
+    let mut ours = State::start(&decoded);
+    let mut plain = model::start_state(read_model);
+    assert_eq!(ours.show(&decoded), show(read_model, &plain));
+    let stops = RefCell::new(Stops::default());
+    run_on(
+        &case.script,
+        &mut plain,
+        |state, event| {
+            let came = model::step(read_model, state, event);
+            stops.borrow_mut().note(read_model, state, event, &came);
+            came
+        },
+        |answer, state| {
+            let found = match read(&case.script, answer.start) {
+                Some((event, _)) => ours.step(&decoded, &event),
+                None => EVENT,
+            };
+            assert_eq!(found, answer.number, "case {number}, {answer:?}");
+            let shown = show(read_model, state);
+            assert_eq!(ours.show(&decoded), shown, "case {number}");
+        },
+    );
+    stops.into_inner()
+}
+
 #[test]
 fn models_agree() {
     let mut accepted = 0;
+    let mut stops = Stops::default();
     for number in 0..CASES {
         let case = Case::new(SEED, number);
-        let Ok(read_model) = model::read(&case.model) else {
-            continue;
-        };
-        accepted += 1;
-        let decoded = Model::decode(&read_model);
-        let mut ours = State::start(&decoded);
-        let mut plain = model::start_state(&read_model);
-        assert_eq!(ours.show(&decoded), show(&read_model, &plain));
-        run_on(
-            &case.script,
-            &mut plain,
-            |state, event| model::step(&read_model, state, event),
-            |answer, state| {
-                let found = match read(&case.script, answer.start) {
-                    Some((event, _)) => ours.step(&decoded, &event),
-                    None => EVENT,
-                };
-                assert_eq!(found, answer.number, "case {number}, {answer:?}");
-                assert_eq!(
-                    ours.show(&decoded),
-                    show(&read_model, state),
-                    "case {number}"
-                );
-            },
-        );
+        if let Ok(read_model) = model::read(&case.model) {
+            accepted += 1;
+            stops.add(&model_agrees(&read_model, &case));
+        }
     }
     assert!(accepted > CASES / 2, "{accepted}");
+    for code in [WAITING_EXECUTION, EXECUTION, COMPLETED].map(usize::from) {
+        let Stops {
+            taken,
+            critical,
+            awaited,
+            ..
+        } = &stops;
+        assert!(taken[code] >= 80, "stops: {taken:?}");
+        assert!(critical[code] >= 5, "refused stops: {critical:?}");
+        assert!(awaited[code] >= 5, "stops that ticks await: {awaited:?}");
+    }
 }
 
 /// A run keeps what it knows of quiet ticks, single steps do not.

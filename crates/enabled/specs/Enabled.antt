@@ -51,7 +51,7 @@ mayTake m s kind i =
     let here = ltb i (m .threads) in
     let there = ltb i (m .switches) in
     cond (eqb kind activateKind) (here && tests.canActivate s i)
-    (cond (eqb kind deactivateKind) (here && tests.canDeactivate s i)
+    (cond (eqb kind deactivateKind) (here && tests.canDeactivate m s i)
     (cond (eqb kind dispatchKind) (here && tests.canDispatch m s i)
     (cond (eqb kind startKind) (tests.canStart m s i (threadAt m i .bcet .0))
     (cond (eqb kind completeKind) (here && tests.canComplete s i)

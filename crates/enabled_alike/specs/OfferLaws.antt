@@ -13,14 +13,14 @@ use Rattle.model_format.specs.declared.Model.{Model}
 use Rattle.model_format.specs.Model.{threadAt}
 use Rattle.model_format.specs.WellFormed.{WellFormed}
 use Rattle.model_semantics.specs.declared.State.{State}
-use Rattle.model_semantics.specs.State.{isActive}
+use Rattle.model_semantics.specs.State.{isActive, codeOf}
 use Rattle.model_semantics.specs.Effects.{restCode}
 use Rattle.model_semantics.specs.Tests as tests
 use Rattle.table_semantics.specs.Rules.{enabledRules}
 use Rattle.table_semantics.specs.Machine as table-machine
 use Rattle.translation.specs.Shown.{bit}
 use Rattle.translation.specs.Parts.{Body, stamped}
-use Rattle.translation.specs.Rules.{activateRules, deactivateRules, dispatchRules, startRules, deadlineRule, enterRules, leaveRules, rulesOf}
+use Rattle.translation.specs.Rules.{activateRules, deactivateRule, dispatchRules, startRules, deadlineRule, enterRules, leaveRules, rulesOf}
 use Rattle.simulation.specs.Compared.{Dispatched}
 use Rattle.simulation.specs.Match.{Match}
 use Rattle.simulation.specs.GuardSimple.{requestRule}
@@ -96,10 +96,10 @@ module _ (m : Model) (w : WellFormed m) (d : Dispatched) (s : State) (v : List V
   Offered k = (i : ℕ) → only (mayTake (m .timing) s k i) (offerOf (m .timing) k i) ≡ offersBy (enabledRules v k i (rulesOf m))
 
   each-offered : EachKind Offered
-  unfolding mayTake offersBy stamped activateRules deactivateRules dispatchRules startRules enterRules leaveRules
+  unfolding mayTake offersBy stamped activateRules dispatchRules startRules enterRules leaveRules
   each-offered = record {
     activate = λ i. rw (activate-rules m d s v w h i) (of-item activateKind i (ltb i (m .timing .threads) && tests.canActivate s i) (offerOf (m .timing) activateKind i) (activateRules (m .timing) i) refl);
-    deactivate = λ i. rw (deactivate-rules m d s v w h i) (of-item deactivateKind i (ltb i (m .timing .threads) && tests.canDeactivate s i) (offerOf (m .timing) deactivateKind i) (deactivateRules (m .timing) i) refl);
+    deactivate = λ i. rw (deactivate-rules m d s v w h i) (of-item deactivateKind i (ltb i (m .timing .threads) && tests.canDeactivate (m .timing) s i) (offerOf (m .timing) deactivateKind i) (deactivateRule (m .timing) i (codeOf s i) ∷ []) refl);
     dispatch = λ i. rw (dispatch-rules m d s v w h i) (of-item dispatchKind i (ltb i (m .timing .threads) && tests.canDispatch (m .timing) s i) (offerOf (m .timing) dispatchKind i) (dispatchRules (m .timing) i) refl);
     start = λ i. rw (start-rules m d s v w h i, start-allowed i) (of-item startKind i (ltb i (m .timing .threads) && mayStart (m .timing) s i) (offerOf (m .timing) startKind i) (startRules (m .timing) i) refl);
     complete = λ i. rw (complete-rules m d s v w h i) (of-item completeKind i (ltb i (m .timing .threads) && tests.canComplete s i) (offerOf (m .timing) completeKind i) (completeRule m s i ∷ []) refl);

@@ -22,7 +22,8 @@ use Rattle.model_semantics.specs.declared.State.{State}
 use Rattle.model_semantics.specs.declared.Stepped.{Stepped}
 use Rattle.model_semantics.specs.State.{none, isActive, codeOf, spentOf, behaviorOf, inputValue, bufferValue, outputValue, localValue, nowOf, withSpent, withCpu}
 use Rattle.model_semantics.specs.Tests.{waitingMode, waitingDispatch, waitingExecution, execution, completed, runs, canActivate, canDeactivate, canDispatch, canStart, canComplete, canMeetDeadline, canMiss, canEnter, canLeave, isBusy}
-use Rattle.model_semantics.specs.Effects.{isPort, freeze, dispatch, start, operandValue, firstOpen, takenTransition, assignedValue, assign, carries, send, endJob, restCode, advance, finish, complete, meetDeadline, miss, request, activeIn, liveIn, enter, leave, tick}
+use Rattle.model_semantics.specs.Effects.{isPort, freeze, dispatch, start, operandValue, firstOpen, takenTransition, assignedValue, assign, carries, send, endJob, restCode, advance, finish, complete, meetDeadline, miss, deactivate, request, activeIn, liveIn, enter, leave, tick}
+use Rattle.model_semantics.specs.DeactivateLaws.{deactivated}
 use Rattle.model_semantics.specs.Machine.{startState, ticks, onActivate, onDeactivate, onDispatch, onStart, onComplete, onDeadline, onMiss, onRequest, onEnter, onLeave, step}
 use Rattle.kept_lists.specs.Arrays.{Array, stored, chosen, folded, filled, item-same}
 use Rattle.kept_lists.specs.Plain.{byte, again, whole, PlainPorts, Plain, plain-live, plain-ports, plain-now, plain-entered, plain-mode, plain-phase, plain-cpu, plain-active, plain-code, plain-dispatched, plain-job, plain-spent, plain-behavior, plain-missed}
@@ -143,6 +144,9 @@ module _ (s : State) (p : Plain s) where
   unfolding miss
   miss-plain m t = plain-missed _ (end-plain m t _ (rest-byte t)) t _
 
+  deactivate-plain : (m : Timing) (t : ℕ) → Plain (deactivate m s t)
+  deactivate-plain m t = deactivated Plain m s t (λ h. end-plain m t waitingMode refl) (λ h. plain-code s p t waitingMode refl)
+
   request-plain : (m : Timing) (q : ℕ) → byte q ≡ q → Plain (request m s q)
   unfolding request
   request-plain m q h = either (eqb (s .clock .phase) 0 && eqb (s .clock .mode) (switchAt m q .from)) _ s (plain-phase s p 1 q refl h) p
@@ -193,7 +197,7 @@ step-plain m f s p e h =
     let t = e .id in
     stepped (isBroken e) _ _ p
     (stepped (eqb (e .kind) 1) _ _ (stepped (ltb t (x .threads) && canActivate s t) _ _ (plain-code s p t waitingDispatch refl) p)
-    (stepped (eqb (e .kind) 2) _ _ (stepped (ltb t (x .threads) && canDeactivate s t) _ _ (plain-code s p t waitingMode refl) p)
+    (stepped (eqb (e .kind) 2) _ _ (stepped (ltb t (x .threads) && canDeactivate x s t) _ _ (deactivate-plain s p x t) p)
     (stepped (eqb (e .kind) 3) _ _ (stepped (ltb t (x .threads) && canDispatch x s t) _ _ (dispatch-plain s p x t) p)
     (stepped (eqb (e .kind) 4) _ _ (stepped (canStart x s t (e .amount)) _ _ (start-plain s p x t (e .amount) h) p)
     (stepped (eqb (e .kind) 5) _ _ (stepped (ltb t (x .threads) && canComplete s t) _ _ (complete-plain s p m f t) p)

@@ -9,8 +9,8 @@ use Rattle.model_format.specs.declared.Timing.{Timing}
 use Rattle.model_format.specs.Model.{delayed}
 use Rattle.model_semantics.specs.declared.State.{State}
 use Rattle.model_semantics.specs.State.{none, isActive, codeOf, missedOf, nowOf, withClock, withPorts, withCpu, withCode, withDispatchTime, withJob, withMissed}
-use Rattle.model_semantics.specs.Tests.{waitingExecution, execution}
-use Rattle.model_semantics.specs.Effects.{freeze, dispatch, start, send, endJob, restCode, meetDeadline, miss}
+use Rattle.model_semantics.specs.Tests.{waitingMode, waitingExecution, execution, hasJob}
+use Rattle.model_semantics.specs.Effects.{freeze, dispatch, start, send, endJob, restCode, meetDeadline, miss, deactivate}
 
 module _ (m : Timing) (s q r : State) (t : ℕ) where
   pub dispatch-is : (p : State) (now : Duration) → now ≡ s .clock .now → p ≡ withPorts s (freeze m s false t) → q ≡ withCode p t waitingExecution → r ≡ withDispatchTime q t (now .0) → r ≡ dispatch m s t
@@ -46,6 +46,16 @@ pub ended-is : (s p q r : State) (t was code : ℕ) → was ≡ codeOf s t → p
     (m : Timing) → r ≡ endJob m s t code
 unfolding freed endJob withCpu
 ended-is s p q r t was code e f g h m = h ∙ rw (g, f, e)
+
+-- DEACTIVATE: k is the code, b whether a job is in hand
+module _ (s r : State) (t k : ℕ) (b : Bool) (e : k ≡ codeOf s t) (f : b ≡ hasJob k) where
+  pub stopped-is : b ≡ true → ((m : Timing) → r ≡ endJob m s t waitingMode) → (m : Timing) → r ≡ deactivate m s t
+  unfolding deactivate
+  stopped-is h g m = g m ∙ rw (← e, ← f, h)
+
+  pub left-is : b ≡ false → r ≡ withCode s t waitingMode → (m : Timing) → r ≡ deactivate m s t
+  unfolding deactivate
+  left-is h g m = g ∙ rw (← e, ← f, h)
 
 module _ (s : State) (t : ℕ) (a : Bool) (e : a ≡ isActive s t) where
   pub rest-active : a ≡ true → 1 ≡ restCode s t

@@ -17,6 +17,7 @@ use model_state::put_cpu;
 use model_state::put_dispatch_time;
 use model_state::put_job;
 use model_state::put_missed;
+use model_tests::has_job;
 use numbers::Duration;
 use numbers::one_more;
 use numbers::usize_of_u8;
@@ -78,6 +79,18 @@ fn rest_code(state: &[u32], t: usize) -> u8
         WAITING_DISPATCH
     } else {
         WAITING_MODE
+    }
+}
+
+// A thread that leaves its mode takes no job along: one in hand ends, and nothing of it is sent.
+pub fn deactivate(state: &mut [u32], t: usize)
+    requires { ⌜ clockWords ≤ length (now state) ⌝ }
+    ensures { λ r. ⌜ ((timing : Timing) → stateIn (now (state .exit)) ≡ effects.deactivate timing (stateIn (now (state .entry))) t) ⌝ }
+{
+    if has_job(code_of(state, t)) {
+        end_job(state, t, WAITING_MODE);
+    } else {
+        put_code(state, t, WAITING_MODE);
     }
 }
 

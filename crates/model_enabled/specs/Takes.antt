@@ -1,6 +1,6 @@
 -- The tests of the events in the forms in which the code has them, and the ids past which nothing is enabled.
 use mathlib.Core.Path.{_≡_, refl, _∙_}
-use mathlib.Core.Bool.{Bool, true, false, cond, _&&_, not, and-false}
+use mathlib.Core.Bool.{Bool, true, false, cond, _&&_, and-false}
 use Prim.Native.Nat.{ℕ, zero, suc, _<_, _≤_, min}
 use native.Mathlib.Omega.{arith}
 use native.Mathlib.Decide.{decLt}
@@ -13,7 +13,7 @@ use Rattle.model_format.specs.declared.Timing.{Timing}
 use Rattle.model_format.specs.Model.{maxThreads, threadAt}
 use Rattle.model_semantics.specs.declared.State.{State}
 use Rattle.model_semantics.specs.State.{isActive, codeOf}
-use Rattle.model_semantics.specs.Tests.{isDue, canActivate, canDeactivate, canDispatch, startFault, canStart, canComplete, canMeetDeadline, canMiss, canEnter, canLeave}
+use Rattle.model_semantics.specs.Tests.{isUnfinished, hasJob, isDue, canActivate, canDeactivate, canDispatch, startFault, canStart, canComplete, canMeetDeadline, canMiss, canEnter, canLeave}
 use Rattle.model_semantics.specs.StartLaws.{start-unready}
 use Rattle.enabled.specs.Enabled.{ids, lengthIn, mayTake}
 use Rattle.model_enabled.specs.Walks.{itemsOf}
@@ -24,7 +24,7 @@ module _ (m : Timing) (s : State) (kind i n : ℕ) (b : Bool) where
   unfolding mayTake
   take-activate k e f = rw (k, e, f)
 
-  pub take-deactivate : kind ≡ deactivateKind → n ≡ m .threads → b ≡ canDeactivate s i → (ltb i n && b) ≡ mayTake m s kind i
+  pub take-deactivate : kind ≡ deactivateKind → n ≡ m .threads → b ≡ canDeactivate m s i → (ltb i n && b) ≡ mayTake m s kind i
   unfolding mayTake
   take-deactivate k e f = rw (k, e, f)
 
@@ -116,10 +116,10 @@ module _ (m : Timing) (s : State) (i : ℕ) where
       go (no l) = rw (le-ltb i (m .threads) (omega arith))
 
   none-on-thread : min (m .threads) maxThreads ≤ i → (k : ℕ) → k < requestKind → (k ≡ 0 → ⊥) → mayTake m s k i ≡ false
-  unfolding mayTake canActivate canDeactivate canDispatch canComplete canMeetDeadline
+  unfolding mayTake canActivate hasJob isUnfinished canDeactivate canDispatch canComplete canMeetDeadline
   none-on-thread h zero l z = absurd (z refl)
   none-on-thread h (suc zero) l z = of-thread _ (λ p. rw (not-active m s i p)) h
-  none-on-thread h (suc (suc zero)) l z = of-thread _ (λ p. rw (no-code m s i p) (and-false (not (isActive s i)))) h
+  none-on-thread h (suc (suc zero)) l z = of-thread _ (λ p. rw (no-code m s i p) (simp and-false)) h
   none-on-thread h (suc (suc (suc zero))) l z = of-thread _ (λ p. rw (no-code m s i p)) h
   none-on-thread h (suc (suc (suc (suc zero)))) l z = go (decLt i (m .threads))
     where

@@ -68,7 +68,7 @@ fn may_take(model: &[u32], state: &[u32], kind: u8, i: usize) -> bool
 {
     match kind {
         ACTIVATE => (i < threads(model)) & can_activate(state, i),
-        DEACTIVATE => (i < threads(model)) & can_deactivate(state, i),
+        DEACTIVATE => (i < threads(model)) & can_deactivate(model, state, i),
         DISPATCH => (i < threads(model)) & can_dispatch(model, state, i),
         START => may_start(model, state, i),
         COMPLETE => (i < threads(model)) & can_complete(state, i),

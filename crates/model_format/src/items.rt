@@ -8,6 +8,9 @@ ghost use mathlib.Core.Path.{_≡_};
 ghost use Prim.Native.Nat.{_+_, _*_, min};
 ghost use Rattle.model_format.specs.Model as model;
 
+// The mark of a critical thread.
+const CRITICAL: u8 = 1;
+
 // The place of an atom or assignment j of transition k; past the room always the first place past it, so that no sum wraps.
 pub fn place(k: usize, j: usize) -> usize
     ensures { λ r. ⌜ r ≡ min (k * model.maxEach + j) model.maxTimes ⌝ }
@@ -33,11 +36,16 @@ pub fn in_mode(mask: u8, mode: u8) -> bool
     }
 }
 
+pub fn is_critical(x: Thread) -> bool
+    ensures { λ r. ⌜ r ≡ model.isCritical x ⌝ }
+{
+    x.critical == CRITICAL
+}
+
 pub fn critical_in(x: Thread, mode: u8) -> bool
     ensures { λ r. ⌜ r ≡ model.criticalIn x mode ⌝ }
 {
-    let c = x.critical;
     let mask = x.modes;
     let here = in_mode(mask, mode);
-    (c == 1) & here
+    is_critical(x) & here
 }

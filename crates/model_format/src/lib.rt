@@ -30,6 +30,7 @@ pub use format::thread_of;
 pub use format::transition_of;
 pub use items::critical_in;
 pub use items::in_mode;
+pub use items::is_critical;
 pub use items::place;
 pub use limits::LONGEST_TIME;
 pub use limits::MAX_CONNECTIONS;

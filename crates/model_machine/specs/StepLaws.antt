@@ -23,7 +23,7 @@ module _ (m : Model) (s : State) (e : Event) (b : Bool) (f : b ≡ isBroken e) w
       unfolding step
       step-activate k g = rw (← f, h, k, g, w)
 
-      pub step-deactivate : e .kind ≡ deactivateKind → r ≡ onDeactivate (m .timing .threads) s t → r ≡ step m s e
+      pub step-deactivate : e .kind ≡ deactivateKind → r ≡ onDeactivate (m .timing) s t → r ≡ step m s e
       unfolding step
       step-deactivate k g = rw (← f, h, k, g, w)
 

@@ -8,8 +8,8 @@ use borrow.Author.Tests.{lt-ltb, le-ltb}
 use Rattle.records.specs.declared.Cause.the-variants.{None, NotEnabled}
 use Rattle.model_format.specs.declared.Timing.{Timing}
 use Rattle.model_semantics.specs.State.{withCode}
-use Rattle.model_semantics.specs.Tests.{waitingMode, waitingDispatch, canActivate, canDeactivate, canEnter, canLeave}
-use Rattle.model_semantics.specs.Effects.{request, enter, leave}
+use Rattle.model_semantics.specs.Tests.{waitingDispatch, canActivate, canDeactivate, canEnter, canLeave}
+use Rattle.model_semantics.specs.Effects.{deactivate, request, enter, leave}
 use Rattle.model_semantics.specs.Machine.{onActivate, onDeactivate, onRequest, onEnter, onLeave}
 use Rattle.model_state.specs.Words.{stateIn}
 use Rattle.model_time.specs.Answers.{Answers}
@@ -25,15 +25,15 @@ module _ (count : ℕ) (l : List ℕ) (t n : ℕ) (c : Bool) where
   unfolding onActivate
   activate-failed e f h = record { same = rw (rw (e, f) at h); kept = λ z. refl }
 
-  pub deactivate-made : (x : List ℕ) → n ≡ count → c ≡ canDeactivate (stateIn l) t → (ltb t n && c) ≡ true → stateIn x ≡ withCode (stateIn l) t waitingMode → Answers None l x (onDeactivate count (stateIn l) t)
+module _ (m : Timing) (l : List ℕ) (t n : ℕ) (c : Bool) where
+  pub deactivate-made : (x : List ℕ) → n ≡ m .threads → c ≡ canDeactivate m (stateIn l) t → (ltb t n && c) ≡ true → stateIn x ≡ deactivate m (stateIn l) t → Answers None l x (onDeactivate m (stateIn l) t)
   unfolding onDeactivate
   deactivate-made x e f h g = record { same = rw (g, rw (e, f) at h); kept = accepted-keeps }
 
-  pub deactivate-failed : n ≡ count → c ≡ canDeactivate (stateIn l) t → (ltb t n && c) ≡ false → Answers NotEnabled l l (onDeactivate count (stateIn l) t)
+  pub deactivate-failed : n ≡ m .threads → c ≡ canDeactivate m (stateIn l) t → (ltb t n && c) ≡ false → Answers NotEnabled l l (onDeactivate m (stateIn l) t)
   unfolding onDeactivate
   deactivate-failed e f h = record { same = rw (rw (e, f) at h); kept = λ z. refl }
 
-module _ (m : Timing) (l : List ℕ) (t n : ℕ) (c : Bool) where
   pub enter-made : (x : List ℕ) → n ≡ m .switches → c ≡ canEnter m (stateIn l) t → (ltb t n && c) ≡ true → stateIn x ≡ enter m (stateIn l) t → Answers None l x (onEnter m (stateIn l) t)
   unfolding onEnter
   enter-made x e f h g = record { same = rw (g, rw (e, f) at h); kept = accepted-keeps }

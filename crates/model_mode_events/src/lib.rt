@@ -1,11 +1,11 @@
 // The events of modes, each with its test and its effect: ACTIVATE and DEACTIVATE of a thread, REQUEST, ENTER and LEAVE of a mode
 // transition. Every test stands before the first store, so a refused event leaves the list as it was.
 
+use model_effects::deactivate;
 use model_modes::enter;
 use model_modes::leave;
 use model_modes::request;
 use model_semantics::WAITING_DISPATCH;
-use model_semantics::WAITING_MODE;
 use model_state::put_code;
 use model_tests::can_activate;
 use model_tests::can_deactivate;
@@ -33,10 +33,11 @@ pub fn on_activate(model: &[u32], state: &mut [u32], t: usize) -> Cause
 }
 
 pub fn on_deactivate(model: &[u32], state: &mut [u32], t: usize) -> Cause
-    ensures { λ r. ⌜ Answers r (now (state .entry)) (now (state .exit)) (machine.onDeactivate ((timingIn (now (model .entry))) .threads) (stateIn (now (state .entry))) t) ⌝ }
+    requires { ⌜ clockWords ≤ length (now state) ⌝ }
+    ensures { λ r. ⌜ Answers r (now (state .entry)) (now (state .exit)) (machine.onDeactivate (timingIn (now (model .entry))) (stateIn (now (state .entry))) t) ⌝ }
 {
-    if (t < threads(model)) & can_deactivate(state, t) {
-        put_code(state, t, WAITING_MODE);
+    if (t < threads(model)) & can_deactivate(model, state, t) {
+        deactivate(state, t);
         return Cause::None;
     }
     Cause::NotEnabled

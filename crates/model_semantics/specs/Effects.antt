@@ -18,7 +18,7 @@ use Rattle.model_format.specs.Model.{maxThreads, maxInputs, maxOutputs, maxLoca
 use Rattle.model_semantics.specs.declared.Ports.{Ports}
 use Rattle.model_semantics.specs.declared.State.{State}
 use Rattle.model_semantics.specs.State.{none, isActive, codeOf, spentOf, behaviorOf, missedOf, isLive, inputValue, bufferValue, outputValue, localValue, nowOf, withLive, withPorts, withNow, withEntered, withMode, withPhase, withCpu, withActive, withCode, withDispatchTime, withJob, withSpent, withBehavior, withMissed}
-use Rattle.model_semantics.specs.Tests.{waitingMode, waitingDispatch, waitingExecution, execution, completed, steady, requested, changing, runs}
+use Rattle.model_semantics.specs.Tests.{waitingMode, waitingDispatch, waitingExecution, execution, completed, steady, requested, changing, runs, hasJob}
 
 -- ---- input ports
 -- input port i is fed by a live immediate connection
@@ -133,6 +133,10 @@ unfoldable pub miss : Timing → State → ℕ → State
 miss m s t = withMissed (endJob m s t (restCode s t)) t (oneMore (missedOf s t))
 
 -- ---- modes
+-- DEACTIVATE: "becomes 0"; where a job is stopped, "a held processor is freed, Length and Spent .. become 0, no output is copied"
+unfoldable pub deactivate : Timing → State → ℕ → State
+deactivate m s t = cond (hasJob (codeOf s t)) (endJob m s t waitingMode) (withCode s t waitingMode)
+
 -- "With Phase 0 and Mode the from-mode: Phase 1, Pending set; otherwise ignored, yet taken."
 unfoldable pub request : Timing → State → ℕ → State
 request m s q = cond (eqb (s .clock .phase) steady && eqb (s .clock .mode) (switchAt m q .from)) (withPhase s requested q) s
@@ -147,7 +151,8 @@ inBoth mask old new = inMode mask old && inMode mask new
 unfoldable pub liveIn : Timing → ℕ → ℕ → List Bool → List Bool
 liveIn m old new l = foldBelow (m .connections) (λ c a. store maxConnections a c (inBoth (connectionAt m c .modes) old new)) l
 
--- "Phase 2, EnteredAt Now, Active by the new mode, Flag 1 where the mask holds both modes, else 0."
+-- "Phase 2, EnteredAt Now, Active by the new mode, Flag 1 where the mask holds both modes, else 0." Runs in hand are not touched: a critical thread goes
+-- on to its deadline, another one is stopped by DEACTIVATE.
 unfoldable pub enter : Timing → State → ℕ → State
 enter m s q =
     let x = switchAt m q in

@@ -18,8 +18,8 @@ use Rattle.model_format.specs.Model.{maxThreads, maxInputs, maxOutputs, maxLoca
 use Rattle.model_semantics.specs.declared.State.{State}
 use Rattle.model_semantics.specs.declared.Stepped.{Stepped}
 use Rattle.model_semantics.specs.State.{none, nowOf, withCode}
-use Rattle.model_semantics.specs.Tests.{waitingMode, waitingDispatch, canActivate, canDeactivate, canDispatch, canStart, canComplete, canMeetDeadline, canMiss, canEnter, canLeave, isBusy}
-use Rattle.model_semantics.specs.Effects.{dispatch, start, complete, meetDeadline, miss, request, activeIn, liveIn, enter, leave, tick}
+use Rattle.model_semantics.specs.Tests.{waitingDispatch, canActivate, canDeactivate, canDispatch, canStart, canComplete, canMeetDeadline, canMiss, canEnter, canLeave, isBusy}
+use Rattle.model_semantics.specs.Effects.{dispatch, start, complete, meetDeadline, miss, deactivate, request, activeIn, liveIn, enter, leave, tick}
 
 -- "owner u8 and start i32 .. Kind 03 still means 0": the start values of the input ports
 abbrev pub portStarts : Timing → List Value
@@ -70,8 +70,8 @@ ticks m s₀ (suc n) s =
 unfoldable pub onActivate : ℕ → State → ℕ → Stepped
 onActivate n s t = attempt (ltb t n && canActivate s t) (withCode s t waitingDispatch) s
 
-unfoldable pub onDeactivate : ℕ → State → ℕ → Stepped
-onDeactivate n s t = attempt (ltb t n && canDeactivate s t) (withCode s t waitingMode) s
+unfoldable pub onDeactivate : Timing → State → ℕ → Stepped
+onDeactivate m s t = attempt (ltb t (m .threads) && canDeactivate m s t) (deactivate m s t) s
 
 unfoldable pub onDispatch : Timing → State → ℕ → Stepped
 onDispatch m s t = attempt (ltb t (m .threads) && canDispatch m s t) (dispatch m s t) s
@@ -106,7 +106,7 @@ step m s e =
     let r = ticks x s (e .amount) s in
     cond (isBroken e) (refuse BrokenEvent s)
     (cond (eqb (e .kind) activateKind) (onActivate (x .threads) s t)
-    (cond (eqb (e .kind) deactivateKind) (onDeactivate (x .threads) s t)
+    (cond (eqb (e .kind) deactivateKind) (onDeactivate x s t)
     (cond (eqb (e .kind) dispatchKind) (onDispatch x s t)
     (cond (eqb (e .kind) startKind) (onStart x s t (e .amount))
     (cond (eqb (e .kind) completeKind) (onComplete m s t)

@@ -10,8 +10,8 @@ use Rattle.model_format.specs.declared.Model.{Model}
 use Rattle.model_semantics.specs.declared.State.{State}
 use Rattle.model_semantics.specs.declared.Stepped.{Stepped}
 use Rattle.model_semantics.specs.State.{withCode}
-use Rattle.model_semantics.specs.Tests.{waitingMode, waitingDispatch, canActivate, canDeactivate, canDispatch, canStart, canComplete, canMeetDeadline, canMiss, canEnter, canLeave}
-use Rattle.model_semantics.specs.Effects.{dispatch, start, complete, meetDeadline, miss, request, enter, leave}
+use Rattle.model_semantics.specs.Tests.{waitingDispatch, canActivate, canDeactivate, canDispatch, canStart, canComplete, canMeetDeadline, canMiss, canEnter, canLeave}
+use Rattle.model_semantics.specs.Effects.{dispatch, start, complete, meetDeadline, miss, deactivate, request, enter, leave}
 use Rattle.model_semantics.specs.Machine.{refuse, attempt, ticks, onActivate, onDeactivate, onDispatch, onStart, onComplete, onDeadline, onMiss, onRequest, onEnter, onLeave, step}
 
 either : (P : Stepped → Type 0) (b : Bool) (x y : Stepped) → P x → P y → P (cond b x y)
@@ -23,11 +23,11 @@ module _ (P : Stepped → Type 0) (s : State) (tried : (b : Bool) (x : State) �
   unfolding onActivate
   on-activate n t = tried (ltb t n && canActivate s t) (withCode s t waitingDispatch)
 
-  on-deactivate : (n t : ℕ) → P (onDeactivate n s t)
-  unfolding onDeactivate
-  on-deactivate n t = tried (ltb t n && canDeactivate s t) (withCode s t waitingMode)
-
   module _ (m : Timing) (t : ℕ) where
+    on-deactivate : P (onDeactivate m s t)
+    unfolding onDeactivate
+    on-deactivate = tried (ltb t (m .threads) && canDeactivate m s t) (deactivate m s t)
+
     on-dispatch : P (onDispatch m s t)
     unfolding onDispatch
     on-dispatch = tried (ltb t (m .threads) && canDispatch m s t) (dispatch m s t)
@@ -67,7 +67,7 @@ module _ (P : Stepped → Type 0) (s : State) (tried : (b : Bool) (x : State) �
       let t = e .id in
       either P (isBroken e) _ _ broken
       (either P (eqb (e .kind) activateKind) _ _ (on-activate (x .threads) t)
-      (either P (eqb (e .kind) deactivateKind) _ _ (on-deactivate (x .threads) t)
+      (either P (eqb (e .kind) deactivateKind) _ _ (on-deactivate x t)
       (either P (eqb (e .kind) dispatchKind) _ _ (on-dispatch x t)
       (either P (eqb (e .kind) startKind) _ _ (on-start x t (e .amount))
       (either P (eqb (e .kind) completeKind) _ _ (on-complete m t)

@@ -4,8 +4,9 @@ use Prim.Native.Nat.{ℕ, _+_}
 use lib.Dec.{eqb, ltb, leb}
 use Rattle.numbers.specs.Lists.{anyBelow}
 use Rattle.numbers.specs.Multiples.{isMultiple}
+use Rattle.model_format.specs.declared.Thread.{Thread}
 use Rattle.model_format.specs.declared.Timing.{Timing}
-use Rattle.model_format.specs.Model.{threadAt, switchAt, immediate, delayed, isKind, sourceThread, targetThread}
+use Rattle.model_format.specs.Model.{threadAt, switchAt, isCritical, immediate, delayed, isKind, sourceThread, targetThread}
 use Rattle.model_semantics.specs.declared.State.{State}
 use Rattle.model_semantics.specs.State.{none, isActive, codeOf, dispatchTime, lengthOf, spentOf, isLive, nowOf, cpuFor}
 
@@ -70,9 +71,13 @@ feeds m s kind t c = isKind m kind c && (eqb (targetThread m c) t && isLive s c)
 unfoldable pub canActivate : State → ℕ → Bool
 canActivate s t = isActive s t && eqb (codeOf s t) waitingMode
 
--- "DEACTIVATE: not Active, code 1"
-unfoldable pub canDeactivate : State → ℕ → Bool
-canDeactivate s t = not (isActive s t) && eqb (codeOf s t) waitingDispatch
+-- "a thread that is not critical .. and has code 2, 3 or 4": one that leaves is stopped
+abbrev pub isStoppable : Thread → ℕ → Bool
+isStoppable x code = not (isCritical x) && hasJob code
+
+-- "DEACTIVATE: not Active, code 1"; "also enabled for" one that is stopped
+unfoldable pub canDeactivate : Timing → State → ℕ → Bool
+canDeactivate m s t = not (isActive s t) && (eqb (codeOf s t) waitingDispatch || isStoppable (threadAt m t) (codeOf s t))
 
 -- "source of a live delayed connection into it has code 2, 3 or 4 with Due = Now"
 unfoldable pub awaitsDelayed : Timing → State → ℕ → Bool
@@ -154,7 +159,7 @@ canLeave m s q =
 -- some event of thread t, some event of mode transition q but REQUEST; "START counts with any allowed length", so with the shortest
 unfoldable pub threadBusy : Timing → State → ℕ → Bool
 threadBusy m s t =
-    canActivate s t || (canDeactivate s t || (canDispatch m s t || (canStart m s t (threadAt m t .bcet .0) ||
+    canActivate s t || (canDeactivate m s t || (canDispatch m s t || (canStart m s t (threadAt m t .bcet .0) ||
     (canComplete s t || (canMeetDeadline m s t || canMiss m s t)))))
 
 unfoldable pub switchBusy : Timing → State → ℕ → Bool

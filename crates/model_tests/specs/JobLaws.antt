@@ -18,9 +18,9 @@ use Rattle.model_semantics.specs.declared.State.{State}
 use Rattle.model_tests.specs.declared.Job.{Job}
 use Rattle.model_tests.specs.declared.ThreadView.{ThreadView}
 use Rattle.model_semantics.specs.State.{none, isActive, codeOf, dispatchTime, lengthOf, spentOf, isLive}
-use Rattle.model_tests.specs.Parts.{jobOf}
-use Rattle.model_semantics.specs.Tests.{waitingExecution, dueOf, isDue, isPeriodic, feeds, canActivate, canDeactivate, awaitsDelayed, canDispatch, awaitsImmediate, isReady, isAllowed, startFault, canComplete, canMeetDeadline, canMiss, canEnter, canLeave, threadBusy, switchBusy, isBusy}
-use Rattle.model_tests.specs.Jobs.{threadViewOf, activates, deactivates, completes, dispatchesAlone, meets, misses, mayAct, holdsDispatch, holdsStart, enters, leaves}
+use Rattle.model_tests.specs.Parts.{jobOf, deactivates}
+use Rattle.model_semantics.specs.Tests.{waitingExecution, isUnfinished, hasJob, dueOf, isDue, isPeriodic, feeds, canActivate, canDeactivate, awaitsDelayed, canDispatch, awaitsImmediate, isReady, isAllowed, startFault, canComplete, canMeetDeadline, canMiss, canEnter, canLeave, threadBusy, switchBusy, isBusy}
+use Rattle.model_tests.specs.Jobs.{threadViewOf, activates, completes, dispatchesAlone, meets, misses, mayAct, holdsDispatch, holdsStart, enters, leaves}
 
 -- ---- Bools
 pub false-true : {A : Type 0} → false ≡ true → A
@@ -41,13 +41,19 @@ module _ (s : State) (t : ℕ) (j : Job) (f : j ≡ jobOf (s .threads) t) where
   unfolding canActivate isActive codeOf jobOf
   activate-by = rw f
 
-  pub deactivate-by : deactivates j ≡ canDeactivate s t
-  unfolding canDeactivate isActive codeOf jobOf
-  deactivate-by = rw f
-
   pub complete-by : completes j ≡ canComplete s t
   unfolding canComplete codeOf lengthOf spentOf jobOf
   complete-by = rw f
+
+-- DEACTIVATE: x is the thread's record, which is read where it is not active
+module _ (m : Timing) (s : State) (t : ℕ) (j : Job) (f : j ≡ jobOf (s .threads) t) where
+  pub deactivate-active : j .active ≡ true → false ≡ canDeactivate m s t
+  unfolding canDeactivate isActive jobOf
+  deactivate-active h = rw (rw f at h)
+
+  pub deactivate-by : (x : Thread) → x ≡ threadAt m t → deactivates x j ≡ canDeactivate m s t
+  unfolding canDeactivate isActive codeOf jobOf
+  deactivate-by x e = rw (e, f)
 
 module _ (m : Timing) (s : State) (t : ℕ) (v : ThreadView) (f : v ≡ threadViewOf m s t) where
   pub meet-by : meets v ≡ canMeetDeadline m s t
@@ -118,42 +124,42 @@ module _ (m : Timing) (s : State) (t n c : ℕ) (e : n ≡ min (m .connections) 
   unfolding awaitsImmediate holdsStart feeds isLive
   immediate-none = not-found (m .connections) maxConnections n c (holdsStart m s t) e (λ k h. rw (le-ltb k maxConnections h) (simp and-false))
 
--- ---- a calm thread has no event: a Active, k the code
-calm-of : (a : Bool) (k : ℕ) (due done periodic free delay wait known fits : Bool) →
-    cond (eqb k 0) a (cond (eqb k 1) (not a || periodic) (cond (eqb k 2) (free || due) (cond (eqb k 3) (done || due) (cond (eqb k 4) due false)))) ≡ false →
-    ((a && eqb k 0) || ((not a && eqb k 1) || ((eqb k 1 && (a && (periodic && not delay))) ||
+-- ---- a calm thread has no event: a Active, k the code, d what DEACTIVATE's test says
+calm-of : (d a : Bool) (k : ℕ) (due done periodic free delay wait known fits : Bool) →
+    (d || cond (eqb k 0) a (cond (eqb k 1) periodic (cond (eqb k 2) (free || due) (cond (eqb k 3) (done || due) (cond (eqb k 4) due false))))) ≡ false →
+    ((a && eqb k 0) || (d || ((eqb k 1 && (a && (periodic && not delay))) ||
     (eqb (cond (not (known && (eqb k 2 && not due))) 1 (cond (not free) 2 (cond wait 3 (cond (not fits) 4 0)))) 0 ||
     ((eqb k 3 && done) || ((eqb k 4 && due) || (due && (eqb k 2 || (eqb k 3 && not done))))))))) ≡ false
-calm-of true zero due done periodic free delay wait known fits h = false-true (sym h)
-calm-of false zero due done periodic free delay wait known fits h = simp and-false
-calm-of false (suc zero) due done periodic free delay wait known fits h = false-true (sym h)
-calm-of true (suc zero) due done true free delay wait known fits h = false-true (sym h)
-calm-of true (suc zero) due done false free delay wait known fits h = simp and-false
-calm-of a (suc (suc zero)) due done periodic true delay wait known fits h = false-true (sym h)
-calm-of a (suc (suc zero)) true done periodic false delay wait known fits h = false-true (sym h)
-calm-of true (suc (suc zero)) false done periodic false delay wait true fits h = refl
-calm-of true (suc (suc zero)) false done periodic false delay wait false fits h = refl
-calm-of false (suc (suc zero)) false done periodic false delay wait true fits h = refl
-calm-of false (suc (suc zero)) false done periodic false delay wait false fits h = refl
-calm-of a (suc (suc (suc zero))) due true periodic free delay wait known fits h = false-true (sym h)
-calm-of a (suc (suc (suc zero))) true false periodic free delay wait known fits h = false-true (sym h)
-calm-of a (suc (suc (suc zero))) false false periodic free delay wait known fits h = simp and-false
-calm-of a (suc (suc (suc (suc zero)))) true done periodic free delay wait known fits h = false-true (sym h)
-calm-of a (suc (suc (suc (suc zero)))) false done periodic free delay wait known fits h = simp and-false
-calm-of a (suc (suc (suc (suc (suc k))))) due done periodic free delay wait known fits h =
+calm-of true a k due done periodic free delay wait known fits h = false-true (sym h)
+calm-of false true zero due done periodic free delay wait known fits h = false-true (sym h)
+calm-of false false zero due done periodic free delay wait known fits h = simp and-false
+calm-of false a (suc zero) due done true free delay wait known fits h = false-true (sym h)
+calm-of false a (suc zero) due done false free delay wait known fits h = simp and-false
+calm-of false a (suc (suc zero)) due done periodic true delay wait known fits h = false-true (sym h)
+calm-of false a (suc (suc zero)) true done periodic false delay wait known fits h = false-true (sym h)
+calm-of false true (suc (suc zero)) false done periodic false delay wait true fits h = refl
+calm-of false true (suc (suc zero)) false done periodic false delay wait false fits h = refl
+calm-of false false (suc (suc zero)) false done periodic false delay wait true fits h = refl
+calm-of false false (suc (suc zero)) false done periodic false delay wait false fits h = refl
+calm-of false a (suc (suc (suc zero))) due true periodic free delay wait known fits h = false-true (sym h)
+calm-of false a (suc (suc (suc zero))) true false periodic free delay wait known fits h = false-true (sym h)
+calm-of false a (suc (suc (suc zero))) false false periodic free delay wait known fits h = simp and-false
+calm-of false a (suc (suc (suc (suc zero)))) true done periodic free delay wait known fits h = false-true (sym h)
+calm-of false a (suc (suc (suc (suc zero)))) false done periodic free delay wait known fits h = simp and-false
+calm-of false a (suc (suc (suc (suc (suc k))))) due done periodic free delay wait known fits h =
     let n = suc (suc (suc (suc (suc k)))) in
     rw (ne-eqb n 0 (λ e. omega arith), ne-eqb n 1 (λ e. omega arith), ne-eqb n 2 (λ e. omega arith), ne-eqb n 3 (λ e. omega arith), ne-eqb n 4 (λ e. omega arith)) (simp and-false)
 
 pub calm : (m : Timing) (s : State) (t : ℕ) → mayAct (s .clock) (threadAt m t) (jobOf (s .threads) t) ≡ false → threadBusy m s t ≡ false
 unfolding mayAct jobOf threadBusy canActivate canDeactivate canDispatch startFault canComplete canMeetDeadline canMiss dueOf isActive codeOf dispatchTime lengthOf spentOf threadAt
 calm m s t h =
-    calm-of (isActive s t) (codeOf s t) (isDue m s t) (eqb (spentOf s t) (lengthOf s t)) (isPeriodic m s t) (eqb (s .clock .cpu) none)
+    calm-of (canDeactivate m s t) (isActive s t) (codeOf s t) (isDue m s t) (eqb (spentOf s t) (lengthOf s t)) (isPeriodic m s t) (eqb (s .clock .cpu) none)
     (awaitsDelayed m s t) (awaitsImmediate m s t) (ltb t (m .threads)) (leb (threadAt m t .bcet .0) (threadAt m t .bcet .0) && leb (threadAt m t .bcet .0) (threadAt m t .wcet .0)) h
 
 -- t lies past the arrays: nothing is there
 calm-past : (m : Timing) (s : State) (t : ℕ) → 16 ≤ t → threadBusy m s t ≡ false
-unfolding mayAct jobOf
-calm-past m s t h = calm m s t (rw (le-ltb t 16 h))
+unfolding mayAct jobOf hasJob isUnfinished
+calm-past m s t h = calm m s t (rw (le-ltb t 16 h) (simp and-false))
 
 module _ (m : Timing) (s : State) (n c : ℕ) (e : n ≡ min (m .threads) maxThreads) where
   pub threads-some : (b : Bool) → c < n → b ≡ threadBusy m s c → b ≡ true → true ≡ anyBelow (m .threads) (threadBusy m s)
@@ -163,7 +169,7 @@ module _ (m : Timing) (s : State) (n c : ℕ) (e : n ≡ min (m .threads) maxThr
   threads-none = not-found (m .threads) maxThreads n c (threadBusy m s) e (calm-past m s)
 
 pub busy-by : (m : Timing) (s : State) (t n : ℕ) (x : Thread) (a b c d e f : Bool) → x ≡ threadAt m t → n ≡ startFault m s t (x .bcet .0) →
-    a ≡ canActivate s t → b ≡ canDeactivate s t → c ≡ canDispatch m s t → d ≡ canComplete s t → e ≡ canMeetDeadline m s t → f ≡ canMiss m s t →
+    a ≡ canActivate s t → b ≡ canDeactivate m s t → c ≡ canDispatch m s t → d ≡ canComplete s t → e ≡ canMeetDeadline m s t → f ≡ canMiss m s t →
     (a || (b || (c || (eqb n 0 || (d || (e || f)))))) ≡ threadBusy m s t
 unfolding threadBusy
 busy-by m s t n x a b c d e f p q ha hb hc hd he hf = rw (ha, hb, hc, q, p, hd, he, hf)

@@ -14,7 +14,7 @@ use Rattle.model_semantics.specs.declared.State.{State}
 use Rattle.model_tests.specs.declared.Job.{Job}
 use Rattle.model_tests.specs.declared.ThreadView.{ThreadView}
 use Rattle.model_semantics.specs.State.{none, codeOf}
-use Rattle.model_tests.specs.Parts.{jobOf}
+use Rattle.model_tests.specs.Parts.{jobOf, deactivates}
 use Rattle.model_semantics.specs.Tests.{waitingMode, waitingDispatch, waitingExecution, execution, completed, isDue, feeds, hasJob, runsBeside, comesBeside, awaitsImmediate, isReady, isFree, isAllowed}
 
 unfoldable pub threadViewOf : Timing → State → ℕ → ThreadView
@@ -22,9 +22,6 @@ threadViewOf m s t = record { clock = s .clock; thread = threadAt m t; job = job
 
 abbrev pub activates : Job → Bool
 activates j = j .active && eqb (j .code) waitingMode
-
-abbrev pub deactivates : Job → Bool
-deactivates j = not (j .active) && eqb (j .code) waitingDispatch
 
 abbrev pub isDone : Job → Bool
 isDone j = eqb (j .spent .0) (j .length .0)
@@ -54,15 +51,16 @@ misses v = dueIn v && (eqb (v .job .code) waitingExecution || (eqb (v .job .code
 -- Whether clock, code and job leave room for an event of the thread, whatever its connections say.
 unfoldable pub mayAct : Clock → Thread → Job → Bool
 mayAct k x j =
+    deactivates x j ||
     cond (eqb (j .code) waitingMode) (j .active)
-    (cond (eqb (j .code) waitingDispatch) (not (j .active) || isMultiple (k .now .0) (x .period .0))
+    (cond (eqb (j .code) waitingDispatch) (isMultiple (k .now .0) (x .period .0))
     (cond (eqb (j .code) waitingExecution) (eqb (k .cpu) none || dueAt k x j)
     (cond (eqb (j .code) execution) (isDone j || dueAt k x j)
     (cond (eqb (j .code) completed) (dueAt k x j) false))))
 
 -- v is the view of a source
 abbrev pub dueWithJob : ThreadView → Bool
-dueWithJob v = ((eqb (v .job .code) waitingExecution || eqb (v .job .code) execution) || eqb (v .job .code) completed) && dueIn v
+dueWithJob v = hasJob (v .job .code) && dueIn v
 
 -- and j the thread's own job
 abbrev pub besideRuns : ThreadView → Job → Bool

@@ -93,7 +93,7 @@ module _ (m : Timing) (s : State) (t c : ℕ) (x : Connection) (live : Bool) (e 
       source-is = p ∙ rw e
 
       pub dispatch-held : not (eqb (x .kind) delayed && live) ≡ false → dueWithJob v ≡ holdsDispatch m s t c
-      unfolding holdsDispatch feeds threadViewOf hasJob isUnfinished dueOf codeOf dispatchTime jobOf
+      unfolding holdsDispatch feeds threadViewOf dueOf codeOf dispatchTime jobOf
       dispatch-held z = rw source-is (on (eqb (connectionAt m c .kind) delayed) (eqb (targetThread m c) t) (isLive s c) (sourceDue m s c) (rw (e, f) at z) at-target)
 
       pub start-held : (j : Job) → j ≡ jobOf (s .threads) t → not (eqb (x .kind) immediate && live) ≡ false → (besideRuns v j || besideComes v j) ≡ holdsStart m s t c

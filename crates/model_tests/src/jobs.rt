@@ -3,6 +3,7 @@
 use crate::Job;
 use crate::ThreadView;
 use model_format::Thread;
+use model_format::is_critical;
 use model_semantics::COMPLETED;
 use model_semantics::Clock;
 use model_semantics::EXECUTION;
@@ -14,7 +15,9 @@ use numbers::is_multiple;
 ghost use mathlib.Core.Path.{_≡_};
 ghost use Prim.Native.Nat.{_+_};
 ghost use lib.Dec.{eqb};
+ghost use Rattle.model_semantics.specs.Tests as tests;
 ghost use Rattle.model_tests.specs.Jobs as jobs;
+ghost use Rattle.model_tests.specs.Parts as parts;
 
 pub fn activates(job: Job) -> bool
     ensures { λ r. ⌜ r ≡ jobs.activates job ⌝ }
@@ -22,10 +25,27 @@ pub fn activates(job: Job) -> bool
     job.active & (job.code == WAITING_MODE)
 }
 
-pub fn deactivates(job: Job) -> bool
-    ensures { λ r. ⌜ r ≡ jobs.deactivates job ⌝ }
+pub fn has_job(code: u8) -> bool
+    ensures { λ r. ⌜ r ≡ tests.hasJob code ⌝ }
 {
-    !job.active & (job.code == WAITING_DISPATCH)
+    ((code == WAITING_EXECUTION) | (code == EXECUTION)) | (code == COMPLETED)
+}
+
+// A thread that leaves with a job in hand is stopped, unless it is critical.
+fn is_stoppable(thread: Thread, code: u8) -> bool
+    ensures { λ r. ⌜ r ≡ tests.isStoppable thread code ⌝ }
+{
+    !is_critical(thread) & has_job(code)
+}
+
+// Most threads are active, so that comes first.
+pub fn deactivates(thread: Thread, job: Job) -> bool
+    ensures { λ r. ⌜ r ≡ parts.deactivates thread job ⌝ }
+{
+    if job.active {
+        return false;
+    }
+    (job.code == WAITING_DISPATCH) | is_stoppable(thread, job.code)
 }
 
 pub fn completes(job: Job) -> bool
@@ -82,10 +102,13 @@ pub fn misses(view: ThreadView) -> bool
 pub fn may_act(clock: Clock, thread: Thread, job: Job) -> bool
     ensures { λ r. ⌜ r ≡ jobs.mayAct clock thread job ⌝ }
 {
+    if deactivates(thread, job) {
+        return true;
+    }
     let code = job.code;
     match code {
         WAITING_MODE => job.active,
-        WAITING_DISPATCH => !job.active | is_multiple(clock.now.0, thread.period.0),
+        WAITING_DISPATCH => is_multiple(clock.now.0, thread.period.0),
         WAITING_EXECUTION => (clock.cpu == NONE)
             | falls_due(job.dispatched.0, thread.deadline.0, clock.now.0),
         EXECUTION => (job.spent.0 == job.length.0)
@@ -99,9 +122,7 @@ pub fn may_act(clock: Clock, thread: Thread, job: Job) -> bool
 pub fn due_with_job(view: ThreadView) -> bool
     ensures { λ r. ⌜ r ≡ jobs.dueWithJob view ⌝ }
 {
-    (((view.job.code == WAITING_EXECUTION) | (view.job.code == EXECUTION))
-        | (view.job.code == COMPLETED))
-        & due_in(view)
+    has_job(view.job.code) & due_in(view)
 }
 
 pub fn beside_runs(view: ThreadView, job: Job) -> bool

@@ -71,7 +71,7 @@ fn thread_busy(model: &[u32], state: &[u32], t: usize) -> bool
     let late = can_meet_deadline(model, state, t) | can_miss(model, state, t);
     let ends = can_complete(state, t) | late;
     let runs = can_dispatch(model, state, t) | (starts | ends);
-    can_activate(state, t) | (can_deactivate(state, t) | runs)
+    can_activate(state, t) | (can_deactivate(model, state, t) | runs)
 }
 
 fn switch_busy(model: &[u32], state: &[u32], q: usize) -> bool

@@ -132,11 +132,16 @@ pub fn can_activate(state: &[u32], t: usize) -> bool
     activates(job)
 }
 
-pub fn can_deactivate(state: &[u32], t: usize) -> bool
-    ensures { λ r. ⌜ r ≡ tests.canDeactivate (stateIn (now (state .entry))) t ⌝ }
+// Most threads are active, so the thread's record comes last.
+pub fn can_deactivate(model: &[u32], state: &[u32], t: usize) -> bool
+    ensures { λ r. ⌜ r ≡ tests.canDeactivate (timingIn (now (model .entry))) (stateIn (now (state .entry))) t ⌝ }
 {
     let job = job_of(state, t);
-    deactivates(job)
+    if job.active {
+        return false;
+    }
+    let thread = thread_at(model, t);
+    deactivates(thread, job)
 }
 
 pub fn can_dispatch(model: &[u32], state: &[u32], t: usize) -> bool

@@ -25,8 +25,8 @@ use Rattle.model_semantics.specs.declared.Threads.{Threads}
 use Rattle.model_semantics.specs.declared.State.{State}
 use Rattle.model_tests.specs.declared.Job.{Job}
 use Rattle.model_semantics.specs.State.{nowOf, codeOf, spentOf, withNow, withSpent}
-use Rattle.model_tests.specs.Parts.{jobOf}
-use Rattle.model_semantics.specs.Tests.{execution, canEnter, canLeave, threadBusy, switchBusy, isBusy}
+use Rattle.model_tests.specs.Parts.{jobOf, deactivates}
+use Rattle.model_semantics.specs.Tests.{execution, isUnfinished, hasJob, canEnter, canLeave, threadBusy, switchBusy, isBusy}
 use Rattle.model_semantics.specs.Effects.{tick}
 use Rattle.model_tests.specs.Jobs.{mayAct}
 use Rattle.model_tests.specs.JobLaws.{and-false, calm, other-switch}
@@ -85,41 +85,42 @@ module _ (k : Clock) (x : Thread) (j : Job) where
   pub calm-none : Calm k x j 0
   calm-none i g l h = absurd (omega arith)
 
-  module _ (n : ℕ) where
+  -- for n of q ticks, through which it cannot be deactivated
+  module _ (n q : ℕ) (stays : (i : ℕ) → i < q → deactivates x j ≡ false) (w : n ≤ q) where
     pub calm-idle : j .code ≡ 0 → j .active ≡ false → Calm k x j n
     unfolding mayAct
-    calm-idle e f i g l h = rw (e, f)
+    calm-idle e f i g l h = rw (stays i (omega arith), e, f)
 
-    pub calm-between : j .code ≡ 1 → j .active ≡ true → ((i : ℕ) → i < n → isMultiple (k .now .0 + i) (x .period .0) ≡ false) → Calm k x j n
+    pub calm-between : j .code ≡ 1 → ((i : ℕ) → i < n → isMultiple (k .now .0 + i) (x .period .0) ≡ false) → Calm k x j n
     unfolding mayAct
-    calm-between e f z i g l h = rw (e, f, z i l)
+    calm-between e z i g l h = rw (stays i (omega arith), e, z i l)
 
     pub calm-ready : j .code ≡ 2 → (k .cpu ≡ 255 → ⊥) → ((i : ℕ) → i < n → eqb (j .dispatched .0 + x .deadline .0) (k .now .0 + i) ≡ false) → Calm k x j n
     unfolding mayAct
-    calm-ready e f z i g l h = rw (e, ne-eqb (k .cpu) 255 f, z i l)
+    calm-ready e f z i g l h = rw (stays i (omega arith), e, ne-eqb (k .cpu) 255 f, z i l)
 
     pub calm-running : (d : ℕ) → j .code ≡ 3 → n ≤ d → ((i : ℕ) → i < d → eqb (moreBy i (j .spent .0)) (j .length .0) ≡ false) →
         ((i : ℕ) → i < n → eqb (j .dispatched .0 + x .deadline .0) (k .now .0 + i) ≡ false) → Calm k x j n
     unfolding mayAct
-    calm-running d e f y z i g l h = rw (e, y g (omega arith), z i l)
+    calm-running d e f y z i g l h = rw (stays i (omega arith), e, y g (omega arith), z i l)
 
     pub calm-completed : j .code ≡ 4 → ((i : ℕ) → i < n → eqb (j .dispatched .0 + x .deadline .0) (k .now .0 + i) ≡ false) → Calm k x j n
     unfolding mayAct
-    calm-completed e z i g l h = rw (e, z i l)
+    calm-completed e z i g l h = rw (stays i (omega arith), e, z i l)
 
     pub calm-other : (j .code ≡ 0 → ⊥) → (j .code ≡ 1 → ⊥) → (j .code ≡ 2 → ⊥) → (j .code ≡ 3 → ⊥) → (j .code ≡ 4 → ⊥) → Calm k x j n
     unfolding mayAct
-    calm-other a b c d e i g l h = rw (ne-eqb (j .code) 0 a, ne-eqb (j .code) 1 b, ne-eqb (j .code) 2 c, ne-eqb (j .code) 3 d, ne-eqb (j .code) 4 e)
+    calm-other a b c d e i g l h = rw (stays i (omega arith), ne-eqb (j .code) 0 a, ne-eqb (j .code) 1 b, ne-eqb (j .code) 2 c, ne-eqb (j .code) 3 d, ne-eqb (j .code) 4 e)
 
 -- ---- the threads: a loop come to t, which stops at count, with q ticks left
 module _ (m : Timing) (k : Clock) (y : Threads) (count t q : ℕ) (e : count ≡ min (m .threads) maxThreads) (f : CalmBelow m k y t q) where
   pub calm-end : count ≤ t → CalmBelow m k y (m .threads) q
-  unfolding jobOf mayAct
+  unfolding jobOf mayAct hasJob isUnfinished
   calm-end h u z = go (decLt u t)
     where
       go : Dec (u < t) → Calm k (threadAt m u) (jobOf y u) q
       go (yes w) i g a b = f u w i g a b
-      go (no w) i g a b = rw (le-ltb u maxThreads (omega arith))
+      go (no w) i g a b = rw (le-ltb u maxThreads (omega arith)) (simp and-false)
 
 -- ---- a list into which g 0, g 1, .. are stored where p says so
 module _ {A : Type 0} (room : ℕ) (p : ℕ → Bool) (g : ℕ → A) (old : List A) (d : A) where

@@ -9,11 +9,13 @@ use model_semantics::WAITING_DISPATCH;
 use model_semantics::WAITING_EXECUTION;
 use model_semantics::WAITING_MODE;
 use model_tests::Job;
+use model_tests::deactivates;
 ghost use mathlib.Core.Path.{_≡_};
 ghost use mathlib.Core.Bool.{false};
 ghost use Prim.Native.Nat.{ℕ, _+_, _<_, _≤_, min};
 ghost use lib.Dec.{eqb};
 ghost use Rattle.numbers.specs.Multiples.{isMultiple};
+ghost use Rattle.model_tests.specs.Parts as parts;
 ghost use Rattle.model_time.specs.Quiet as quiet;
 
 // The last number of 32 bits.
@@ -62,32 +64,36 @@ fn to_done(spent: u32, length: u32, n: u32) -> u32
     least(n, length - spent)
 }
 
+// The ticks before a thread can be deactivated: none, or no tick brings it about.
+fn to_deactivate(thread: Thread, job: Job, n: u32) -> u32
+    ensures { λ r. ⌜ (r ≤ n) × ((i : ℕ) → i < r → parts.deactivates thread job ≡ false) ⌝ }
+{
+    if deactivates(thread, job) { 0 } else { n }
+}
+
 // For how many of n ticks a thread has no event.
 pub fn calm_ticks(clock: Clock, thread: Thread, job: Job, n: u32) -> u32
     ensures { λ r. ⌜ (r ≤ n) × quiet.Calm clock thread job r ⌝ }
 {
+    let most = to_deactivate(thread, job, n);
     let code = job.code;
     let now = clock.now.0;
     match code {
-        WAITING_MODE => if job.active { 0 } else { n },
-        WAITING_DISPATCH => if job.active {
-            to_multiple(now, thread.period.0, n)
-        } else {
-            0
-        },
+        WAITING_MODE => if job.active { 0 } else { most },
+        WAITING_DISPATCH => to_multiple(now, thread.period.0, most),
         WAITING_EXECUTION => if clock.cpu == NONE {
             0
         } else {
-            to_due(job.dispatched.0, thread.deadline.0, now, n)
+            to_due(job.dispatched.0, thread.deadline.0, now, most)
         },
         EXECUTION => to_due(
             job.dispatched.0,
             thread.deadline.0,
             now,
-            to_done(job.spent.0, job.length.0, n),
+            to_done(job.spent.0, job.length.0, most),
         ),
-        COMPLETED => to_due(job.dispatched.0, thread.deadline.0, now, n),
-        _ => n,
+        COMPLETED => to_due(job.dispatched.0, thread.deadline.0, now, most),
+        _ => most,
     }
 }
 

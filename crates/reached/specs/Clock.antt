@@ -10,7 +10,9 @@ use Rattle.model_format.specs.declared.Model.{Model}
 use Rattle.model_format.specs.Model.{switchAt}
 use Rattle.model_semantics.specs.declared.State.{State}
 use Rattle.model_semantics.specs.State.{nowOf, withLive, withPorts, withNow, withEntered, withMode, withPhase, withCpu, withActive, withCode, withDispatchTime, withJob, withBehavior, withMissed}
+use Rattle.model_semantics.specs.Tests.{waitingMode}
 use Rattle.model_semantics.specs.Effects.{dispatch, start, restCode, advance, finish, complete, meetDeadline, miss, request, enter, leave, tick}
+use Rattle.model_semantics.specs.DeactivateLaws.{deactivated}
 use Rattle.model_semantics.specs.Machine.{startState}
 use Rattle.reached.specs.Reachable.{Reachable}
 use Rattle.reached.specs.Moves.{Move, activates, deactivates, dispatches, starts, completes, meets, misses, requests, enters, leaves, ticks-once, invariant}
@@ -28,7 +30,7 @@ request-now m s q = one-now (eqb (s .clock .phase) 0 && eqb (s .clock .mode) (sw
 move-now : (m : Model) (s r : State) → nowOf s ≤ lastClock → Move m s r → nowOf r ≤ lastClock
 unfolding dispatch start advance finish complete meetDeadline miss enter leave tick withLive withPorts withNow withEntered withMode withPhase withActive withCode withDispatchTime withBehavior withMissed withJob withCpu
 move-now m s r h (activates t l c) = h
-move-now m s r h (deactivates t l c) = h
+move-now m s r h (deactivates t l c) = deactivated (λ x. nowOf x ≤ lastClock) (m .timing) s t (λ j. omega (arith, end-now (m .timing) s t waitingMode)) (λ j. h)
 move-now m s r h (dispatches t l c) = h
 move-now m s r h (starts t n c) = h
 move-now m s r h (completes t l c) = omega (arith, end-now (m .timing) (advance m s t) t 4)

@@ -3,12 +3,11 @@ use mathlib.Core.Path.{_≡_, refl, sym, _∙_, ap}
 use mathlib.Core.Bool.{Bool, true, false, cond, _&&_, false≢true}
 use Prim.Native.Nat.{ℕ, _<_, _≤_}
 use native.Mathlib.Omega.{arith}
-use native.Mathlib.Decide.{ℕ-discrete, decLt}
+use native.Mathlib.Decide.{ℕ-discrete}
 use lib.Dec.{eqb}
-use lib.ListN.{length, replicate, getD-replicate}
-use borrow.Author.Tests.{lt-ltb}
-use Rattle.numbers.specs.Lists.{item, store}
-use Rattle.numbers.specs.ListLaws.{length-store, item-past, item-store-same, item-store-other}
+use lib.ListN.{length}
+use Rattle.numbers.specs.Lists.{store}
+use Rattle.numbers.specs.ListLaws.{length-store}
 use Rattle.model_format.specs.declared.Timing.{Timing}
 use Rattle.model_format.specs.declared.Model.{Model}
 use Rattle.model_format.specs.Model.{maxThreads, switchAt}
@@ -16,11 +15,12 @@ use Rattle.model_semantics.specs.declared.State.{State}
 use Rattle.model_semantics.specs.State.{none, isActive, codeOf, cpuFor, withLive, withPorts, withNow, withEntered, withMode, withPhase, withCpu, withActive, withCode, withDispatchTime, withJob, withBehavior, withMissed}
 use Rattle.model_semantics.specs.Tests.{waitingMode, waitingDispatch, waitingExecution, execution, completed, runs, canComplete}
 use Rattle.model_semantics.specs.StartLaws.{start-passed}
+use Rattle.model_semantics.specs.DeactivateLaws.{deactivated}
 use Rattle.model_semantics.specs.Effects.{dispatch, start, restCode, advance, finish, complete, meetDeadline, miss, request, enter, leave, tick}
 use Rattle.model_semantics.specs.Machine.{startState}
 use Rattle.reached.specs.Reachable.{Reachable}
 use Rattle.reached.specs.Moves.{Move, activates, deactivates, dispatches, starts, completes, meets, misses, requests, enters, leaves, ticks-once, invariant}
-use Rattle.reached.specs.Kept.{end-cpu, end-code, spends}
+use Rattle.reached.specs.Kept.{end-cpu, end-code, code-there, code-elsewhere, start-code, spends}
 
 pub record Held (m : Timing) (s : State) : Type 0 where
   pub sized : length (s .threads .code) ≡ maxThreads
@@ -33,20 +33,12 @@ same-held e c h = record { sized = rw e (h .sized); holder = λ t q. c ∙ h .ho
 
 -- ---- a code stored for thread t
 module _ (m : Timing) (s r : State) (t code : ℕ) (l : t < maxThreads) (e : r .threads .code ≡ store maxThreads (s .threads .code) t code) (h : Held m s) where
-  code-there : codeOf r t ≡ code
-  unfolding codeOf
-  code-there = rw e (let z = h .sized in item-store-same maxThreads (s .threads .code) t code 0 l (omega arith))
-
-  code-elsewhere : (u : ℕ) → (u ≡ t → ⊥) → codeOf r u ≡ codeOf s u
-  unfolding codeOf
-  code-elsewhere u n = rw e (item-store-other maxThreads (s .threads .code) t u code 0 n)
-
   stored-held : (runs code ≡ true → cpuFor m r t ≡ t) → ((u : ℕ) → (u ≡ t → ⊥) → runs (codeOf s u) ≡ true → cpuFor m r u ≡ u) → Held m r
   stored-held here there = record { sized = rw e (length-store maxThreads (s .threads .code) t code ∙ h .sized); holder = λ u q. go u q (ℕ-discrete u t) }
     where
       go : (u : ℕ) → runs (codeOf r u) ≡ true → Dec (u ≡ t) → cpuFor m r u ≡ u
-      go u q (yes k) = let c : codeOf r u ≡ code = ap (codeOf r) k ∙ code-there in here (rw c at q) ∙ sym k
-      go u q (no k) = there u k (rw (code-elsewhere u k) at q)
+      go u q (yes k) = let c : codeOf r u ≡ code = ap (codeOf r) k ∙ code-there s r t code e l (h .sized) in here (rw c at q) ∙ sym k
+      go u q (no k) = there u k (rw (code-elsewhere s r t code e u k) at q)
 
 -- ---- where the processor is free no thread runs
 none-runs : (m : Timing) (s : State) (u : ℕ) → Held m s → s .clock .cpu ≡ none → runs (codeOf s u) ≡ true → ⊥
@@ -70,7 +62,9 @@ module _ (m : Model) (few : m .timing .threads ≤ maxThreads) where
   move-held : (s r : State) → Held (m .timing) s → Move m s r → Held (m .timing) r
   unfolding dispatch start advance finish complete meetDeadline miss request enter leave tick canComplete withLive withPorts withNow withEntered withMode withPhase withActive withCode withDispatchTime withBehavior withMissed withJob withCpu
   move-held s r h (activates t l c) = stored-held (m .timing) s _ t waitingDispatch (omega arith) refl h (λ q. absurd (false≢true q)) (λ u n q. h .holder u q)
-  move-held s r h (deactivates t l c) = stored-held (m .timing) s _ t waitingMode (omega arith) refl h (λ q. absurd (false≢true q)) (λ u n q. h .holder u q)
+  move-held s r h (deactivates t l c) =
+      deactivated (Held (m .timing)) (m .timing) s t (λ j. end-held (m .timing) s _ t waitingMode (omega arith) refl (end-code (m .timing) s t waitingMode) (end-cpu (m .timing) s t waitingMode) h)
+      (λ j. stored-held (m .timing) s _ t waitingMode (omega arith) refl h (λ q. absurd (false≢true q)) (λ u n q. h .holder u q))
   move-held s r h (dispatches t l c) = stored-held (m .timing) s _ t waitingExecution (omega arith) refl h (λ q. absurd (false≢true q)) (λ u n q. h .holder u q)
   move-held s r h (starts t n c) =
       let p = start-passed (m .timing) s t n c in
@@ -90,16 +84,8 @@ module _ (m : Model) (few : m .timing .threads ≤ maxThreads) where
   move-held s r h (leaves q l c) = same-held refl refl h
   move-held s r h (ticks-once c l) = let k = spends s (m .timing .threads) in same-held (k .0) (k .1) h
 
-  start-code : (t : ℕ) → codeOf (startState (m .timing)) t ≡ 0
-  unfolding startState codeOf
-  start-code t = go (decLt t maxThreads)
-    where
-      go : Dec (t < maxThreads) → _≡_ {A = ℕ} (item maxThreads (replicate maxThreads 0) t 0) 0
-      go (yes l) = rw (lt-ltb t maxThreads l) (getD-replicate maxThreads t 0 0 l)
-      go (no l) = item-past maxThreads (replicate maxThreads 0) t 0 (omega arith)
-
   start-held : Held (m .timing) (startState (m .timing))
-  start-held = record { sized = unfold startState in refl; holder = λ t q. absurd (false≢true (sym (ap runs (start-code t)) ∙ q)) }
+  start-held = record { sized = unfold startState in refl; holder = λ t q. absurd (false≢true (sym (ap runs (start-code (m .timing) t)) ∙ q)) }
 
   pub held-reached : (s : State) → Reachable m s → Held (m .timing) s
   held-reached = invariant m (Held (m .timing)) move-held start-held

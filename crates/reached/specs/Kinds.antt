@@ -13,8 +13,8 @@ use Rattle.records.specs.Events.{activateKind, deactivateKind, dispatchKind, st
 use Rattle.model_format.specs.declared.Model.{Model}
 use Rattle.model_semantics.specs.declared.State.{State}
 use Rattle.model_semantics.specs.State.{withCode}
-use Rattle.model_semantics.specs.Tests.{waitingMode, waitingDispatch, canActivate, canDeactivate, canDispatch, canStart, canComplete, canMeetDeadline, canMiss, canEnter, canLeave}
-use Rattle.model_semantics.specs.Effects.{dispatch, start, complete, meetDeadline, miss, request, enter, leave}
+use Rattle.model_semantics.specs.Tests.{waitingDispatch, canActivate, canDeactivate, canDispatch, canStart, canComplete, canMeetDeadline, canMiss, canEnter, canLeave}
+use Rattle.model_semantics.specs.Effects.{dispatch, start, complete, meetDeadline, miss, deactivate, request, enter, leave}
 use Rattle.model_semantics.specs.Machine.{refuse, attempt, ticks, step, onActivate, onDeactivate, onDispatch, onStart, onComplete, onDeadline, onMiss, onRequest, onEnter, onLeave}
 
 module _ (m : Model) (s : State) (e : Event) where
@@ -26,7 +26,7 @@ module _ (m : Model) (s : State) (e : Event) where
   unfolding step onActivate isBroken recordSize
   model-activate k = rw k
 
-  pub model-deactivate : e .kind ≡ deactivateKind → step m s e ≡ attempt (ltb (e .id) (m .timing .threads) && canDeactivate s (e .id)) (withCode s (e .id) waitingMode) s
+  pub model-deactivate : e .kind ≡ deactivateKind → step m s e ≡ attempt (ltb (e .id) (m .timing .threads) && canDeactivate (m .timing) s (e .id)) (deactivate (m .timing) s (e .id)) s
   unfolding step onDeactivate isBroken recordSize
   model-deactivate k = rw k
 

@@ -5,3 +5,4 @@ pub mod Kept
 pub mod Clock
 pub mod Holder
 pub mod OneMode
+pub mod Leaving

@@ -11,8 +11,8 @@ use Rattle.records.specs.Events.{isBroken, lastClock}
 use Rattle.model_format.specs.declared.Model.{Model}
 use Rattle.model_semantics.specs.declared.State.{State}
 use Rattle.model_semantics.specs.State.{nowOf, withCode}
-use Rattle.model_semantics.specs.Tests.{waitingMode, waitingDispatch, canActivate, canDeactivate, canDispatch, canStart, canComplete, canMeetDeadline, canMiss, canEnter, canLeave, isBusy}
-use Rattle.model_semantics.specs.Effects.{dispatch, start, complete, meetDeadline, miss, request, enter, leave, tick}
+use Rattle.model_semantics.specs.Tests.{waitingDispatch, canActivate, canDeactivate, canDispatch, canStart, canComplete, canMeetDeadline, canMiss, canEnter, canLeave, isBusy}
+use Rattle.model_semantics.specs.Effects.{dispatch, start, complete, meetDeadline, miss, deactivate, request, enter, leave, tick}
 use Rattle.model_semantics.specs.Machine.{startState, refuse, attempt, ticks, step}
 use Rattle.reached.specs.Kinds.{model-broken, model-activate, model-deactivate, model-dispatch, model-start, model-complete, model-deadline, model-miss, model-request, model-enter, model-leave, model-tick, OneOf, is-activate, is-deactivate, is-dispatch, is-start, is-complete, is-deadline, is-miss, is-request, is-enter, is-leave, is-tick, one-of}
 use Rattle.reached.specs.Reachable.{Reachable, begin, next}
@@ -20,7 +20,7 @@ use Rattle.reached.specs.Reachable.{Reachable, begin, next}
 -- from a state to the next: by an event whose test passes, or by one tick of a quiet state before the last clock
 pub data Move (m : Model) (s : State) : State → Type 0 where
   activates : (t : ℕ) → t < m .timing .threads → canActivate s t ≡ true → Move m s (withCode s t waitingDispatch)
-  deactivates : (t : ℕ) → t < m .timing .threads → canDeactivate s t ≡ true → Move m s (withCode s t waitingMode)
+  deactivates : (t : ℕ) → t < m .timing .threads → (canDeactivate (m .timing) s t) ≡ true → Move m s (deactivate (m .timing) s t)
   dispatches : (t : ℕ) → t < m .timing .threads → (canDispatch (m .timing) s t) ≡ true → Move m s (dispatch (m .timing) s t)
   starts : (t n : ℕ) → canStart (m .timing) s t n ≡ true → Move m s (start (m .timing) s t n)
   completes : (t : ℕ) → t < m .timing .threads → canComplete s t ≡ true → Move m s (complete m s t)

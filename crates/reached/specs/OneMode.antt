@@ -15,8 +15,9 @@ use Rattle.model_format.specs.declared.Model.{Model}
 use Rattle.model_format.specs.Model.{maxConnections, connectionAt, switchAt, inMode}
 use Rattle.model_semantics.specs.declared.State.{State}
 use Rattle.model_semantics.specs.State.{isLive, withLive, withPorts, withNow, withEntered, withMode, withPhase, withCpu, withActive, withCode, withDispatchTime, withJob, withBehavior, withMissed}
-use Rattle.model_semantics.specs.Tests.{completed}
+use Rattle.model_semantics.specs.Tests.{waitingMode, completed}
 use Rattle.model_semantics.specs.Effects.{dispatch, start, restCode, advance, finish, complete, meetDeadline, miss, request, inBoth, liveIn, enter, leave, tick}
+use Rattle.model_semantics.specs.DeactivateLaws.{deactivated}
 use Rattle.model_semantics.specs.Machine.{startState}
 use Rattle.reached.specs.Reachable.{Reachable}
 use Rattle.reached.specs.Moves.{both, Move, activates, deactivates, dispatches, starts, completes, meets, misses, requests, enters, leaves, ticks-once, invariant}
@@ -79,7 +80,7 @@ module _ (m : Model) (few : m .timing .connections ≤ maxConnections) where
   move-mode : (s r : State) → OneMode (m .timing) s → Move m s r → OneMode (m .timing) r
   unfolding dispatch start advance finish complete meetDeadline miss request enter leave tick withLive withPorts withNow withEntered withMode withPhase withActive withCode withDispatchTime withBehavior withMissed withJob withCpu
   move-mode s r h (activates t l c) = same-live refl h
-  move-mode s r h (deactivates t l c) = same-live refl h
+  move-mode s r h (deactivates t l c) = deactivated (OneMode (m .timing)) (m .timing) s t (λ j. same-live (end-live (m .timing) s t waitingMode) h) (λ j. same-live refl h)
   move-mode s r h (dispatches t l c) = same-live refl h
   move-mode s r h (starts t n c) = same-live refl h
   move-mode s r h (completes t l c) = same-live (end-live (m .timing) (advance m s t) t completed) h

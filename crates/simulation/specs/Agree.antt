@@ -19,11 +19,12 @@ use Rattle.model_semantics.specs.Machine as model-machine
 use Rattle.table_semantics.specs.declared.Variables.{Variables}
 use Rattle.table_semantics.specs.Machine as table-machine
 use Rattle.translation.specs.Shown.{bit}
-use Rattle.translation.specs.Rules.{rulesOf, activateRules, deactivateRules, dispatchRules, startRules, enterRules, leaveRules}
+use Rattle.translation.specs.Rules.{rulesOf, activateRules, dispatchRules, startRules, enterRules, leaveRules}
 use Rattle.simulation.specs.Compared.{Dispatched}
 use Rattle.simulation.specs.Match.{Match}
 use Rattle.simulation.specs.Effects.{firstUpdates, after-dispatch}
-use Rattle.simulation.specs.EffectSimple.{activate-does, deactivate-does, request-does}
+use Rattle.simulation.specs.EffectSimple.{activate-does, request-does}
+use Rattle.simulation.specs.EffectDeactivate.{deactivate-does}
 use Rattle.simulation.specs.EffectDeadline.{deadline-does, miss-does}
 use Rattle.simulation.specs.EffectDispatch.{dispatch-does}
 use Rattle.simulation.specs.EffectStart.{start-does}
@@ -64,10 +65,9 @@ module _ (m : Model) (w : WellFormed m) (d : Dispatched) (s : State) (v : Variab
         (by-rule (m .timing) d s _ v e h (ltb (e .id) (m .timing .threads) && canActivate s (e .id)) _ activateKind (rw k) (λ c. other-does e None (λ z. omega arith) (activate-does (m .timing) (w .timing) d s (v .value) h (e .amount) (e .id) (within (e .id) (m .timing .threads) _ c))))
 
     pub deactivate-after : e .kind ≡ deactivateKind → Agreed
-    unfolding deactivateRules firstUpdates
     deactivate-after k =
         rw (model-deactivate m s e k, table-fires (rulesOf m) v e deactivateKind k b refl, deactivate-rules m d s (v .value) w h (e .id))
-        (by-rule (m .timing) d s _ v e h (ltb (e .id) (m .timing .threads) && canDeactivate s (e .id)) _ deactivateKind (rw k) (λ c. other-does e None (λ z. omega arith) (deactivate-does (m .timing) (w .timing) d s (v .value) h (e .amount) (e .id) (within (e .id) (m .timing .threads) _ c))))
+        (by-rule (m .timing) d s _ v e h (ltb (e .id) (m .timing .threads) && canDeactivate (m .timing) s (e .id)) _ deactivateKind (rw k) (λ c. other-does e None (λ z. omega arith) (deactivate-does (m .timing) (w .timing) d s (v .value) h (e .amount) (e .id) (within (e .id) (m .timing .threads) _ c))))
 
     pub deadline-after : e .kind ≡ deadlineKind → Agreed
     deadline-after k =

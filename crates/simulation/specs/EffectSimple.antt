@@ -1,4 +1,4 @@
--- ACTIVATE, DEACTIVATE and REQUEST.
+-- ACTIVATE, REQUEST, and a code without a job.
 use mathlib.Core.Path.{_≡_, refl, _∙_}
 use mathlib.Core.Bool.{Bool, true, false, cond}
 use mathlib.Core.List.{List, [], _∷_}
@@ -12,13 +12,13 @@ use Rattle.model_format.specs.WellFormed.{GoodTiming}
 use Rattle.model_semantics.specs.declared.Ports.{Ports}
 use Rattle.model_semantics.specs.declared.State.{State}
 use Rattle.model_semantics.specs.State.{isActive, codeOf, dispatchTime, lengthOf, spentOf, behaviorOf, missedOf, nowOf, withPorts, withPhase, withCode}
-use Rattle.model_semantics.specs.Tests.{waitingMode, waitingDispatch, waitingExecution}
+use Rattle.model_semantics.specs.Tests.{waitingDispatch, waitingExecution}
 use Rattle.model_semantics.specs.Effects.{request}
 use Rattle.table_format.specs.declared.Update.{Update}
 use Rattle.table_format.specs.Variables.{variables, nowVar, modeVar, phaseVar, pendingVar, enteredVar, cpuVar, activeVar, stateVar, dispatchVar, dueVar, behaviorVar, missedVar, flagVar, clockVars, inputRoom, threadVar, bufferVar}
 use Rattle.table_semantics.specs.Rules.{valueOf, writes, inconsistent, written}
 use Rattle.translation.specs.Parts.{constant, copied, setTo}
-use Rattle.translation.specs.Rules.{activateRules, deactivateRules, requestGranted, requestIgnored}
+use Rattle.translation.specs.Rules.{activateRules, requestGranted, requestIgnored}
 use Rattle.simulation.specs.Compared.{Dispatched}
 use Rattle.simulation.specs.Match.{Match}
 use Rattle.simulation.specs.GuardSimple.{takesRequest, requestRule}
@@ -136,10 +136,6 @@ module _ (m : Timing) (g : GoodTiming m) (d : Dispatched) (s : State) (v : List 
   pub activate-does : (t : ℕ) → t < m .threads → Does m d (withCode s t waitingDispatch) n v (firstUpdates (activateRules m t))
   unfolding firstUpdates activateRules
   activate-does t l = plain-code-does m g d s v (in-parts m d s v h) n t l waitingDispatch (omega arith)
-
-  pub deactivate-does : (t : ℕ) → t < m .threads → Does m d (withCode s t waitingMode) n v (firstUpdates (deactivateRules m t))
-  unfolding firstUpdates deactivateRules
-  deactivate-does t l = plain-code-does m g d s v (in-parts m d s v h) n t l waitingMode (omega arith)
 
   -- the second rule of REQUEST updates nothing: "otherwise ignored, yet taken"
   pub request-does : (q : ℕ) → Does m d (request m s q) n v (requestRule m s q .updates)

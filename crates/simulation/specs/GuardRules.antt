@@ -10,13 +10,13 @@ use Rattle.records.specs.Events.{activateKind, deactivateKind, dispatchKind, st
 use Rattle.model_format.specs.declared.Model.{Model}
 use Rattle.model_format.specs.WellFormed.{WellFormed}
 use Rattle.model_semantics.specs.declared.State.{State}
-use Rattle.model_semantics.specs.State.{isActive}
+use Rattle.model_semantics.specs.State.{isActive, codeOf}
 use Rattle.model_semantics.specs.Effects.{restCode}
 use Rattle.model_semantics.specs.Tests.{canActivate, canDeactivate, canDispatch, canComplete, canMeetDeadline, canMiss, canEnter, canLeave}
 use Rattle.table_semantics.specs.Rules.{enabledRules}
 use Rattle.translation.specs.Shown.{bit}
 use Rattle.translation.specs.Parts.{Body, stamped}
-use Rattle.translation.specs.Rules.{activateRules, deactivateRules, dispatchRules, startRules, deadlineRule, enterRules, leaveRules, groupsOf, rulesOf}
+use Rattle.translation.specs.Rules.{activateRules, deactivateRule, dispatchRules, startRules, deadlineRule, enterRules, leaveRules, groupsOf, rulesOf}
 use Rattle.simulation.specs.Compared.{Dispatched}
 use Rattle.simulation.specs.Match.{Match}
 use Rattle.simulation.specs.Groups.{enabledBodies, bodiesFor, enabled-rules, bodies-activate, bodies-deactivate, bodies-dispatch, bodies-start, bodies-complete, bodies-deadline, bodies-miss, bodies-request, bodies-enter, bodies-leave}
@@ -40,7 +40,7 @@ module _ (m : Model) (d : Dispatched) (s : State) (v : List Value) (w : WellForm
   pub activate-rules : enabledRules v activateKind i (rulesOf m) ≡ stamped activateKind i (cond (ltb i (m .timing .threads) && canActivate s i) (activateRules (m .timing) i) [])
   activate-rules = of-item m v activateKind i _ _ _ _ (bodies-activate m i) (activate-enabled (m .timing) d s v (w .timing) h i)
 
-  pub deactivate-rules : enabledRules v deactivateKind i (rulesOf m) ≡ stamped deactivateKind i (cond (ltb i (m .timing .threads) && canDeactivate s i) (deactivateRules (m .timing) i) [])
+  pub deactivate-rules : enabledRules v deactivateKind i (rulesOf m) ≡ stamped deactivateKind i (cond (ltb i (m .timing .threads) && canDeactivate (m .timing) s i) (deactivateRule (m .timing) i (codeOf s i) ∷ []) [])
   deactivate-rules = of-item m v deactivateKind i _ _ _ _ (bodies-deactivate m i) (deactivate-enabled (m .timing) d s v (w .timing) h i)
 
   pub dispatch-rules : enabledRules v dispatchKind i (rulesOf m) ≡ stamped dispatchKind i (cond (ltb i (m .timing .threads) && canDispatch (m .timing) s i) (dispatchRules (m .timing) i) [])

@@ -1,25 +1,27 @@
 -- Guards of ACTIVATE, DEACTIVATE, REQUEST, ENTER and LEAVE: the rules of an item that are enabled, by the model's tests.
-use mathlib.Core.Path.{_≡_, refl}
-use mathlib.Core.Bool.{Bool, true, false, cond, _&&_, _||_, not, and-true, or-false}
+use mathlib.Core.Path.{_≡_, refl, _∙_, ap}
+use mathlib.Core.Bool.{Bool, true, false, cond, _&&_, _||_, not, and-true, and-comm, or-false, or-assoc}
 use mathlib.Core.List.{List, [], _∷_}
 use Prim.Native.Nat.{ℕ, _<_, _≤_}
 use native.Mathlib.Omega.{arith}
 use lib.Dec.{eqb}
 use Rattle.numbers.specs.declared.Value.{Value}
 use Rattle.model_format.specs.declared.Timing.{Timing}
-use Rattle.model_format.specs.Model.{maxThreads, switchAt}
+use Rattle.model_format.specs.Model.{maxThreads, threadAt, switchAt, isCritical}
 use Rattle.model_format.specs.WellFormed.{GoodTiming}
 use Rattle.model_semantics.specs.declared.State.{State}
 use Rattle.model_semantics.specs.State.{isActive, codeOf, nowOf}
-use Rattle.model_semantics.specs.Tests.{canActivate, canDeactivate, canEnter, canLeave, waitingMode, waitingDispatch}
+use Rattle.model_semantics.specs.Tests.{canActivate, canDeactivate, canEnter, canLeave, waitingMode, waitingDispatch, waitingExecution, execution, completed, isUnfinished, hasJob}
 use Rattle.table_format.specs.Variables.{nowVar, modeVar, phaseVar, pendingVar, enteredVar, activeVar, stateVar}
+use Rattle.table_format.specs.RuleKinds.{isOneOf}
+use Rattle.table_format.specs.All.{All}
 use Rattle.table_semantics.specs.Rules.{clauseHolds, allHold}
 use Rattle.translation.specs.Shown.{bit}
 use Rattle.translation.specs.Parts.{Body}
-use Rattle.translation.specs.Rules.{activateRules, deactivateRules, requestGranted, requestIgnored, requestRules, enterRules, leaveRules}
+use Rattle.translation.specs.Rules.{activateRules, deactivateRule, stopRules, deactivateRules, requestGranted, requestIgnored, requestRules, enterRules, leaveRules}
 use Rattle.simulation.specs.Compared.{Dispatched}
 use Rattle.simulation.specs.Match.{Match}
-use Rattle.simulation.specs.Groups.{enabledBodies}
+use Rattle.simulation.specs.Groups.{enabledBodies, perCode, Differ, by-state}
 use Rattle.simulation.specs.Guards.{bit-zero, bit-one, equals-constant, differs-constant, differs-variable, multiple-of-constant}
 
 -- "With Phase 0 and Mode the from-mode"
@@ -44,18 +46,45 @@ module _ (m : Timing) (d : Dispatched) (s : State) (v : List Value) (g : GoodTim
           and-true,
         )
 
-    pub deactivate-enabled : enabledBodies v (deactivateRules m t) ≡ cond (canDeactivate s t) (deactivateRules m t) []
-    unfolding deactivateRules canDeactivate enabledBodies allHold clauseHolds
-    deactivate-enabled =
+    -- the rules of DEACTIVATE differ by State
+    leaving-enabled : (c : ℕ) → enabledBodies v (deactivateRule m t c ∷ []) ≡ cond (eqb (codeOf s t) c && not (isActive s t)) (deactivateRule m t c ∷ []) []
+    unfolding enabledBodies allHold clauseHolds
+    leaving-enabled c =
         let k : m .threads ≤ maxThreads = g .threads in
         let b : t < maxThreads = omega arith in
         simp (
           equals-constant v (activeVar t) (bit (isActive s t)) (h .active t b) 0,
-          equals-constant v (stateVar t) (codeOf s t) (h .code t b) waitingDispatch,
+          equals-constant v (stateVar t) (codeOf s t) (h .code t b) c,
           bit-zero (isActive s t),
           or-false,
           and-true,
         )
+        (ap (λ (x : Bool). cond x (deactivateRule m t c ∷ []) []) (and-comm (not (isActive s t)) (eqb (codeOf s t) c)))
+
+    pub deactivate-enabled : enabledBodies v (deactivateRules m t) ≡ cond (canDeactivate m s t) (deactivateRule m t (codeOf s t) ∷ []) []
+    unfolding deactivateRules canDeactivate hasJob isUnfinished perCode Differ isOneOf
+    deactivate-enabled = go (isCritical (threadAt m t))
+      where
+        each : (l : List ℕ) → All (λ (c : ℕ). enabledBodies v (deactivateRule m t c ∷ []) ≡ cond (eqb (codeOf s t) c && not (isActive s t)) (deactivateRule m t c ∷ []) []) l
+        each [] = tt
+        each (c ∷ l) = (leaving-enabled c, each l)
+
+        -- of the codes l just the one that the thread has
+        leaving : (l : List ℕ) (b : Bool) → Differ l → isOneOf l (codeOf s t) ≡ b → enabledBodies v (perCode l (λ c. deactivateRule m t c ∷ [])) ≡
+            cond (not (isActive s t) && b) (deactivateRule m t (codeOf s t) ∷ []) []
+        leaving l b differ e =
+            by-state v (codeOf s t) l (λ c. deactivateRule m t c ∷ []) (deactivateRule m t) (λ c. not (isActive s t)) differ (each l)
+            ∙ ap (λ (x : Bool). cond x (deactivateRule m t (codeOf s t) ∷ []) []) (and-comm (isOneOf l (codeOf s t)) (not (isActive s t)) ∙ ap (λ (x : Bool). not (isActive s t) && x) e)
+
+        in-order : (a b c e : Bool) → (a || (b || (c || (e || false)))) ≡ (a || ((b || c) || e))
+        in-order a b c e = rw (or-false e, or-assoc b c e)
+
+        go : (critical : Bool) → enabledBodies v (deactivateRule m t waitingDispatch ∷ cond critical [] (stopRules m t)) ≡
+            cond (not (isActive s t) && (eqb (codeOf s t) waitingDispatch || (not critical && hasJob (codeOf s t)))) (deactivateRule m t (codeOf s t) ∷ []) []
+        go true = leaving (waitingDispatch ∷ []) _ (refl, tt) refl
+        go false =
+            leaving (waitingDispatch ∷ waitingExecution ∷ execution ∷ completed ∷ []) _ (refl, (refl, (refl, (refl, tt))))
+            (in-order (eqb (codeOf s t) waitingDispatch) (eqb (codeOf s t) waitingExecution) (eqb (codeOf s t) execution) (eqb (codeOf s t) completed))
 
   -- REQUEST always has one enabled rule
   pub request-enabled : (q : ℕ) → enabledBodies v (requestRules m q) ≡ requestRule m s q ∷ []

@@ -13,6 +13,7 @@ pub mod Writes
 pub mod Effects
 pub mod EffectEnd
 pub mod EffectSimple
+pub mod EffectDeactivate
 pub mod EffectPorts
 pub mod EffectDispatch
 pub mod EffectStart

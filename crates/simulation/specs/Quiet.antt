@@ -57,7 +57,7 @@ none-at n p e i l = go (p i) refl
 -- ---- the model's own test, kind by kind
 module _ (m : Timing) (s : State) where
   threads-busy : (n : ℕ) → anyBelow n (threadBusy m s) ≡
-      (anyBelow n (canActivate s) || (anyBelow n (canDeactivate s) || (anyBelow n (canDispatch m s) || (anyBelow n (λ t. canStart m s t (threadAt m t .bcet .0)) ||
+      (anyBelow n (canActivate s) || (anyBelow n (canDeactivate m s) || (anyBelow n (canDispatch m s) || (anyBelow n (λ t. canStart m s t (threadAt m t .bcet .0)) ||
       (anyBelow n (canComplete s) || (anyBelow n (canMeetDeadline m s) || anyBelow n (canMiss m s)))))))
   unfolding threadBusy
   threads-busy n = simp any-or
@@ -74,7 +74,7 @@ module _ (m : Model) (d : Dispatched) (s : State) (v : List Value) (w : WellForm
   some-enabled n f can b e = any-same n _ can (λ i l. any-of-one v (f i) (can i) (b i) (e i l))
 
   groups-busy : groupsBusy v (groupsOf m) ≡ isBusy (m .timing) s
-  unfolding groupsBusy groupsFor itemsOf timingRules rulesFor isOneOf isBusy activateRules deactivateRules dispatchRules startRules enterRules leaveRules
+  unfolding groupsBusy groupsFor itemsOf timingRules rulesFor isOneOf isBusy activateRules dispatchRules startRules enterRules leaveRules
   groups-busy =
       let x = m .timing in
       let n = m .timing .threads in
@@ -85,7 +85,7 @@ module _ (m : Model) (d : Dispatched) (s : State) (v : List Value) (w : WellForm
         switches-busy x s q,
         any-same n (λ t. canStart x s t (threadAt x t .bcet .0)) (mayStart x s) (λ t l. start-shortest x s t g l),
         some-enabled n (activateRules x) (canActivate s) _ (activate-enabled x d s v g h),
-        some-enabled n (deactivateRules x) (canDeactivate s) _ (deactivate-enabled x d s v g h),
+        some-enabled n (deactivateRules x) (canDeactivate x s) _ (deactivate-enabled x d s v g h),
         some-enabled n (dispatchRules x) (canDispatch x s) _ (dispatch-enabled x d s v g h),
         some-enabled n (startRules x) (mayStart x s) _ (start-enabled x d s v g h),
         some-enabled n (completeRules m) (canComplete s) _ (complete-enabled m d s v w h),
@@ -113,7 +113,7 @@ module _ (m : Timing) (d : Dispatched) (s : State) (v : List Value) (h : Match m
   pub quiet-complete : (t : ℕ) → t < m .threads → canComplete s t ≡ false
   unfolding isBusy threadBusy
   quiet-complete t l =
-      fifth (canActivate s t) (canDeactivate s t) (canDispatch m s t) (canStart m s t (threadAt m t .bcet .0)) (canComplete s t) (canMeetDeadline m s t || canMiss m s t)
+      fifth (canActivate s t) (canDeactivate m s t) (canDispatch m s t) (canStart m s t (threadAt m t .bcet .0)) (canComplete s t) (canMeetDeadline m s t || canMiss m s t)
       (none-at (m .threads) (threadBusy m s) (neither (anyBelow (m .threads) (threadBusy m s)) (anyBelow (m .switches) (switchBusy m s)) e) t l)
 
   pub quiet-unspent : (t : ℕ) → t < m .threads → codeOf s t ≡ execution → spentOf s t < lengthOf s t

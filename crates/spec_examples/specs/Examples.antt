@@ -1,5 +1,5 @@
--- The starred examples of document 01, as a group, one of written start values, some of finer field faults and some of START's test (document 02, W2, W3
--- and W4). Those that are runs are proved of the model's run and of the run of its table.
+-- The starred examples of document 01, as a group, one of written start values, some of finer field faults, some of START's test and some of threads that
+-- leave (document 02, W2 to W5). Those that are runs are proved of the model's run and of the run of its table.
 use mathlib.Core.Path.{_≡_, refl}
 use mathlib.Core.List.{List, [], _∷_, _++_}
 use Prim.Native.Nat.{ℕ}
@@ -19,9 +19,12 @@ abbrev ascii : String → List ℕ
 ascii strings.[] = []
 ascii (strings._∷_ c s) = code c ∷ ascii s
 
--- a thread in mode 0
+-- a thread in the modes of a mask, and in mode 0
+abbrev threadIn : ℕ → ℕ → ℕ → ℕ → ℕ → ℕ → List ℕ
+threadIn mask period deadline least most critical = 2 ∷ u32To period (u32To deadline (u32To least (u32To most (mask ∷ critical ∷ 0 ∷ []))))
+
 abbrev thread : ℕ → ℕ → ℕ → ℕ → ℕ → List ℕ
-thread period deadline least most critical = 2 ∷ u32To period (u32To deadline (u32To least (u32To most (1 ∷ critical ∷ 0 ∷ []))))
+thread = threadIn 1
 
 abbrev head : List ℕ
 head = 1 ∷ 1 ∷ 0 ∷ []
@@ -269,3 +272,50 @@ held-steps = (refl, refl)
 due-step : startStep pair (dispatched ++ start 5 ++ tick 4 ++ complete) 1 1 ≡ 1
 unfolding startStep
 due-step = refl
+
+-- ---- "Threads that leave are stopped": thread 0 is in mode 0 alone, thread 1 in both, both with the times of M's; at the request mode 1 is entered
+abbrev leaving : ℕ → List ℕ
+leaving critical = (1 ∷ 2 ∷ 0 ∷ []) ++ threadIn 1 5 4 1 5 critical ++ threadIn 3 5 4 1 5 0 ++ (7 ∷ 0 ∷ 1 ∷ [])
+
+abbrev change : List ℕ
+change = 8 ∷ 0 ∷ 9 ∷ 0 ∷ []
+
+abbrev deactivate : List ℕ
+deactivate = 2 ∷ 0 ∷ []
+
+-- code 2: stopped, or critical and not stopped
+waiting-stopped : Both (leaving 0) (activate ++ dispatch ++ change ++ deactivate) "1 0 1 0\n2 0 3 0\n3 0 8 0\n4 0 9 0\n5 0 2 0\nend 5 0 0\n"
+unfolding steps rules
+waiting-stopped = (refl, refl)
+
+critical-kept : Both (leaving 1) (activate ++ dispatch ++ change ++ deactivate) "1 0 1 0\n2 0 3 0\n3 0 8 0\n4 0 9 0\nend 4 10 0\n"
+unfolding steps rules
+critical-kept = (refl, refl)
+
+-- code 3: no tick passes before the stop, which frees the processor for thread 1
+abbrev runsOn : List ℕ
+runsOn = dispatched ++ start 5 ++ tick 1 ++ change
+
+tick-waits : Both (leaving 0) (runsOn ++ tick 1) "1 0 1 0\n2 0 1 1\n3 0 3 0\n4 0 3 1\n5 0 4 0\n6 1 11 1\n7 1 8 0\n8 1 9 0\nend 8 10 1\n"
+unfolding steps rules
+tick-waits = (refl, refl)
+
+running-stopped : Both (leaving 0) (runsOn ++ deactivate ++ (4 ∷ 1 ∷ u32To 1 []) ++ tick 1) "1 0 1 0\n2 0 1 1\n3 0 3 0\n4 0 3 1\n5 0 4 0\n6 1 11 1\n7 1 8 0\n8 1 9 0\n9 1 2 0\n10 1 4 1\n11 2 11 1\nend 11 0 2\n"
+unfolding steps rules
+running-stopped = (refl, refl)
+
+-- code 4; and where the deadline is now the list chooses, DEACTIVATE or MISS
+completed-stopped : Both (leaving 0) (dispatched ++ start 1 ++ tick 1 ++ complete ++ change ++ deactivate) "1 0 1 0\n2 0 1 1\n3 0 3 0\n4 0 3 1\n5 0 4 0\n6 1 11 1\n7 1 5 0\n8 1 8 0\n9 1 9 0\n10 1 2 0\nend 10 0 1\n"
+unfolding steps rules
+completed-stopped = (refl, refl)
+
+abbrev late : List ℕ
+late = dispatched ++ start 5 ++ tick 4 ++ change
+
+late-stopped : Both (leaving 0) (late ++ deactivate) "1 0 1 0\n2 0 1 1\n3 0 3 0\n4 0 3 1\n5 0 4 0\n6 4 11 4\n7 4 8 0\n8 4 9 0\n9 4 2 0\nend 9 0 4\n"
+unfolding steps rules
+late-stopped = (refl, refl)
+
+late-missed : Both (leaving 0) (late ++ miss) "1 0 1 0\n2 0 1 1\n3 0 3 0\n4 0 3 1\n5 0 4 0\n6 4 11 4\n7 4 8 0\n8 4 9 0\n9 4 7 0\nend 9 0 4\n"
+unfolding steps rules
+late-missed = (refl, refl)

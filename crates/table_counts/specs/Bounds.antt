@@ -7,11 +7,11 @@ use lib.Dec.{eqb}
 use Rattle.numbers.specs.Lists.{foldBelow}
 use Rattle.model_format.specs.declared.Timing.{Timing}
 use Rattle.model_format.specs.declared.Model.{Model}
-use Rattle.model_format.specs.Model.{transitionAt, immediate, delayed, isKind, sourceThread}
+use Rattle.model_format.specs.Model.{threadAt, transitionAt, isCritical, immediate, delayed, isKind, sourceThread}
 use Rattle.model_format.specs.WellFormed.{GoodTiming, WellFormed}
 use Rattle.translation_sizes.specs.declared.Counts.{Counts}
 use Rattle.translation_sizes.specs.Counts.{counts, nothing, _and_, countBelow}
-use Rattle.translation_sizes.specs.Items.{threadCounts, inputCounts, connectionCounts, switchCounts, earlierAt, earlierCounts, sentAt, sentCounts, transitionCounts}
+use Rattle.translation_sizes.specs.Items.{stopCounts, threadCounts, inputCounts, connectionCounts, switchCounts, earlierAt, earlierCounts, sentAt, sentCounts, transitionCounts}
 
 -- at most n of each
 pub record AtMost (n : ℕ) (x : Counts) : Type 0 where
@@ -59,10 +59,16 @@ any-most : (b : Bool) (n : ℕ) (x : Counts) → AtMost n x → AtMost n (cond b
 any-most true n x h = h
 any-most false n x h = record { rules = omega arith; clauses = omega arith; atoms = omega arith; updates = omega arith }
 
+stop-most : (critical : Bool) → AtMost 6 (cond critical nothing stopCounts)
+stop-most true = record { rules = omega arith; clauses = omega arith; atoms = omega arith; updates = omega arith }
+stop-most false = record { rules = omega arith; clauses = omega arith; atoms = omega arith; updates = omega arith }
+
 module _ (m : Timing) where
   pub thread-most : (t : ℕ) → AtMost itemMost (threadCounts m t)
   unfolding threadCounts
-  thread-most t = record { rules = omega arith; clauses = omega arith; atoms = omega arith; updates = omega arith }
+  thread-most t =
+      let s = stop-most (isCritical (threadAt m t)) in
+      record { rules = omega (arith, s .rules); clauses = omega (arith, s .clauses); atoms = omega (arith, s .atoms); updates = omega (arith, s .updates) }
 
   pub connection-most : (c : ℕ) → AtMost itemMost (connectionCounts m c)
   unfolding connectionCounts

@@ -11,7 +11,7 @@ use Rattle.model_format.specs.declared.Thread.{Thread}
 use Rattle.model_format.specs.declared.Owned.{Owned}
 use Rattle.model_format.specs.declared.Connection.{Connection}
 use Rattle.model_format.specs.declared.Timing.{Timing}
-use Rattle.model_format.specs.Model.{threadAt, inputAt, localAt, connectionAt, inMode, immediate, delayed}
+use Rattle.model_format.specs.Model.{threadAt, inputAt, localAt, connectionAt, inMode, isCritical, immediate, delayed}
 use Rattle.translation.specs.Shown.{bit}
 use Rattle.translation_sizes.specs.declared.Counts.{Counts}
 use Rattle.translation_sizes.specs.Counts.{counts, nothing, countBelow, bytesBy, sizeBy}
@@ -19,9 +19,15 @@ use Rattle.translation_sizes.specs.CountLaws.{updates-each}
 use Rattle.translation_sizes.specs.Items.{threadCounts, inputCounts, connectionCounts, switchCounts, headStarts, threadStarts, connectionStarts, inputStarts, localStarts}
 
 module _ (m : Timing) {r : Counts} where
-  pub thread-told : (t : ℕ) → r ≡ counts 11 32 32 25 → r ≡ threadCounts m t
-  unfolding threadCounts
-  thread-told t e = e
+  -- x is thread t, b whether it is critical
+  module _ (t : ℕ) {x : Thread} {b : Bool} (e : x ≡ threadAt m t) (h : b ≡ isCritical x) where
+    pub critical-told : b ≡ true → r ≡ counts 11 32 32 25 → r ≡ threadCounts m t
+    unfolding threadCounts
+    critical-told l k = k ∙ rw (← e, ← h, l)
+
+    pub stopped-told : b ≡ false → r ≡ counts 14 38 38 30 → r ≡ threadCounts m t
+    unfolding threadCounts
+    stopped-told l k = k ∙ rw (← e, ← h, l)
 
   pub inputs-told : (n : ℕ) → n ≡ m .inputs → r ≡ counts 0 0 0 n → r ≡ countBelow (m .inputs) (inputCounts m)
   unfolding inputCounts

@@ -2,10 +2,12 @@
 
 use model_format::DELAYED;
 use model_format::IMMEDIATE;
+use model_format::is_critical;
 use model_words::connection_at;
 use model_words::connections;
 use model_words::inputs;
 use model_words::switches;
+use model_words::thread_at;
 use model_words::threads;
 use table_counts::add;
 use table_counts::count;
@@ -18,10 +20,16 @@ ghost use Rattle.model_words.specs.Words.{timingIn};
 ghost use Rattle.translation_sizes.specs.Counts.{countBelow};
 ghost use Rattle.translation_sizes.specs.Items as items;
 
+// A thread that is not critical has three rules more, by which it is stopped.
 fn thread_counts(model: &[u32], t: usize) -> Counts
     ensures { λ r. ⌜ r ≡ items.threadCounts (timingIn (now (model .entry))) t ⌝ }
 {
-    count(11, 32, 32, 25)
+    let thread = thread_at(model, t);
+    if is_critical(thread) {
+        count(11, 32, 32, 25)
+    } else {
+        count(14, 38, 38, 30)
+    }
 }
 
 pub fn threads_counts(model: &[u32]) -> Counts

@@ -3,6 +3,7 @@
 mod parts;
 
 use model_format::DELAYED;
+use model_format::is_critical;
 use model_semantics::COMPLETED;
 use model_semantics::EXECUTION;
 use model_semantics::NONE;
@@ -40,9 +41,11 @@ use translate_connections::put_sends;
 use translate_connections::put_start_ports;
 use translate_waits::put_delayed_waits;
 use translate_waits::put_immediate_waits;
+ghost use mathlib.Core.Bool.{cond};
 ghost use mathlib.Core.List.{[], _∷_};
 ghost use Rattle.records.specs.Events.{activateKind, deactivateKind, dispatchKind, startKind, deadlineKind, missKind};
 ghost use Rattle.model_format.specs.WellFormed.{GoodTiming};
+ghost use Rattle.model_semantics.specs.Tests.{runs};
 ghost use Rattle.model_words.specs.Words.{timingIn};
 ghost use Rattle.translation.specs.Parts.{stamped};
 ghost use Rattle.translation.specs.Rules as rules;
@@ -58,13 +61,49 @@ pub fn put_activate(output: &mut [u8], at: usize, model: &[u32], thread: u8) -> 
     put_state(output, at, thread, WAITING_DISPATCH)
 }
 
-pub fn put_deactivate(output: &mut [u8], at: usize, model: &[u32], thread: u8) -> usize
-    ensures { λ r. ⌜ WroteRules (now (output .entry)) at (stamped deactivateKind thread (rules.deactivateRules (timingIn (now (model .entry))) thread)) (now (output .exit)) r ⌝ }
+// Only a job that runs has the processor to leave.
+fn put_left(output: &mut [u8], at: usize, model: &[u32], thread: u8, code: u8) -> usize
+    ensures { λ r. ⌜ WroteUpdates (now (output .entry)) at (cond (runs code) (rules.jobEnds (timingIn (now (model .entry))) thread) []) (now (output .exit)) r ⌝ }
+{
+    if code == EXECUTION {
+        put_job_ends(output, at, model, thread)
+    } else {
+        at
+    }
+}
+
+// The rule for the code that the thread leaves with.
+fn put_deactivate_rule(output: &mut [u8], at: usize, model: &[u32], thread: u8, code: u8) -> usize
+    ensures { λ r. ⌜ WroteRules (now (output .entry)) at (stamped deactivateKind thread (rules.deactivateRule (timingIn (now (model .entry))) thread code ∷ [])) (now (output .exit)) r ⌝ }
 {
     let at = put_rule(output, at, DEACTIVATE, thread, 0, 0);
     let at = put_active_is(output, at, thread, 0);
-    let at = put_state_is(output, at, thread, WAITING_DISPATCH);
-    put_state(output, at, thread, WAITING_MODE)
+    let at = put_state_is(output, at, thread, code);
+    let at = put_state(output, at, thread, WAITING_MODE);
+    put_left(output, at, model, thread, code)
+}
+
+// A job in hand is stopped, however far it has come.
+fn put_stops(output: &mut [u8], at: usize, model: &[u32], thread: u8) -> usize
+    ensures { λ r. ⌜ WroteRules (now (output .entry)) at (stamped deactivateKind thread (rules.stopRules (timingIn (now (model .entry))) thread)) (now (output .exit)) r ⌝ }
+{
+    let at = put_deactivate_rule(output, at, model, thread, WAITING_EXECUTION);
+    let at = put_deactivate_rule(output, at, model, thread, EXECUTION);
+    put_deactivate_rule(output, at, model, thread, COMPLETED)
+}
+
+// A critical thread that leaves goes on to its deadline; any other is stopped.
+pub fn put_deactivate(output: &mut [u8], at: usize, model: &[u32], thread: u8) -> usize
+    ensures { λ r. ⌜ WroteRules (now (output .entry)) at (stamped deactivateKind thread (rules.deactivateRules (timingIn (now (model .entry))) thread)) (now (output .exit)) r ⌝ }
+{
+    let own = thread_at(model, thread as usize);
+    let critical = is_critical(own);
+    let at = put_deactivate_rule(output, at, model, thread, WAITING_DISPATCH);
+    if critical {
+        at
+    } else {
+        put_stops(output, at, model, thread)
+    }
 }
 
 // ---- DISPATCH

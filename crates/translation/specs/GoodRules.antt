@@ -12,12 +12,12 @@ use Rattle.records.specs.Format.{constantTag}
 use Rattle.records.specs.Events.{activateKind, deactivateKind, dispatchKind, startKind, completeKind, deadlineKind, missKind, requestKind, enterKind, leaveKind}
 use Rattle.model_format.specs.declared.Timing.{Timing}
 use Rattle.model_format.specs.declared.Model.{Model}
-use Rattle.model_format.specs.Model.{threadAt, inputOwner, connectionAt, switchAt, transitionAt, atomAt, assignmentAt, inMode, immediate, delayed, isKind, sourceThread, targetThread, inputTag, localTag, outputTag}
+use Rattle.model_format.specs.Model.{threadAt, inputOwner, connectionAt, switchAt, transitionAt, atomAt, assignmentAt, inMode, isCritical, immediate, delayed, isKind, sourceThread, targetThread, inputTag, localTag, outputTag}
 use Rattle.model_format.specs.WellFormed.{GoodOperand as ReadOperand, GoodTiming, WellFormed}
 use Rattle.model_format.specs.Reading.{namesItem}
 use Rattle.model_semantics.specs.State.{none}
 use Rattle.model_semantics.specs.Effects.{inBoth}
-use Rattle.model_semantics.specs.Tests.{waitingMode, waitingDispatch, waitingExecution, execution, completed, steady, requested, changing}
+use Rattle.model_semantics.specs.Tests.{waitingMode, waitingDispatch, waitingExecution, execution, completed, steady, requested, changing, runs}
 use Rattle.table_format.specs.declared.Atom.{Atom}
 use Rattle.table_format.specs.declared.Update.{Update}
 use Rattle.table_format.specs.Format.{multipleOp, noMultipleOp}
@@ -29,7 +29,7 @@ use Rattle.table_format.specs.WellFormed.{GoodAtom, GoodUpdate, GoodRule}
 use Rattle.translation.specs.Shown.{bit}
 use Rattle.translation.specs.Parts.{constant, variable, chosenLength, differs, multipleOf, plain, negatedOp, Expression, copied, sumOf, updateWhen, update, setTo, body}
 use Rattle.translation.specs.GoodParts.{GoodOperand, constant-good, variable-good, length-good, compare-good, constant-compare, variable-compare, multiple-good, GoodExpression, copied-good, taken-good, sum-good, update-good, when-good, set-good, GoodBody, groups-good}
-use Rattle.translation.specs.Rules.{cpuVarFor, stateIs, activeIs, dueIsNow, endIsNow, activateRules, deactivateRules, perInto, delayedClause, immediateInto, isImmediatePort, takeBuffer, perInput, dispatchPort, dispatchRules, besideClause, comingClause, startPort, startRules, variableOf, operandOf, atomWith, guardClauses, negatedGuard, perTransition, earlierClause, otherwiseClause, assignedExpression, assignmentUpdates, oldOutput, sentExpression, sendUpdates, jobEnds, transitionRule, defaultRule, completeRules, deadlineRule, deadlineRules, missUpdates, missWaiting, missRunning, missRules, requestRules, phaseIs, activeUpdates, flagUpdates, enterRules, leaveRules, itemsOf, timingRules, rulesFor, groupsFor, groupsOf, rulesOf}
+use Rattle.translation.specs.Rules.{cpuVarFor, stateIs, activeIs, dueIsNow, endIsNow, activateRules, deactivateRule, stopRules, deactivateRules, perInto, delayedClause, immediateInto, isImmediatePort, takeBuffer, perInput, dispatchPort, dispatchRules, besideClause, comingClause, startPort, startRules, variableOf, operandOf, atomWith, guardClauses, negatedGuard, perTransition, earlierClause, otherwiseClause, assignedExpression, assignmentUpdates, oldOutput, sentExpression, sendUpdates, jobEnds, transitionRule, defaultRule, completeRules, deadlineRule, deadlineRules, missUpdates, missWaiting, missRunning, missRules, requestRules, phaseIs, activeUpdates, flagUpdates, enterRules, leaveRules, itemsOf, timingRules, rulesFor, groupsFor, groupsOf, rulesOf}
 
 -- a rule for any length
 body-good : (kind : ℕ) (clauses : List (List Atom)) (updates : List Update) → All (All GoodAtom) clauses → All (GoodUpdate kind) updates → GoodBody kind (body clauses updates)
@@ -65,10 +65,22 @@ module _ (t : ℕ) (h : t < 16) where
   activate-good m =
       body-good activateKind _ _ (active-good 1 (omega arith) also state-good waitingMode (omega arith) also tt) (set-state activateKind waitingDispatch (omega arith) also tt) also tt
 
+  -- the processor is left where the job ran
+  left-good : (m : Timing) (kind : ℕ) (ran : Bool) → All (GoodUpdate kind) (cond ran (jobEnds m t) [])
+  left-good m kind true = ends-good m kind
+  left-good m kind false = tt
+
+  leaves-good : (m : Timing) (code : ℕ) → code < 8 → GoodBody deactivateKind (deactivateRule m t code)
+  leaves-good m code k =
+      body-good deactivateKind _ _ (active-good 0 (omega arith) also state-good code k also tt) (set-state deactivateKind waitingMode (omega arith) also left-good m deactivateKind (runs code))
+
   deactivate-good : (m : Timing) → All (GoodBody deactivateKind) (deactivateRules m t)
   unfolding deactivateRules
-  deactivate-good m =
-      body-good deactivateKind _ _ (active-good 0 (omega arith) also state-good waitingDispatch (omega arith) also tt) (set-state deactivateKind waitingMode (omega arith) also tt) also tt
+  deactivate-good m = leaves-good m waitingDispatch (omega arith) also stops-good (isCritical (threadAt m t))
+    where
+      stops-good : (critical : Bool) → All (GoodBody deactivateKind) (cond critical [] (stopRules m t))
+      stops-good true = tt
+      stops-good false = leaves-good m waitingExecution (omega arith) also leaves-good m execution (omega arith) also leaves-good m completed (omega arith) also tt
 
   -- ---- "7"
   missed-good : (code : ℕ) → code < 8 → All (GoodUpdate missKind) (missUpdates t code)

@@ -14,10 +14,10 @@ use Rattle.model_format.specs.declared.Timing.{Timing}
 use Rattle.model_format.specs.declared.Behavior.{Behavior}
 use Rattle.model_format.specs.declared.Model.{Model}
 use Rattle.model_format.specs.declared.Atom as model-atom
-use Rattle.model_format.specs.Model.{threadAt, inputOwner, connectionAt, switchAt, transitionAt, atomAt, assignmentAt, inMode, inputTag, localTag, outputTag, immediate, delayed, isKind, sourceThread, targetThread}
+use Rattle.model_format.specs.Model.{threadAt, inputOwner, connectionAt, switchAt, transitionAt, atomAt, assignmentAt, inMode, isCritical, inputTag, localTag, outputTag, immediate, delayed, isKind, sourceThread, targetThread}
 use Rattle.model_semantics.specs.State.{none}
 use Rattle.model_semantics.specs.Effects.{inBoth}
-use Rattle.model_semantics.specs.Tests.{waitingMode, waitingDispatch, waitingExecution, execution, completed, steady, requested, changing}
+use Rattle.model_semantics.specs.Tests.{waitingMode, waitingDispatch, waitingExecution, execution, completed, steady, requested, changing, runs}
 use Rattle.table_format.specs.declared.Atom.{Atom}
 use Rattle.table_format.specs.declared.Update.{Update}
 use Rattle.table_format.specs.Variables.{nowVar, modeVar, phaseVar, pendingVar, enteredVar, cpuVar, activeVar, stateVar, dispatchVar, dueVar, endVar, behaviorVar, missedVar, flagVar, inputVar, bufferVar, outputVar, localVar}
@@ -42,12 +42,24 @@ dueIsNow t = plain (equals (dueVar t) (variable nowVar))
 abbrev pub endIsNow : ℕ → List Atom
 endIsNow t = plain (equals (endVar t) (variable nowVar))
 
+-- "State, Cpu, End": a job that runs leaves the processor
+abbrev pub jobEnds : Timing → ℕ → List Update
+jobEnds m t = setTo (cpuVarFor m t) none ∷ setTo (endVar t) 0 ∷ []
+
 -- ---- "1, 2: Active, State; State."
 unfoldable pub activateRules : Timing → ℕ → List Body
 activateRules m t = body (activeIs t 1 ∷ stateIs t waitingMode ∷ []) (setTo (stateVar t) waitingDispatch ∷ []) ∷ []
 
+-- "clauses Active, State; updates State, and for 3 also Cpu and End"
+abbrev pub deactivateRule : Timing → ℕ → ℕ → Body
+deactivateRule m t code = body (activeIs t 0 ∷ stateIs t code ∷ []) (setTo (stateVar t) waitingMode ∷ cond (runs code) (jobEnds m t) [])
+
+-- "For each thread not critical .. three rules after the old one of kind 2, for State 2, 3, 4"
+abbrev pub stopRules : Timing → ℕ → List Body
+stopRules m t = deactivateRule m t waitingExecution ∷ deactivateRule m t execution ∷ deactivateRule m t completed ∷ []
+
 unfoldable pub deactivateRules : Timing → ℕ → List Body
-deactivateRules m t = body (activeIs t 0 ∷ stateIs t waitingDispatch ∷ []) (setTo (stateVar t) waitingMode ∷ []) ∷ []
+deactivateRules m t = deactivateRule m t waitingDispatch ∷ cond (isCritical (threadAt m t)) [] (stopRules m t)
 
 -- ---- "3: State, Active, multiple; per delayed connection in [Flag=0, State(src)=0, State(src)=1, Due(src)≠Now]; updates State,
 -- DispatchTime, Due:=Now+Deadline, ports (condition Flag=0 if immediate)."
@@ -221,9 +233,6 @@ whereSent m kind t from c = only (isKind m kind c && eqb (sourceThread m c) t) (
 
 abbrev pub sendUpdates : Timing → ℕ → ℕ → (ℕ → Expression) → List Update
 sendUpdates m kind t from = joinBelow (m .connections) (whereSent m kind t from)
-
-abbrev pub jobEnds : Timing → ℕ → List Update
-jobEnds m t = setTo (cpuVarFor m t) none ∷ setTo (endVar t) 0 ∷ []
 
 -- what the rules begin with, "State, End=Now" and "State, Cpu, End"
 abbrev pub finishedClauses : ℕ → List (List Atom)

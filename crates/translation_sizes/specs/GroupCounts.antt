@@ -1,6 +1,6 @@
 -- How many records the rules of each kind have, for one thread or one mode transition.
 use mathlib.Core.Path.{_≡_, refl, _∙_, ap}
-use mathlib.Core.Bool.{Bool, cond, _&&_}
+use mathlib.Core.Bool.{Bool, true, false, cond, _&&_}
 use mathlib.Core.List.{List, [], _∷_}
 use Prim.Native.Nat.{ℕ, zero, suc}
 use native.Mathlib.Omega.{arith}
@@ -10,17 +10,17 @@ use Rattle.numbers.specs.Lists.{foldBelow, joinBelow, only}
 use Rattle.model_format.specs.declared.Timing.{Timing}
 use Rattle.model_format.specs.declared.Behavior.{Behavior}
 use Rattle.model_format.specs.declared.Model.{Model}
-use Rattle.model_format.specs.Model.{inputOwner, connectionAt, switchAt, transitionAt, immediate, delayed, isKind, sourceThread, targetThread}
+use Rattle.model_format.specs.Model.{threadAt, inputOwner, connectionAt, switchAt, transitionAt, isCritical, immediate, delayed, isKind, sourceThread, targetThread}
 use Rattle.table_format.specs.declared.Atom.{Atom}
 use Rattle.table_format.specs.declared.Update.{Update}
 use Rattle.translation_sizes.specs.Sums.{sumBelow}
 use Rattle.translation_sizes.specs.SumLaws.{length-join}
 use Rattle.translation.specs.Parts.{Expression, Body}
-use Rattle.translation.specs.Rules.{activateRules, deactivateRules, perInto, delayedClause, isImmediatePort, perInput, dispatchPort, dispatchRules, besideClause, comingClause, startPort, startRules, guardClauses, negatedGuard, perTransition, earlierClause, otherwiseClause, assignmentUpdates, oldOutput, sentExpression, sendUpdate, sendUpdates, transitionRule, defaultRule, completeRules, deadlineRules, missRules, requestRules, activeUpdates, flagUpdates, enterRules, leaveRules}
+use Rattle.translation.specs.Rules.{activateRules, stopRules, deactivateRules, perInto, delayedClause, isImmediatePort, perInput, dispatchPort, dispatchRules, besideClause, comingClause, startPort, startRules, guardClauses, negatedGuard, perTransition, earlierClause, otherwiseClause, assignmentUpdates, oldOutput, sentExpression, sendUpdate, sendUpdates, transitionRule, defaultRule, completeRules, deadlineRules, missRules, requestRules, activeUpdates, flagUpdates, enterRules, leaveRules}
 use Rattle.translation_sizes.specs.declared.Counts.{Counts}
 use Rattle.translation_sizes.specs.Counts.{counts, nothing, _and_, countBelow, atomsIn, clausesCounts, updatesCounts, bodyCounts, bodiesCounts}
 use Rattle.translation_sizes.specs.CountLaws.{same-counts, same-sums, count-same, test-then, and-nothing, clauses-each, count-join, count-when, atoms-append, clauses-append, updates-append, bodies-append}
-use Rattle.translation_sizes.specs.Items.{activateOwn, deactivateOwn, dispatchOwn, startOwn, defaultOwn, deadlineOwn, missOwn, earlierAt, earlierCounts, transitionOwn, otherwiseOwn, requestOwn, enterOwn, leaveOwn}
+use Rattle.translation_sizes.specs.Items.{activateOwn, stopCounts, deactivateOwn, dispatchOwn, startOwn, defaultOwn, deadlineOwn, missOwn, earlierAt, earlierCounts, transitionOwn, otherwiseOwn, requestOwn, enterOwn, leaveOwn}
 
 -- n of one each
 ones : (n : ℕ) → sumBelow n (λ i. 1) ≡ n
@@ -36,7 +36,11 @@ module _ (m : Timing) (t : ℕ) where
 
   pub deactivate-counts : bodiesCounts (deactivateRules m t) ≡ deactivateOwn m t
   unfolding deactivateRules bodiesCounts atomsIn
-  deactivate-counts = refl
+  deactivate-counts = stop-counts (isCritical (threadAt m t))
+    where
+      stop-counts : (critical : Bool) → counts 1 2 2 1 and bodiesCounts (cond critical [] (stopRules m t)) ≡ counts 1 2 2 1 and cond critical nothing stopCounts
+      stop-counts true = refl
+      stop-counts false = refl
 
   pub miss-counts : bodiesCounts (missRules m t) ≡ missOwn m t
   unfolding missRules bodiesCounts atomsIn

@@ -6,7 +6,7 @@ use Rattle.numbers.specs.Values.{natural, sameValue}
 use Rattle.model_format.specs.declared.Timing.{Timing}
 use Rattle.model_format.specs.declared.Behavior.{Behavior}
 use Rattle.model_format.specs.declared.Model.{Model}
-use Rattle.model_format.specs.Model.{threadAt, inputAt, localAt, connectionAt, transitionAt, inMode, immediate, delayed, isKind, sourceThread}
+use Rattle.model_format.specs.Model.{threadAt, inputAt, localAt, connectionAt, transitionAt, inMode, isCritical, immediate, delayed, isKind, sourceThread}
 use Rattle.translation_sizes.specs.Sums.{sumBelow}
 use Rattle.translation.specs.Shown.{bit}
 use Rattle.translation_sizes.specs.declared.Counts.{Counts}
@@ -16,8 +16,15 @@ use Rattle.translation_sizes.specs.Counts.{counts, nothing, _and_, count
 abbrev pub activateOwn : Timing → ℕ → Counts
 activateOwn m t = counts 1 2 2 1
 
+-- "For each thread not critical the table gains three rules .. for State 2, 3, 4, with clauses Active, State; updates State, and for 3 also Cpu and End"
+abbrev pub stopCounts : Counts
+stopCounts = counts 3 6 6 5
+
+abbrev pub stopOwn : Timing → ℕ → Counts
+stopOwn m t = cond (isCritical (threadAt m t)) nothing stopCounts
+
 abbrev pub deactivateOwn : Timing → ℕ → Counts
-deactivateOwn m t = counts 1 2 2 1
+deactivateOwn m t = counts 1 2 2 1 and stopOwn m t
 
 abbrev pub dispatchOwn : Timing → ℕ → Counts
 dispatchOwn m t = counts 1 3 3 3

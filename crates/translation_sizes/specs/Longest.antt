@@ -9,7 +9,7 @@ use Rattle.numbers.specs.Lists.{foldBelow}
 use Rattle.numbers.specs.Values.{natural, sameValue}
 use Rattle.model_format.specs.declared.Timing.{Timing}
 use Rattle.model_format.specs.declared.Model.{Model}
-use Rattle.model_format.specs.Model.{maxThreads, maxInputs, maxConnections, maxLocals, maxSwitches, maxTransitions, threadAt, inputAt, localAt, connectionAt, transitionAt, inMode, immediate, delayed, isKind, sourceThread}
+use Rattle.model_format.specs.Model.{maxThreads, maxInputs, maxConnections, maxLocals, maxSwitches, maxTransitions, threadAt, inputAt, localAt, connectionAt, transitionAt, inMode, isCritical, immediate, delayed, isKind, sourceThread}
 use Rattle.model_format.specs.WellFormed.{GoodTiming, WellFormed}
 use Rattle.table_format.specs.Reading.{longestTable}
 use Rattle.translation.specs.Shown.{bit}
@@ -19,13 +19,14 @@ use Rattle.translation_sizes.specs.Counts.{counts, nothing, countBelow, 
 use Rattle.translation_sizes.specs.Sums.{sumBelow}
 use Rattle.translation_sizes.specs.SumLaws.{sum-within, sum-wider}
 use Rattle.translation_sizes.specs.TableCounts.{table-bytes}
-use Rattle.translation_sizes.specs.Items.{threadCounts, inputCounts, delayedCounts, immediateCounts, connectionCounts, earlierAt, earlierCounts, sentAt, sentCounts, transitionCounts, switchCounts, itemCounts, headStarts, threadStarts, connectionStarts, inputStarts, localStarts, itemStarts}
+use Rattle.translation_sizes.specs.Items.{stopCounts, threadCounts, inputCounts, delayedCounts, immediateCounts, connectionCounts, earlierAt, earlierCounts, sentAt, sentCounts, transitionCounts, switchCounts, itemCounts, headStarts, threadStarts, connectionStarts, inputStarts, localStarts, itemStarts}
 use Rattle.translation_sizes.specs.Starts.{starts-total}
 use Rattle.translation_sizes.specs.Total.{rules-total}
 
--- No made table is longer. A model with the most of everything, no start value 0, all of its transitions those of one thread in one behaviour state, has one as long.
+-- No made table is longer. A model with the most of everything, no start value 0, no thread critical, all of its transitions those of one thread in one behaviour
+-- state, has one as long.
 abbrev pub longestMadeTable : ℕ
-longestMadeTable = 171637
+longestMadeTable = 174485
 
 -- ---- many items
 bytes-below : (n : ℕ) (f : ℕ → Counts) (g : ℕ → ℕ) → ((i : ℕ) → i < n → bytesBy (f i) ≤ g i) → bytesBy (countBelow n f) ≤ sumBelow n g
@@ -42,9 +43,13 @@ any-bytes false c x h = omega arith
 
 -- ---- threads, input ports, connections, mode transitions
 module _ (m : Timing) (g : GoodTiming m) where
-  threads-bytes : bytesBy (countBelow (m .threads) (threadCounts m)) ≤ maxThreads * 866
+  stop-bytes : (critical : Bool) → bytesBy (cond critical nothing stopCounts) ≤ 178
+  stop-bytes true = omega arith
+  stop-bytes false = omega arith
+
+  threads-bytes : bytesBy (countBelow (m .threads) (threadCounts m)) ≤ maxThreads * 1044
   unfolding threadCounts
-  threads-bytes = bytes-within (m .threads) maxThreads 866 (threadCounts m) (g .threads) (λ t l. omega arith)
+  threads-bytes = bytes-within (m .threads) maxThreads 1044 (threadCounts m) (g .threads) (λ t l. omega (arith, stop-bytes (isCritical (threadAt m t))))
 
   inputs-bytes : bytesBy (countBelow (m .inputs) (inputCounts m)) ≤ maxInputs * 17
   unfolding inputCounts

@@ -131,7 +131,7 @@ pub fn enabled(model: &Model, state: &State, kind: u8, id: u8) -> bool {
     }
     match kind {
         ACTIVATE => activate_enabled(state, number),
-        DEACTIVATE => deactivate_enabled(state, number),
+        DEACTIVATE => deactivate_enabled(model, state, number),
         DISPATCH => dispatch_enabled(model, state, number),
         START => start_enabled(model, state, number),
         COMPLETE => complete_enabled(state, number),
@@ -158,7 +158,7 @@ fn take_effect(model: &Model, state: &mut State, event: &Event) {
     let number = usize::from(event.id);
     match event.kind {
         ACTIVATE => state.threads[number].code = WAITING_DISPATCH,
-        DEACTIVATE => state.threads[number].code = WAITING_MODE,
+        DEACTIVATE => deactivate(state, number),
         DISPATCH => dispatch(model, state, number),
         START => start(model, state, event.id, Duration(u64::from(event.length))),
         COMPLETE => complete(model, state, number),
@@ -184,8 +184,30 @@ fn activate_enabled(state: &State, thread: usize) -> bool {
     state.threads[thread].active && state.threads[thread].code == WAITING_MODE
 }
 
-fn deactivate_enabled(state: &State, thread: usize) -> bool {
-    !state.threads[thread].active && state.threads[thread].code == WAITING_DISPATCH
+/// Not active, and waiting for dispatch or to be stopped.
+fn deactivate_enabled(model: &Model, state: &State, thread: usize) -> bool {
+    !state.threads[thread].active
+        && (state.threads[thread].code == WAITING_DISPATCH || may_be_stopped(model, state, thread))
+}
+
+/// A job in hand, completed or not, of a thread that is not critical. Those that
+/// are critical go on to their deadline.
+fn may_be_stopped(model: &Model, state: &State, thread: usize) -> bool {
+    !model.threads[thread].critical
+        && matches!(
+            state.threads[thread].code,
+            WAITING_EXECUTION | EXECUTION | COMPLETED
+        )
+}
+
+/// A stopped job frees the processor that it held and sends nothing.
+fn deactivate(state: &mut State, thread: usize) {
+    if state.threads[thread].code == EXECUTION {
+        state.cpu = NONE;
+    }
+    state.threads[thread].code = WAITING_MODE;
+    state.threads[thread].length = Duration(0);
+    state.threads[thread].spent = Duration(0);
 }
 
 // DISPATCH

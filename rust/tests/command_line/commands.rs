@@ -101,8 +101,8 @@ fn names() {
         "12 2 4 1   START smooth for 3: Cpu=smooth State(smooth)=execution Input(raw position)=3"
     );
     assert_eq!(
-        line(25),
-        "25 12 8 0  REQUEST transition 0 (lesson to exam): Phase=1 Pending=0"
+        line(19),
+        "19 9 8 0   REQUEST transition 0 (lesson to exam): Phase=1 Pending=0"
     );
     let said = text
         .lines()
@@ -187,7 +187,7 @@ fn room_for_the_table() {
         "\
 refused 8 {length} {length} {model}
   cause: the output is shorter than the table
-  what to do: give more room: 'futonkestrel size MODEL' tells how much, at most 171,637 bytes
+  what to do: give more room: 'futonkestrel size MODEL' tells how much, at most 174,485 bytes
 "
     );
     assert_eq!(done.refused(), wanted);
@@ -212,8 +212,8 @@ fn size() {
     let folder = Folder::new("size");
     let table = folder.path("table.bin");
     for (name, bytes, records) in [
-        ("lesson", 5249, "rules 55 clauses 166 atoms 183 updates 162"),
-        ("m", 887, "rules 11 clauses 32 atoms 32 updates 25"),
+        ("lesson", 5605, "rules 61 clauses 178 atoms 195 updates 172"),
+        ("m", 1065, "rules 14 clauses 38 atoms 38 updates 30"),
     ] {
         let model = example(&format!("{name}/model.bin"));
         let wanted = format!("bytes {bytes} {records}\n");
@@ -260,8 +260,8 @@ fn compare() {
     let done = run(&["compare", &model, &table]);
     let wanted = format!(
         "\
-{table} is not the table of {model}: they part at byte 498, in record 66
-  behind         rule 8 DISPATCH thread 0
+{table} is not the table of {model}: they part at byte 854, in record 106
+  behind         rule 14 DISPATCH thread 0
   of the model   Now mod 10 = 0
   in the table   Now mod 11 = 0
 "
@@ -396,7 +396,7 @@ start Active(0) := 1
     assert!(text.contains("\nstart Input(0) := -1\n"), "{text}");
     let rule = "
 
-rule 13 START thread 1 length 1..4
+rule 19 START thread 1 length 1..4
   if State(1) = waiting_execution
   and Cpu = none
   and Due(1) != Now

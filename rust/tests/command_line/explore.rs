@@ -7,6 +7,7 @@ use futonkestrel::{translate_to_vec, Table, Variables};
 
 use crate::promela::{conflicts, events, reached, small_lesson, small_model, table_of, States};
 use crate::random::Random;
+use crate::stops::changing;
 use crate::tools::{bytes_of, example, run, run_with, Done, Folder};
 use crate::xml::elements;
 
@@ -222,6 +223,8 @@ fn states_are_counted() {
     assert_counted("m", &m(), false, &table_of(&m()), 12);
     let lesson = small_lesson(&folder);
     assert_counted("lesson", &lesson, false, &table_of(&lesson), 21);
+    let stops = changing(&folder);
+    assert_counted("stops", &stops, false, &table_of(&stops), 9);
     let mut random = Random::new(7);
     for number in 0..12 {
         let model = small_model(&mut random);

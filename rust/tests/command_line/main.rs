@@ -14,6 +14,7 @@ mod refused_starts;
 mod round_trips;
 mod start_test;
 mod start_values;
+mod stops;
 mod timeline;
 mod tools;
 mod vectors;

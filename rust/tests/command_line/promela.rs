@@ -9,6 +9,7 @@ use std::thread;
 use futonkestrel::{translate_to_vec, Table, Variables};
 
 use crate::random::Random;
+use crate::stops::changing;
 use crate::tools::{bytes_of, example, run, run_with, Folder};
 
 const START: u8 = 4;
@@ -179,6 +180,7 @@ fn spin_reaches_the_same_states() {
     assert_same(&folder, "m", &table_of(&example("m/model.bin")), 12);
     let model = small_lesson(&folder);
     assert_same(&folder, "lesson", &table_of(&model), 21);
+    assert_same(&folder, "stops", &table_of(&changing(&folder)), 9);
     assert_same(&folder, "conflicts", &conflicts(&folder), 7);
 }
 
@@ -325,5 +327,5 @@ fn made_tables_have_no_rules_that_meet() {
     for option in options {
         assert_eq!(option.matches("HOLDS_").count(), 1, "{option}");
     }
-    assert!(text.contains("#define HOLDS_13 ((State_1 == 2) && (Cpu == 255) && (Due_1 != Now) && ((Flag_0 == 0) || "), "{text}");
+    assert!(text.contains("#define HOLDS_19 ((State_1 == 2) && (Cpu == 255) && (Due_1 != Now) && ((Flag_0 == 0) || "), "{text}");
 }

@@ -446,6 +446,38 @@ fn tables_of_others() {
     );
 }
 
+/// Of several rules for an event, what those want that lack least: all of it up to a
+/// number, the others counted.
+#[test]
+fn rules_that_want_different_things() {
+    let folder = Folder::new("wanted");
+    let (table, script) = (
+        folder.path("table.bin"),
+        folder.write("script.bin", &[1, 0]),
+    );
+    let said_of = |rules: &str| {
+        run_with(&["pack", "-", &table], format!("table\n{rules}").as_bytes()).good();
+        said(&run(&["run", &table, &script]).refused())[2].to_string()
+    };
+    let rule = |at: usize, value: usize| {
+        let wants = format!("if Local(0) = {value}\nand Local(1) = 0\nand Local(2) = 0\n");
+        format!("rule {at} ACTIVATE thread 0\n{wants}")
+    };
+    let far = "rule 2 ACTIVATE thread 0\nif Local(3) = 1\nand Local(2) = 1\n";
+    let two = [rule(0, 7), rule(1, 8), far.to_string(), rule(3, 7)].concat();
+    let wanted = "it wants Local(0) = 7 or Local(0) = 8, but Local(0) is 0";
+    assert_eq!(said_of(&two), wanted);
+    for (many, more) in [
+        (16, ""),
+        (17, " or 1 more clause"),
+        (19, " or 3 more clauses"),
+    ] {
+        let rules: String = (0..many).map(|at| rule(at, at + 1)).collect();
+        let end = format!(" or Local(0) = 16{more}, but Local(0) is 0");
+        assert!(said_of(&rules).ends_with(&end), "{}", said_of(&rules));
+    }
+}
+
 /// A table with very many rules: some are told, the others counted.
 #[test]
 fn many_rules_at_once() {

@@ -1,14 +1,11 @@
 //! `start`: the first step of START's test that fails, by number and in words.
 
 use std::collections::BTreeSet;
-use std::env;
-use std::path::Path;
-use std::process::Command;
 
 use futonkestrel::{events, Model, State, Variables};
 
 use crate::random::{self, Random};
-use crate::tools::{bytes_of, example, program, run, run_with, Folder};
+use crate::tools::{bytes_of, example, readme_example, run, run_with, Folder};
 
 /// ACTIVATE and DISPATCH of all four threads of the lesson.
 pub const DISPATCHED: &[u8] = &[1, 0, 1, 1, 1, 2, 1, 3, 3, 0, 3, 1, 3, 2, 3, 3];
@@ -90,7 +87,7 @@ fn what_fails_of_the_state() {
 #[test]
 fn a_code_and_a_deadline() {
     let script = bytes_of(&lesson()[1]);
-    let first: Vec<u8> = events(&script).take(19).flatten().copied().collect();
+    let first: Vec<u8> = events(&script).take(20).flatten().copied().collect();
     let wanted = "1 state: \
                   thread 0 has code 4, completed, where START wants 2, waiting_execution; \
                   the deadline of thread 0, clock 10, is now";
@@ -566,7 +563,7 @@ fn words_and_numbers() {
     let mut random = Random::new(44);
     let examples = ["lesson", "m"].map(|name| bytes_of(&example(&format!("{name}/model.bin"))));
     let mut seen = [0; 5];
-    for number in 0..30 {
+    for number in 0..45 {
         let bytes = match number {
             0..8 => examples[number % 2].clone(),
             _ => joined_model(&mut random),
@@ -592,28 +589,10 @@ fn words_and_numbers() {
     assert!(seen.iter().all(|&times| times > 9), "{seen:?}");
 }
 
-/// The examples that README has of it, run as they stand there.
+/// The examples that README has of it.
 #[test]
 fn examples_in_readme() {
-    let root = Path::new(env!("CARGO_MANIFEST_DIR")).join("..");
-    let readme = include_str!("../../../README.md");
-    let passage = readme.split("### To teach START").nth(1).expect("there");
-    let block = passage.split("```\n").nth(1).expect("an example");
-    let program = program();
-    let folder = Path::new(program.get_program()).parent().expect("a folder");
-    let path = env::var("PATH").expect("there is one");
-    let (calls, answers): (Vec<&str>, Vec<&str>) =
-        block.lines().partition(|line| line.starts_with("$ "));
-    let calls: Vec<&str> = calls.iter().map(|line| &line[2..]).collect();
-    let output = Command::new("sh")
-        .args(["-c", &calls.join("\n")])
-        .env("PATH", format!("{}:{path}", folder.display()))
-        .current_dir(&root)
-        .output()
-        .expect("it runs");
-    let said = String::from_utf8_lossy(&output.stdout);
-    assert_eq!(said.lines().collect::<Vec<_>>(), answers);
-    assert!(output.status.success() && output.stderr.is_empty());
-    let numbers: BTreeSet<&str> = answers.iter().map(|answer| &answer[..1]).collect();
+    let said = readme_example("### To teach START");
+    let numbers: BTreeSet<&str> = said.lines().map(|answer| &answer[..1]).collect();
     assert_eq!(numbers, BTreeSet::from(["0", "1", "2", "3", "4"]));
 }

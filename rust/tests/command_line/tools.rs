@@ -1,5 +1,6 @@
 //! Runs the program as people do: words, files, what it prints and its status.
 
+use std::env;
 use std::fs;
 use std::io::Write;
 use std::path::{Path, PathBuf};
@@ -85,6 +86,27 @@ impl Done {
 /// A file of the examples.
 pub fn example(name: &str) -> String {
     format!("{}/../examples/{name}", env!("CARGO_MANIFEST_DIR"))
+}
+
+/// The first example under a heading of README, run as it stands there; it prints what
+/// README has.
+pub fn readme_example(heading: &str) -> String {
+    let readme = include_str!("../../../README.md");
+    let passage = readme.split(heading).nth(1).expect("there");
+    let block = passage.split("```\n").nth(1).expect("an example");
+    let (calls, answers): (Vec<&str>, Vec<&str>) =
+        block.lines().partition(|line| line.starts_with("$ "));
+    let calls: Vec<&str> = calls.iter().map(|line| &line[2..]).collect();
+    let program = program();
+    let folder = Path::new(program.get_program()).parent().expect("a folder");
+    let path = env::var("PATH").expect("there is one");
+    let mut call = Command::new("sh");
+    call.args(["-c", &calls.join("\n")])
+        .env("PATH", format!("{}:{path}", folder.display()))
+        .current_dir(Path::new(env!("CARGO_MANIFEST_DIR")).join(".."));
+    let said = done(call.output()).good();
+    assert_eq!(said.lines().collect::<Vec<_>>(), answers);
+    said
 }
 
 pub fn bytes_of(file: &str) -> Vec<u8> {

@@ -27,6 +27,7 @@ end 7 0 4
 
 /// The numbers of some of the table's variables.
 pub const NOW: usize = 0;
+pub const CPU: usize = 5;
 pub const ACTIVE: usize = 16;
 pub const STATE: usize = 32;
 pub const DUE: usize = 64;
@@ -46,11 +47,11 @@ pub fn table_of_m() -> Vec<u8> {
 
 /// The size of M's table, counted by hand.
 pub const SIZE_OF_M: Size = Size {
-    bytes: 887,
-    rules: 11,
-    clauses: 32,
-    atoms: 32,
-    updates: 25,
+    bytes: 1065,
+    rules: 14,
+    clauses: 38,
+    atoms: 38,
+    updates: 30,
 };
 
 /// The size of a table, counted record by record.
@@ -80,3 +81,18 @@ pub fn counted(table: &[u8]) -> Size {
 
 /// The lesson of a pad, which has all kinds of records.
 pub const LESSON: &[u8] = include_bytes!("../../../examples/lesson/model.bin");
+
+/// Two modes and the way from the first to the second. Thread 0, which is critical, and
+/// thread 1, which is not, are in the first alone.
+pub const LEAVING: &[u8] = &[
+    0x01, 2, 0, //
+    0x02, 2, 0, 0, 0, 2, 0, 0, 0, 1, 0, 0, 0, 1, 0, 0, 0, 1, 1, 0, //
+    0x02, 4, 0, 0, 0, 4, 0, 0, 0, 1, 0, 0, 0, 3, 0, 0, 0, 1, 0, 0, //
+    0x07, 0, 1,
+];
+
+/// Up to ENTER at clock 2: thread 0 is dispatched again and waits, thread 1 has run for 1 of 3.
+pub const LEFT_WITH_JOBS: &[u8] = &[
+    0x01, 0, 0x01, 1, 0x03, 0, 0x03, 1, 0x04, 0, 1, 0, 0, 0, 0x0B, 1, 0, 0x05, 0, //
+    0x04, 1, 3, 0, 0, 0, 0x08, 0, 0x0B, 1, 0, 0x06, 0, 0x03, 0, 0x09, 0,
+];

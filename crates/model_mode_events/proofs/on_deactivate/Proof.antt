@@ -9,14 +9,14 @@ threads-requires c κs = search needs
 can-deactivate-requires : tie.Need-can-deactivate-requires
 can-deactivate-requires c κs = search needs
 
-put-code-requires : tie.Need-put-code-requires
-put-code-requires c κs = search needs
+deactivate-requires : tie.Need-deactivate-requires
+deactivate-requires c κs = search needs
 
 same-length : tie.Need-same-length
 same-length c = search needs
 
 returns : tie.Need-returns
-returns c = deactivate-made _ _ _ _ _ _ (c .before .before .before .before .before .before .before .threads .ensures) (c .before .before .before .before .before .can-deactivate .ensures) (c .before .before .before .before .if1 .taken) (c .before .before .put-code .ensures)
+returns c = deactivate-made _ _ _ _ _ _ (c .before .before .before .before .before .before .before .threads .ensures) (c .before .before .before .before .before .can-deactivate .ensures) (c .before .before .before .before .if1 .taken) (c .before .before .deactivate .ensures _)
 
 same-length-2 : tie.Need-same-length-2
 same-length-2 c = search needs
@@ -30,7 +30,7 @@ on-deactivate-spec =
     (tie.spec
     threads-requires
     can-deactivate-requires
-    put-code-requires
+    deactivate-requires
     same-length
     returns
     same-length-2

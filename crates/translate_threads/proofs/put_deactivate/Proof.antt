@@ -1,40 +1,43 @@
-use Rattle.translation.specs.Rules.{deactivateRules}
-use Rattle.table_writer.specs.Lists.{joins-clauses}
-use Rattle.translate_waits.specs.Named.{wrote-more}
-use Rattle.translate_threads.specs.Bodies.{wrote-body}
+use Rattle.translate_threads.specs.Deactivates.{wrote-critical, wrote-stopped}
 use borrow.Author.Needs.{needs}
 use Rattle.translate_threads.proofs.put_deactivate.Statement.{statement}
 use Rattle.translate_threads.proofs.put_deactivate.Tie as tie
 
-put-rule-requires : tie.Need-put-rule-requires
-put-rule-requires c κs = search needs
+thread-at-requires : tie.Need-thread-at-requires
+thread-at-requires c κs = search needs
 
-put-active-is-requires : tie.Need-put-active-is-requires
-put-active-is-requires c κs = search needs
+is-critical-requires : tie.Need-is-critical-requires
+is-critical-requires c κs = search needs
 
-put-state-is-requires : tie.Need-put-state-is-requires
-put-state-is-requires c κs = search needs
+put-deactivate-rule-requires : tie.Need-put-deactivate-rule-requires
+put-deactivate-rule-requires c κs = search needs
 
-put-state-requires : tie.Need-put-state-requires
-put-state-requires c κs = search needs
+put-stops-requires : tie.Need-put-stops-requires
+put-stops-requires c κs = search needs
 
 same-length : tie.Need-same-length
 same-length c = search needs
 
 returns : tie.Need-returns
-unfolding deactivateRules
-returns c =
-    wrote-body _ _ _ (c .before .before .before .before .before .before .before .before .before .before .before .before .before .before .before .before .before .before .good .0 .0) (c .before .before .before .before .before .before .before .before .before .before .before .before .before .before .put-rule .ensures)
-    (λ h. wrote-more joins-clauses _ _ h (c .before .before .before .before .before .before .before .before .before .before .put-active-is .ensures) (λ h. (c .before .before .before .before .before .before .put-state-is .ensures)))
-    (λ h. (c .before .before .put-state .ensures))
+returns c = wrote-critical _ _ (c .before .before .before .before .before .before .thread-at .ensures) (c .before .before .before .before .before .is-critical .ensures) (c .before .before .before .put-deactivate-rule .ensures) (c .if1 .taken)
+
+same-length-2 : tie.Need-same-length-2
+same-length-2 c = search needs
+
+returns-2 : tie.Need-returns-2
+returns-2 c =
+    wrote-stopped _ _ (c .before .before .before .before .before .before .before .before .before .before .thread-at .ensures) (c .before .before .before .before .before .before .before .before .before .is-critical .ensures) (c .before .before .before .before .before .before .before .put-deactivate-rule .ensures) (c .before .before .before .before .if1 .left)
+    (c .before .before .before .before .before .before .before .before .before .before .before .before .before .good .0 .0) (c .before .before .put-stops .ensures)
 
 pub put-deactivate-spec : {M : Type 1} → statement M
 put-deactivate-spec =
     tie.close
     (tie.spec
-    put-rule-requires
-    put-active-is-requires
-    put-state-is-requires
-    put-state-requires
+    thread-at-requires
+    is-critical-requires
+    put-deactivate-rule-requires
+    put-stops-requires
     same-length
-    returns)
+    returns
+    same-length-2
+    returns-2)

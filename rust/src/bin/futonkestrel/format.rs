@@ -186,6 +186,7 @@ pub const NO_CONDITION: i64 = 65_535;
 /// Pending and Cpu where there is none.
 pub const NONE: i64 = 255;
 /// Event kinds that are asked for by themselves.
+pub const DEACTIVATE: u8 = 0x02;
 pub const START: u8 = 0x04;
 pub const COMPLETE: u8 = 0x05;
 pub const DEADLINE: u8 = 0x06;
@@ -394,7 +395,7 @@ pub static SCRIPT: Format = Format {
     name: "script",
     kinds: &[
         event(0x01, "ACTIVATE", &[OWNER]),
-        event(0x02, "DEACTIVATE", &[OWNER]),
+        event(DEACTIVATE, "DEACTIVATE", &[OWNER]),
         event(0x03, "DISPATCH", &[OWNER]),
         event(START, "START", &[OWNER, field("for", 4, Number, Length)]),
         event(COMPLETE, "COMPLETE", &[OWNER]),

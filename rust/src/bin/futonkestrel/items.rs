@@ -11,6 +11,8 @@ pub struct Thread {
     /// How long a job may take.
     pub min: i64,
     pub max: i64,
+    /// Whether its jobs are finished when its mode is over; those of others are stopped.
+    pub critical: bool,
 }
 
 pub struct Connection {
@@ -80,6 +82,7 @@ fn thread(record: &Record, names: &Names) -> Thread {
         deadline: field(record, "deadline"),
         min: field(record, "min"),
         max: field(record, "max"),
+        critical: field(record, "critical") == 1,
     }
 }
 

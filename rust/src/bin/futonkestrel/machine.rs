@@ -2,10 +2,11 @@
 //! A model is looked at by its table, which takes the same events: that is
 //! proved.
 
-use std::collections::BTreeMap;
+use std::collections::{BTreeMap, HashSet};
 
 use futonkestrel::{Offer, Table, Variables};
 
+use crate::figures::counted;
 use crate::format::{Item, MULTIPLE, NO_MULTIPLE, REQUEST, SCRIPT, START, TICK};
 use crate::names::Names;
 use crate::record::{records, Record};
@@ -17,7 +18,8 @@ use crate::variables;
 pub const MOST_TICKS: u16 = u16::MAX;
 /// How many such events are tried to find what comes next: longer than any period.
 const TRIES: usize = 16;
-/// So many events are told by name, and only the number of further ones.
+/// So many events, and so many clauses, are told by name, and only the number of further
+/// ones.
 const TOLD: usize = 16;
 
 pub struct Machine<'a> {
@@ -121,7 +123,7 @@ impl<'a> Machine<'a> {
         format!("{shown} refused ({number}) at clock {clock}: {instead}")
     }
 
-    /// What an event that is not enabled lacks first, by the clauses of its rule.
+    /// What an event that is not enabled lacks first, by the clauses of its rules.
     pub fn why_not(&self, event: &[u8], names: &Names) -> Option<String> {
         let (kind, id) = (event[0], event[1]);
         if kind == TICK {
@@ -131,18 +133,35 @@ impl<'a> Machine<'a> {
         if own.is_empty() {
             return Some(self.nothing_for(kind, id));
         }
-        // Of several rules the one that lacks least.
-        let nearest = own
-            .iter()
-            .min_by_key(|rule| failing(rule, &self.variables).len())?;
-        match failing(nearest, &self.variables).first() {
-            Some(clause) => Some(format!("it wants {}", self.lacks(clause, names))),
-            None if nearest.allows(event) => None,
-            None => Some(format!(
-                "its length must be from {} to {}",
-                nearest.low, nearest.high
-            )),
+        let wanted = self.wanted(&own);
+        match wanted.is_empty() {
+            false => Some(format!("it wants {}", self.lacks(&wanted, names))),
+            true => self.wrong_length(&own, event),
         }
+    }
+
+    /// The first clause that fails of those rules that lack least; each of these clauses
+    /// once.
+    fn wanted<'r>(&self, rules: &[&'r Rule]) -> Vec<&'r Vec<Atom>> {
+        let lacking = rules.iter().map(|rule| failing(rule, &self.variables));
+        let lacking: Vec<_> = lacking.collect();
+        let least = lacking.iter().map(Vec::len).min();
+        let nearest = lacking
+            .iter()
+            .filter(|clauses| Some(clauses.len()) == least);
+        let first = nearest.filter_map(|clauses| clauses.first().copied());
+        let mut met = HashSet::new();
+        first.filter(|clause| met.insert(*clause)).collect()
+    }
+
+    /// The lengths of the enabled rule, where the event has another one.
+    fn wrong_length(&self, rules: &[&Rule], event: &[u8]) -> Option<String> {
+        let enabled = |rule: &&&Rule| failing(rule, &self.variables).is_empty();
+        let Rule { low, high, .. } = rules
+            .iter()
+            .find(enabled)
+            .filter(|rule| !rule.allows(event))?;
+        Some(format!("its length must be from {low} to {high}"))
     }
 
     fn rules_for(&self, event: u8, id: u8) -> Vec<&Rule> {
@@ -159,14 +178,19 @@ impl<'a> Machine<'a> {
         }
     }
 
-    /// A clause that fails, with the values that it looks at.
-    fn lacks(&self, clause: &[Atom], names: &Names) -> String {
-        if clause.is_empty() {
+    /// Clauses that fail, of which one would be enough, with the values that they look at.
+    fn lacks(&self, clauses: &[&Vec<Atom>], names: &Names) -> String {
+        let told = &clauses[..clauses.len().min(TOLD)];
+        let atoms: Vec<Atom> = told.iter().copied().flatten().copied().collect();
+        if atoms.is_empty() {
             return "what never holds (an empty clause)".to_string();
         }
-        let atoms: Vec<String> = clause.iter().map(|atom| text::atom(*atom, names)).collect();
+        let mut words: Vec<String> = atoms.iter().map(|atom| text::atom(*atom, names)).collect();
+        if let more @ 1.. = clauses.len() - told.len() {
+            words.push(counted(more, "more clause"));
+        }
         let mut seen: Vec<i64> = Vec::new();
-        for &[_, variable, tag, number] in clause {
+        for [_, variable, tag, number] in atoms {
             seen.push(variable);
             seen.extend((tag == 1).then_some(number));
         }
@@ -177,7 +201,7 @@ impl<'a> Machine<'a> {
             format!("{} is {value}", variables::name_with(*variable, names))
         };
         let values: Vec<String> = seen.iter().map(told).collect();
-        format!("{}, but {}", atoms.join(" or "), values.join(", "))
+        format!("{}, but {}", words.join(" or "), values.join(", "))
     }
 
     /// The numbers of the first rules, two at most, that are enabled for an event.

@@ -22,6 +22,7 @@ mod promela;
 mod record;
 mod rules;
 mod start_words;
+mod stops;
 mod text;
 mod timeline;
 mod variables;

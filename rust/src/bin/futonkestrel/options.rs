@@ -287,11 +287,12 @@ for a refused model or table.",
         about: "draw a model's run as a picture",
         help: "\
 Writes a picture that any browser opens: a lane for each thread (waiting, running,
-done), periods, deadlines and misses, the values that connections carry, the mode,
-the processor and the clock. Each step stands at its instant and has the number
-that it has in the listing of 'steps'. Long quiet stretches are folded, and of a
-long run the steps in which no deadline is missed and no mode changes; what is
-folded is told, and --from and --to show it.
+done), periods, deadlines, misses (MISS) and jobs that are stopped because their
+mode is over (STOP), the values that connections carry, the mode, the processor and
+the clock. Each step stands at its instant and has the number that it has in the
+listing of 'steps'. Long quiet stretches are folded, and of a long run the steps in
+which no deadline is missed, no job is stopped and no mode changes; what is folded
+is told, and --from and --to show it.
 
 A refused model writes no file. A refused event ends the picture; it is explained
 on standard error, and the status is then 1.",

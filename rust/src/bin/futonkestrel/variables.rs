@@ -1,5 +1,7 @@
 //! The variables of a table by name.
 
+use std::ops::RangeInclusive;
+
 use crate::format::{Item, NONE, VARIABLES};
 use crate::names::Names;
 
@@ -72,9 +74,13 @@ pub const CODES: [&str; 5] = [
     "completed",
 ];
 
-/// The codes of a thread that waits for the processor, and of one that has it.
+/// The codes of a thread outside its mode, and of one that has a job in hand: it waits
+/// for the processor, has it, or is done.
+pub const WAITING_MODE: usize = 0;
 pub const WAITING_EXECUTION: usize = 2;
 pub const EXECUTION: usize = 3;
+pub const COMPLETED: usize = 4;
+pub const IN_HAND: RangeInclusive<usize> = WAITING_EXECUTION..=COMPLETED;
 
 /// The word for a processor or a request that nobody has.
 pub const NOBODY: &str = "none";

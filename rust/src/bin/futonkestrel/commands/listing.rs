@@ -3,12 +3,12 @@
 use futonkestrel::refusals::Holder;
 use futonkestrel::{
     events, model_listing, read_table, run_model, run_table, start_test, table_listing, translate,
-    translate_to_vec, Refusal, Table,
+    translate_to_vec, Refusal, Table, Variables,
 };
 
 use super::{tell, tell_file};
 use crate::files::{self, Input};
-use crate::format::{Format, Item, MODEL, REQUEST, SCRIPT, START, TABLE};
+use crate::format::{Format, Item, DEACTIVATE, MODEL, REQUEST, SCRIPT, START, TABLE, TICK};
 use crate::items::Items;
 use crate::look::Look;
 use crate::machine::{item_of_event, Machine};
@@ -16,6 +16,7 @@ use crate::names::Names;
 use crate::options::Call;
 use crate::record::{records, Record};
 use crate::start_words::Asked;
+use crate::stops::{self, with_stop, Stop, Stops};
 use crate::variables::{is_of_table_only, name_with, value_with};
 use crate::{Failure, Status};
 
@@ -181,37 +182,43 @@ impl<'a> Job<'a> {
         let line = machine.refused(part, refusal.number, names);
         let mut lines = vec![format!("step {}: {line}", taken + 1)];
         if refusal.number == NOT_ENABLED {
-            let step = self.failing_step(&machine, part, refusal.start, names);
-            lines.extend(step.or_else(|| machine.why_not(part.bytes, names)));
+            let look = Look::new(machine.variables);
+            let of_model = self.why_model_does_not(&look, part, refusal.start, names);
+            lines.extend(of_model.or_else(|| machine.why_not(part.bytes, names)));
         }
         Some(lines)
     }
 
-    /// The step at which a START that the model refused fails its test, as `start` tells
-    /// it: the clauses of the table's rule stand in another order.
-    fn failing_step(
+    /// Why the model does not take an event, where that says more than the clauses of
+    /// the table's rules, or says it in another order.
+    fn why_model_does_not(
         &self,
-        machine: &Machine,
+        look: &Look,
         event: &Record,
         place: usize,
         names: &Names,
     ) -> Option<String> {
-        let (kind, values) = event.whole()?;
-        if !self.of_model || kind.byte != START {
-            return None;
+        let (kind, values) = event.whole().filter(|_| self.of_model)?;
+        let items = Items::of(self.bytes, names);
+        match kind.byte {
+            DEACTIVATE => stops::finishes(&items, look, values[0] as usize),
+            TICK => stops::awaited(&items, look),
+            START => {
+                // Both fields are unsigned, of 32 bits at most.
+                let [thread, length] = [0, 1].map(|field| values[field] as u32);
+                let step = start_test(self.bytes, &self.events[..place], thread, length);
+                let asked = Asked {
+                    items: &items,
+                    names,
+                    look,
+                    thread,
+                    length,
+                };
+                let words = asked.words(step.expect("it was accepted"));
+                Some(format!("START's test fails at {words}"))
+            }
+            _ => None,
         }
-        // Both fields are unsigned, of 32 bits at most.
-        let [thread, length] = [0, 1].map(|field| values[field] as u32);
-        let step = start_test(self.bytes, &self.events[..place], thread, length);
-        let asked = Asked {
-            items: &Items::of(self.bytes, names),
-            names,
-            look: &Look::new(machine.variables),
-            thread,
-            length,
-        };
-        let words = asked.words(step.expect("it was accepted"));
-        Some(format!("START's test fails at {words}"))
     }
 
     fn machine(&self) -> Option<Machine<'_>> {
@@ -224,15 +231,19 @@ impl<'a> Job<'a> {
         let listing = String::from_utf8_lossy(&self.listing);
         let mut machine = self.machine();
         let modes = self.modes(names);
-        let mut events = events(self.events);
+        let (mut events, mut stops) = (events(self.events), Stops::default());
         let mut text = String::new();
         for line in listing.lines() {
             let mut said = Vec::new();
             if line.starts_with("end") {
                 said.extend(words.then(|| self.end_in_words(line)));
             } else if let (Some(machine), Some(event)) = (&mut machine, events.next()) {
-                let changed = self.changes(machine, event, names);
-                said.extend(words.then(|| happened(event, &changed, names, &modes)));
+                let before = machine.variables;
+                machine.step(event);
+                let stop = stops.see(event, &before, &machine.variables);
+                let changed = self.changes(&before, &machine.variables, names);
+                let is_ignored = changed.is_empty();
+                said.extend(words.then(|| happened(event, stop, is_ignored, names, &modes)));
                 said.extend((values && !changed.is_empty()).then(|| changed.join(" ")));
             }
             text += format!("{line:COLUMN$}  {}", said.join(": ")).trim_end();
@@ -241,15 +252,13 @@ impl<'a> Job<'a> {
         text
     }
 
-    /// Takes the event; the variables that it changed, with their values after it.
-    fn changes(&self, machine: &mut Machine, event: &[u8], names: &Names) -> Vec<String> {
-        let before = machine.variables;
-        machine.step(event);
-        let after = machine.variables.iter().zip(before).zip(0..);
-        let changed = after.filter(|((now, then), variable)| {
-            *now != then && !(self.of_model && is_of_table_only(*variable))
+    /// The variables that an event changed, with their values after it.
+    fn changes(&self, before: &Variables, after: &Variables, names: &Names) -> Vec<String> {
+        let both = after.iter().zip(before).zip(0..);
+        let changed = both.filter(|((now, then), variable)| {
+            now != then && !(self.of_model && is_of_table_only(*variable))
         });
-        let shown = |((now, _), variable): ((&i32, i32), i64)| {
+        let shown = |((now, _), variable): ((&i32, &i32), i64)| {
             format!(
                 "{}={}",
                 name_with(variable, names),
@@ -297,8 +306,15 @@ impl<'a> Job<'a> {
     }
 }
 
-/// An event that was taken: `START thread 0 for 2`.
-fn happened(event: &[u8], changed: &[String], names: &Names, modes: &[String]) -> String {
+/// An event that was taken: `START thread 0 for 2`. One that changes nothing is said to
+/// be ignored, if it is a REQUEST.
+fn happened(
+    event: &[u8],
+    stop: Option<Stop>,
+    is_ignored: bool,
+    names: &Names,
+    modes: &[String],
+) -> String {
     let part = records(&SCRIPT, event);
     let Some((kind, values)) = part.first().and_then(Record::whole) else {
         return String::new();
@@ -315,8 +331,8 @@ fn happened(event: &[u8], changed: &[String], names: &Names, modes: &[String]) -
         let told = modes.get(values[0] as usize);
         words.extend(told.map(|modes| format!("({modes})")));
     }
-    if kind.byte == REQUEST && changed.is_empty() {
+    if kind.byte == REQUEST && is_ignored {
         words.push("ignored".to_string());
     }
-    words.join(" ")
+    with_stop(&words.join(" "), stop)
 }

@@ -19,10 +19,10 @@ pub fn timeline(call: &Call) -> Result<Status, Failure> {
     let (model, script) = files::read_two(&call.operands[0], &call.operands[1])?;
     let job = Job::of_model(call, &model, &script);
     if let Some(table) = &job.table {
-        let steps = steps(&job.listing);
+        let table = Table::read(table).expect("it was accepted");
+        let steps = steps(&job.listing, &table, &script.bytes);
         let range = range::chosen(&steps, from, to)?;
         let pieces = pieces(&steps, range.clone());
-        let table = Table::read(table).expect("it was accepted");
         let moments = moments(&table, &script.bytes, &steps, &pieces, &names);
         let is_whole = range.end == steps.len();
         let subject = Subject {

@@ -2,8 +2,9 @@
 
 use super::folding::Hidden;
 use super::layout::{clocks_of, Column, Frame, Instant, Row};
+use super::steps::Moment;
 use super::svg::Svg;
-use crate::figures::grouped;
+use crate::figures::{counted, grouped};
 
 /// Single ticks are marked where each has so much room.
 const ROOM_FOR_TICK: i32 = 5;
@@ -92,34 +93,42 @@ fn tear_between(left: i32, right: i32, top: i32, bottom: i32) -> String {
     path + "z"
 }
 
+/// What a folded stretch says: a class and a text for each line.
+pub fn sheet_lines(moment: &Moment, hidden: &Hidden) -> Vec<(&'static str, String)> {
+    let steps = grouped((moment.last.number - moment.first.number + 1) as i64);
+    let mut lines = vec![
+        ("folded", format!("{steps} steps folded")),
+        ("folded", clocks_of(moment)),
+        (
+            "folded",
+            format!("{} jobs done", grouped(hidden.done as i64)),
+        ),
+    ];
+    lines.push(match hidden.missed {
+        0 => ("folded", "no miss".to_string()),
+        1 => ("folded bad", "1 miss".to_string()),
+        many => ("folded bad", format!("{} misses", grouped(many as i64))),
+    });
+    if hidden.stopped > 0 {
+        let jobs = counted(hidden.stopped, "job");
+        lines.push(("folded", format!("{jobs} stopped")));
+    }
+    if hidden.mode_events > 0 {
+        let events = counted(hidden.mode_events, "event");
+        lines.push(("folded", format!("{events} of modes")));
+    }
+    lines
+}
+
 fn sheet(svg: &mut Svg, column: &Column, frame: &Frame, hidden: &Hidden) {
     let (top, bottom) = (frame.band() - 2, frame.clock() + 8);
     let path = tear_between(column.left + 6, column.right() - 10, top, bottom);
     svg.path("tear", &path);
-    let centre = column.middle();
-    let moment = column.moment;
-    let steps = grouped((moment.last.number - moment.first.number + 1) as i64);
-    let mut lines = vec![
-        (format!("{steps} steps folded"), "folded"),
-        (clocks_of(moment), "folded"),
-        (
-            format!("{} jobs done", grouped(hidden.done as i64)),
-            "folded",
-        ),
-    ];
-    lines.push(match hidden.missed {
-        0 => ("no miss".to_string(), "folded"),
-        1 => ("1 miss".to_string(), "folded bad"),
-        many => (format!("{} misses", grouped(many as i64)), "folded bad"),
-    });
-    if hidden.mode_events > 0 {
-        let events = grouped(hidden.mode_events as i64);
-        lines.push((format!("{events} events of modes"), "folded"));
-    }
+    let lines = sheet_lines(column.moment, hidden);
     let room = 16 * lines.len() as i32;
     let mut y = (top + bottom - room) / 2 + 13;
-    for (line, class) in lines {
-        svg.text(class, centre, y, &line);
+    for (class, line) in lines {
+        svg.text(class, column.middle(), y, &line);
         y += 16;
     }
 }

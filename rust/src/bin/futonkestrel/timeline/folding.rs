@@ -19,13 +19,19 @@ const AROUND: usize = 14;
 const FEWEST_FOLDED: usize = 12;
 
 /// What stands out, the most important first.
-const OUTSTANDING: [&[u8]; 3] = [&[MISS], &[ENTER, LEAVE], &[REQUEST]];
+const OUTSTANDING: [fn(&Step) -> bool; 4] = [
+    |step| step.kind == MISS,
+    |step| step.stop.is_some(),
+    |step| [ENTER, LEAVE].contains(&step.kind),
+    |step| step.kind == REQUEST,
+];
 
 /// What the steps of a folded piece did.
 #[derive(Clone, Debug, PartialEq, Eq)]
 pub struct Hidden {
     pub done: usize,
     pub missed: usize,
+    pub stopped: usize,
     pub mode_events: usize,
 }
 
@@ -96,8 +102,8 @@ fn drawn_of(steps: &[Step], pieces: &[Piece]) -> Vec<bool> {
     let count = pieces.len();
     draw(&mut drawn, &mut left, 0..AT_THE_START);
     draw(&mut drawn, &mut left, count - AT_THE_END..count);
-    for kinds in OUTSTANDING {
-        let outstanding = |piece: &Piece| kinds.contains(&steps[piece.first].kind);
+    for stands_out in OUTSTANDING {
+        let outstanding = |piece: &Piece| stands_out(&steps[piece.first]);
         for at in (0..count).filter(|at| outstanding(&pieces[*at])) {
             let around = at.saturating_sub(AROUND)..count.min(at + AROUND + 1);
             draw(&mut drawn, &mut left, around);
@@ -132,10 +138,9 @@ fn whole_instants(steps: &[Step], pieces: &[Piece], drawn: &mut [bool]) {
 
 fn folded(steps: &[Step], pieces: &[Piece]) -> Piece {
     let (first, last) = (pieces[0].first, pieces[pieces.len() - 1].last);
+    let steps = &steps[first..=last];
     let count = |kinds: &[u8]| {
-        let of_kinds = steps[first..=last]
-            .iter()
-            .filter(|step| kinds.contains(&step.kind));
+        let of_kinds = steps.iter().filter(|step| kinds.contains(&step.kind));
         of_kinds.count()
     };
     Piece {
@@ -144,6 +149,7 @@ fn folded(steps: &[Step], pieces: &[Piece]) -> Piece {
         hidden: Some(Hidden {
             done: count(&[DEADLINE]),
             missed: count(&[MISS]),
+            stopped: steps.iter().filter(|step| step.stop.is_some()).count(),
             mode_events: count(&[REQUEST, ENTER, LEAVE]),
         }),
     }

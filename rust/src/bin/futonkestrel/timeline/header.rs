@@ -8,6 +8,7 @@ use super::svg::Svg;
 use crate::format::{Item, MISS, REQUEST, SCRIPT, START, TICK};
 use crate::items::Items;
 use crate::machine::item_of_event;
+use crate::stops::with_stop;
 
 /// What stands over a column: `START 2`, `TICK 5`.
 pub fn word(moment: &Moment) -> String {
@@ -31,8 +32,9 @@ pub fn height(moments: &[Moment]) -> i32 {
 pub fn draw(svg: &mut Svg, column: &Column, frame: &Frame, items: &Items) {
     let moment = column.moment;
     let title = if moment.piece.is_one() {
-        let (number, words) = (moment.first.number, &moment.words);
-        format!("step {number}, clock {}: {words}", moment.last.after)
+        let (number, clock) = (moment.first.number, moment.last.after);
+        let words = with_stop(&moment.words, moment.stop());
+        format!("step {number}, clock {clock}: {words}")
     } else {
         format!("steps {}, {}", number_of(moment), clocks_of(moment))
     };

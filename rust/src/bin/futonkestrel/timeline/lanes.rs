@@ -85,6 +85,30 @@ pub fn draw_miss(svg: &mut Svg, column: &Column, frame: &Frame) {
     svg.text("in-miss", column.middle(), middle + 4, "MISS");
 }
 
+/// A stop stands over the codes before and after it too, in a shape of its own.
+pub fn draw_stop(svg: &mut Svg, column: &Column, frame: &Frame, items: &Items) {
+    let Some(stop) = column.moment.stop() else {
+        return;
+    };
+    let step = &column.moment.first;
+    let number = step.id as usize;
+    let (name, clock, how) = (&items.threads[number].name, step.after, stop.how());
+    let words = format!("{name} is stopped at {clock}, {how}");
+    svg.titled(&words, |svg| {
+        stop_sign(svg, column.middle(), frame.lane(number));
+    });
+}
+
+/// Eight corners and the word.
+pub fn stop_sign(svg: &mut Svg, x: i32, middle: i32) {
+    let (left, top) = (x - 20, middle - 6);
+    svg.path(
+        "stop",
+        &format!("M{left} {top}l7 -7h26l7 7v12l-7 7h-26l-7 -7z"),
+    );
+    svg.text("in-stop", x, middle + 4, "STOP");
+}
+
 pub fn draw_processor(svg: &mut Svg, columns: &[Column], frame: &Frame, items: &Items) {
     let middle = frame.processor();
     for block in blocks(columns, |look| look.processor()) {

@@ -1,6 +1,8 @@
 //! Places: columns of steps and of passing time, broken into rows as music is.
 
 use super::arrows::{self, Carried};
+use super::axis;
+use super::folding::Hidden;
 use super::measure::{bold_width, width};
 use super::steps::Moment;
 use crate::figures::grouped;
@@ -17,9 +19,9 @@ pub const LABELS: i32 = 160;
 pub const SMALL: i32 = 12;
 pub const LARGE: i32 = 14;
 
-/// Columns are at least so wide, a miss so that its word has room.
+/// Columns are at least so wide, a miss or a stop so that its word has room.
 const NARROW: i32 = 28;
-const OF_MISS: i32 = 44;
+const OF_WORD: i32 = 44;
 /// Folded ticks.
 const TORN: i32 = 104;
 /// Passing time: what is usual in a run is so wide, one tick at most so wide, and
@@ -158,9 +160,9 @@ fn column<'a>(moment: &'a Moment, items: &'a Items, usual: i64) -> Column<'a> {
     let values: i32 = carried.iter().map(Carried::width).sum();
     let number = bold_width(&number_of(moment), LARGE) + 8;
     let (own, torn) = match &moment.piece.hidden {
-        Some(_) => (width(&clocks_of(moment), LARGE) + 2 * MARGIN, true),
+        Some(hidden) => (width_of_sheet(moment, hidden), true),
         None if moment.is_time() => width_of_ticks(moment.last.after - moment.first.before, usual),
-        None if moment.first.kind == MISS => (OF_MISS, false),
+        None if moment.first.kind == MISS || moment.stop().is_some() => (OF_WORD, false),
         None => (NARROW, false),
     };
     let step = own.max(number);
@@ -172,6 +174,13 @@ fn column<'a>(moment: &'a Moment, items: &'a Items, usual: i64) -> Column<'a> {
         torn,
         carried,
     }
+}
+
+/// Room for the longest line of what is folded.
+fn width_of_sheet(moment: &Moment, hidden: &Hidden) -> i32 {
+    let lines = axis::sheet_lines(moment, hidden);
+    let widths = lines.iter().map(|(_, line)| width(line, LARGE));
+    widths.max().unwrap_or(0) + 2 * MARGIN
 }
 
 /// The width of passing time, and whether it is folded.

@@ -1,7 +1,7 @@
 //! What the signs of a picture mean.
 
 use super::blocks::Block;
-use super::lanes::{draw_code, CODES};
+use super::lanes::{draw_code, stop_sign, CODES};
 use super::layout::{LARGE, MARGIN, PAGE, SMALL};
 use super::marks;
 use super::measure::width;
@@ -15,7 +15,7 @@ const SIGN: i32 = 46;
 /// A sign, drawn from a point at its left, and its meaning.
 type Sign = (fn(&mut Svg, i32, i32), &'static str);
 
-const SIGNS: [Sign; 15] = [
+const SIGNS: [Sign; 16] = [
     (|svg, x, y| code(svg, 0, x, y), "waits for its mode"),
     (|svg, x, y| code(svg, 1, x, y), "waits for its next period"),
     (|svg, x, y| code(svg, 2, x, y), "w: waits for the processor"),
@@ -25,6 +25,10 @@ const SIGNS: [Sign; 15] = [
         "d: done, until its deadline",
     ),
     (miss, "its deadline comes and it is not done"),
+    (
+        |svg, x, y| stop_sign(svg, x + SIGN / 2 - 3, y),
+        "its mode is over and its job stopped",
+    ),
     (
         |svg, x, y| marks::period(svg, x + SIGN / 2, y),
         "a period begins",

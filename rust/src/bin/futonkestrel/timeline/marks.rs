@@ -4,12 +4,10 @@ use super::layout::{Frame, Instant};
 use super::svg::Svg;
 use crate::items::{Items, Thread};
 use crate::look::Look;
+use crate::variables::IN_HAND;
 
 /// From the middle of a lane to the ends of a mark.
 const REACH: i32 = 15;
-
-/// Codes of a job in hand: waiting for the processor, running, done.
-const IN_HAND: std::ops::RangeInclusive<usize> = 2..=4;
 
 pub fn draw(svg: &mut Svg, instant: &Instant, frame: &Frame, items: &Items) {
     let clock = instant.clock;

@@ -10,7 +10,7 @@ use crate::items::Items;
 
 /// The space between two rows.
 const BETWEEN: i32 = 22;
-/// So many misses are told by their steps.
+/// So many misses, and so many stops, are told by their steps.
 const TOLD: usize = 12;
 
 /// What a picture is of.
@@ -69,6 +69,7 @@ fn draw_row(svg: &mut Svg, row: &Row, frame: &Frame, subject: &Subject) {
     for column in columns {
         header::draw(svg, column, frame, items);
         lanes::draw_miss(svg, column, frame);
+        lanes::draw_stop(svg, column, frame, items);
     }
     for column in columns {
         arrows::draw(svg, column, frame, items);
@@ -111,6 +112,9 @@ fn title(svg: &mut Svg, subject: &Subject) -> i32 {
     }
     let (class, misses) = misses(subject.steps);
     say(class, &misses);
+    if let Some(stops) = stops(subject.steps) {
+        say("subtitle", &stops);
+    }
     if let Some(words) = &subject.refused {
         say("subtitle bad", &format!("Refused: {words}."));
     }
@@ -119,25 +123,50 @@ fn title(svg: &mut Svg, subject: &Subject) -> i32 {
 
 /// The misses among the steps, and how they are told.
 fn misses(steps: &[Step]) -> (&'static str, String) {
-    let missed = steps.iter().filter(|step| step.kind == MISS);
-    let numbers: Vec<String> = missed.map(|step| step.number.to_string()).collect();
-    let told = numbers[..numbers.len().min(TOLD)].join(", ");
-    match numbers.len() {
+    let missed = numbers(steps, |step| step.kind == MISS);
+    match missed.len() {
         0 => ("subtitle", "No deadline is missed.".to_string()),
         1 => (
             "subtitle bad",
-            format!("A deadline is missed: step {told}."),
+            format!("A deadline is missed: {}", told(&missed)),
         ),
-        count if count > TOLD => {
-            let all = grouped(count as i64);
-            (
-                "subtitle bad",
-                format!("{all} deadlines are missed: steps {told}, ..."),
-            )
-        }
         count => (
             "subtitle bad",
-            format!("{count} deadlines are missed: steps {told}."),
+            format!(
+                "{} deadlines are missed: {}",
+                grouped(count as i64),
+                told(&missed)
+            ),
         ),
+    }
+}
+
+/// The stops among the steps, where there are any.
+fn stops(steps: &[Step]) -> Option<String> {
+    let stopped = numbers(steps, |step| step.stop.is_some());
+    match stopped.len() {
+        0 => None,
+        1 => Some(format!("A job is stopped: {}", told(&stopped))),
+        count => Some(format!(
+            "{} jobs are stopped: {}",
+            grouped(count as i64),
+            told(&stopped)
+        )),
+    }
+}
+
+/// The numbers of some of the steps.
+fn numbers(steps: &[Step], is_one: impl Fn(&Step) -> bool) -> Vec<String> {
+    let ones = steps.iter().filter(|step| is_one(step));
+    ones.map(|step| step.number.to_string()).collect()
+}
+
+/// `step 5.`, `steps 5, 17.`
+fn told(numbers: &[String]) -> String {
+    let first = numbers[..numbers.len().min(TOLD)].join(", ");
+    match numbers.len() {
+        1 => format!("step {first}."),
+        count if count > TOLD => format!("steps {first}, ..."),
+        _ => format!("steps {first}."),
     }
 }

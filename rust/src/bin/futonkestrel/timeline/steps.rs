@@ -7,6 +7,7 @@ use crate::format::TICK;
 use crate::look::Look;
 use crate::machine::event_words;
 use crate::names::Names;
+use crate::stops::{Stop, Stops};
 
 /// A line of the listing.
 #[derive(Clone, Copy, Debug, PartialEq, Eq)]
@@ -19,6 +20,8 @@ pub struct Step {
     pub kind: u8,
     /// The thread or mode transition; for TICK, how many ticks.
     pub id: i64,
+    /// The job that it stops.
+    pub stop: Option<Stop>,
 }
 
 impl Step {
@@ -27,8 +30,20 @@ impl Step {
     }
 }
 
-/// The steps that a listing has; its last line is none.
-pub fn steps(listing: &[u8]) -> Vec<Step> {
+/// The steps that a listing has; its last line is none. What they stop, the script
+/// tells, run on the table.
+pub fn steps(listing: &[u8], table: &Table, script: &[u8]) -> Vec<Step> {
+    let mut steps = listed(listing);
+    let (mut variables, mut stops) = (table.start(), Stops::default());
+    for (step, event) in steps.iter_mut().zip(events(script)) {
+        let before = variables;
+        let _ = table.step(&mut variables, event);
+        step.stop = stops.see(event, &before, &variables);
+    }
+    steps
+}
+
+fn listed(listing: &[u8]) -> Vec<Step> {
     let mut before = 0;
     let lines = listing.split(|byte| *byte == b'\n');
     let step = |line: &[u8]| {
@@ -41,6 +56,7 @@ pub fn steps(listing: &[u8]) -> Vec<Step> {
             after,
             kind: figure()? as u8,
             id: figure()?,
+            stop: None,
         };
         before = after;
         Some(step)
@@ -66,6 +82,11 @@ impl Moment {
     /// A step that takes no time and has a column of its own.
     pub fn is_event(&self) -> bool {
         self.piece.is_one() && !self.first.is_tick()
+    }
+
+    /// The job that its step stops; what is folded is told elsewhere.
+    pub fn stop(&self) -> Option<Stop> {
+        self.first.stop.filter(|_| self.is_event())
     }
 
     /// Time passes and nothing else happens.

@@ -20,11 +20,13 @@ text { font-family: Arial, "Liberation Sans", "DejaVu Sans", sans-serif; font-si
 .runs { fill: #1f4e8c; stroke: #000; stroke-width: 1; }
 .done { fill: url(#dots); stroke: #000; stroke-width: 1; }
 .miss { fill: #d00000; stroke: #000; stroke-width: 2.5; }
+.stop { fill: #fff; stroke: #000; stroke-width: 2.5; }
 .holds { fill: #fff; stroke: #1f4e8c; stroke-width: 2; }
-.in-waits, .in-done, .in-band, .in-runs, .in-miss, .in-holds { text-anchor: middle; }
+.in-waits, .in-done, .in-band, .in-runs, .in-miss, .in-stop, .in-holds { text-anchor: middle; }
 .in-waits, .in-done, .in-band { stroke: #fff; stroke-width: 3px; paint-order: stroke; stroke-linejoin: round; }
 .in-runs { fill: #fff; font-weight: bold; }
 .in-miss { fill: #fff; font-weight: bold; }
+.in-stop { font-weight: bold; }
 .in-band { font-weight: bold; }
 .steady { fill: #dfe7f3; stroke: #000; stroke-width: 1; }
 .asked { fill: url(#falling); stroke: #000; stroke-width: 1; }
