@@ -38,14 +38,11 @@ fn is_stoppable(thread: Thread, code: u8) -> bool
     !is_critical(thread) & has_job(code)
 }
 
-// Most threads are active, so that comes first.
+// Without a branch: it is asked for every thread at every tick, and a branch here was slower.
 pub fn deactivates(thread: Thread, job: Job) -> bool
     ensures { λ r. ⌜ r ≡ parts.deactivates thread job ⌝ }
 {
-    if job.active {
-        return false;
-    }
-    (job.code == WAITING_DISPATCH) | is_stoppable(thread, job.code)
+    !job.active & ((job.code == WAITING_DISPATCH) | is_stoppable(thread, job.code))
 }
 
 pub fn completes(job: Job) -> bool
