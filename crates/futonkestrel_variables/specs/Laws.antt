@@ -1,10 +1,10 @@
 -- Laws of the variables that a state shows, in the forms in which the code has them.
 use mathlib.Core.Path.{_≡_, refl, sym, _∙_, ap}
-use mathlib.Core.Bool.{Bool, true, false, _||_}
+use mathlib.Core.Bool.{Bool, true, false}
 use mathlib.Core.List.{List}
 use Prim.Native.Nat.{ℕ, _+_, _-_, _%_, _^_, _<_, _≤_}
 use native.Mathlib.Omega.{arith}
-use lib.Dec.{eqb, ltb}
+use lib.Dec.{ltb}
 use lib.ListN.{length}
 use borrow.Author.Tests.{lt-ltb, le-ltb, eq-eqb, ne-eqb}
 use Rattle.numbers.specs.declared.Duration.{Duration}
@@ -14,18 +14,14 @@ use Rattle.model_format.specs.declared.Thread.{Thread}
 use Rattle.model_format.specs.declared.Timing.{Timing}
 use Rattle.model_format.specs.Model.{threadAt}
 use Rattle.model_semantics.specs.declared.State.{State}
-use Rattle.model_semantics.specs.State.{codeOf, dispatchTime, lengthOf, spentOf, nowOf}
-use Rattle.model_semantics.specs.Tests.{waitingExecution, execution, completed, isUnfinished, hasJob, dueOf}
+use Rattle.model_semantics.specs.State.{codeOf, dispatchTime, lengthOf, spentOf}
+use Rattle.model_semantics.specs.Tests.{execution, hasJob, dueOf}
 use Rattle.model_state.specs.Words.{stateIn}
 use Rattle.model_words.specs.Words.{timingIn}
 use Rattle.table_format.specs.Variables.{variables, threadRoom, dueVar, endVar, behaviorVar}
 use Rattle.translation.specs.ShownLaws.{in-block, out-block, block-below}
 use Rattle.futonkestrel_lending.specs.Lending.{lentAs, numbersShown}
 use Rattle.futonkestrel_variables.specs.Shown.{dueNumber, endNumber, shownWithTimes, shownAnswer, shownVariables}
-
-pub job-told : (code : ℕ) → (eqb code waitingExecution || eqb code execution || eqb code completed) ≡ hasJob code
-unfolding hasJob isUnfinished
-job-told code = refl
 
 -- ---- Due and End of thread t: of no thread, of one without such a job, of one with it
 module _ (m : Timing) (s : State) (t : ℕ) {n : ℕ} (e : n ≡ m .threads) where

@@ -1,10 +1,9 @@
 // A state as the variables of a table, Due and End among them.
 
-use model_semantics::COMPLETED;
 use model_semantics::EXECUTION;
-use model_semantics::WAITING_EXECUTION;
 use model_state::code_of;
 use model_state::dispatch_time;
+use model_state::has_job;
 use model_state::length_of;
 use model_state::now_of;
 use model_state::spent_of;
@@ -17,17 +16,10 @@ use table_format::END;
 use table_format::VARIABLES;
 ghost use mathlib.Core.Path.{_≡_};
 ghost use Prim.Native.Nat.{_-_};
-ghost use Rattle.model_semantics.specs.Tests.{hasJob};
 ghost use Rattle.model_state.specs.Words.{stateIn};
 ghost use Rattle.model_words.specs.Words.{timingIn};
 ghost use Rattle.futonkestrel_lending.specs.Lending as lending;
 ghost use Rattle.futonkestrel_variables.specs.Shown as shown;
-
-fn has_job(code: u8) -> bool
-    ensures { λ r. ⌜ r ≡ hasJob code ⌝ }
-{
-    (code == WAITING_EXECUTION) | (code == EXECUTION) | (code == COMPLETED)
-}
 
 fn due_number(model: &[u32], state: &[u32], t: usize) -> u32
     ensures { λ r. ⌜ r ≡ shown.dueNumber (timingIn (now (model .entry))) (stateIn (now (state .entry))) t ⌝ }

@@ -9,7 +9,7 @@ use mir.Val.{SFits}
 use borrow.Author.Tests.{not-false, ltb-true, leb-false, eq-eqb}
 use lib.Dec.{eqb, ltb}
 use Rattle.numbers.specs.Lists.{item, store}
-use Rattle.numbers.specs.ListLaws.{item-store-same, item-store-other}
+use Rattle.numbers.specs.ListLaws.{item-store-same, item-store-other, none-below}
 use Rattle.records.specs.declared.Operand.{Operand}
 use Rattle.records.specs.Refusals.{isNone}
 use Rattle.model_format.specs.declared.Transition.{Transition}
@@ -24,7 +24,7 @@ use Rattle.model_format.specs.Model.{maxTransitions, maxEach, noTransiti
 use Rattle.model_format.specs.Reading.{inOrder, isState, namesItem, operandTag, operandNames, leftTag, targetTag, isAssigned, lastTransition, misplaced, openTransition, transitionFaults, atomFaults, assignmentFaults, causeOf, addTransition, withCounts, addAtom, addAssignment, addRecord, withBehavior, nextReading}
 use Rattle.model_format.specs.WellFormed.{GoodOperand, GoodAtom, GoodAssignment}
 use Rattle.model_format.specs.Arrays.{Filled, filled-more, filled-again, rows-as, rows-next, rows-more}
-use Rattle.model_format.specs.Faultless.{both-true, none-below, faultless, order-item, order-atom, order-assignment}
+use Rattle.model_format.specs.Faultless.{both-true, faultless, order-item, order-atom, order-assignment}
 use Rattle.model_format.specs.Sound.{GoodTransition, SameTarget, Never, SoundBehavior, Sound}
 
 -- record k leaves the behaviour b

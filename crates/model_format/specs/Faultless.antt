@@ -1,12 +1,11 @@
 -- An accepted record has no fault, and stands where its kind may: the facts that reading tests.
 use mathlib.Core.Path.{_≡_, refl}
 use mathlib.Core.Bool.{Bool, true, false, cond, _&&_, _||_}
-use Prim.Native.Nat.{ℕ, zero, suc, _<_, _≤_}
+use Prim.Native.Nat.{ℕ, _<_, _≤_}
 use native.Mathlib.Omega.{arith}
 use native.Mathlib.Decide.{decLt}
 use borrow.Author.Tests.{ltb-true, leb-true, eqb-true, lt-ltb, le-ltb}
 use lib.Dec.{eqb, ltb, leb}
-use Rattle.numbers.specs.Lists.{anyBelow}
 use Rattle.records.specs.declared.Cause.{Cause}
 use Rattle.records.specs.declared.Cause.the-variants.{None, WrongKind, TooMany, WrongField, OtherThread, SetTwice, LongHyperperiod, NamesNothing, FaultyTime}
 use Rattle.records.specs.Refusals.{numberOf, isNone}
@@ -21,16 +20,6 @@ both-true false b h = let z : _≡_ {A = ℕ} 0 1 = cc in absurd (omega arith)
 pub both-false : (a b : Bool) → (a || b) ≡ false → (a ≡ false) × (b ≡ false)
 both-false false b h = (refl, h)
 both-false true b h = let z : _≡_ {A = ℕ} 0 1 = cc in absurd (omega arith)
-
--- of numbers below n none passes p
-pub none-below : (n : ℕ) (p : ℕ → Bool) → anyBelow n p ≡ false → (k : ℕ) → k < n → p k ≡ false
-unfolding anyBelow
-none-below zero p h k l = absurd (omega arith)
-none-below (suc n) p h k l = go (none-below n p (both-false (anyBelow n p) (p n) h .0) k) (decLt k n)
-  where
-    go : (k < n → p k ≡ false) → Dec (k < n) → p k ≡ false
-    go ih (yes b) = ih b
-    go ih (no b) = let q : k ≡ n = omega arith in rw q (both-false (anyBelow n p) (p n) h .1)
 
 -- ---- no fault
 pub record Faultless (f : Faults) : Type 0 where

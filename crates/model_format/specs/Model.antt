@@ -182,11 +182,11 @@ sourceThread m c = outputOwner m (connectionAt m c .source)
 abbrev pub targetThread : Timing → ℕ → ℕ
 targetThread m c = inputOwner m (connectionAt m c .target)
 
--- ---- "H1 is the least common multiple of the old mode's critical periods, H2 of those critical in old and new mode; 1 if none."
 -- "critical (0 or 1)"
 abbrev pub isCritical : Thread → Bool
 isCritical x = eqb (x .critical) 1
 
+-- ---- "H1 is the least common multiple of the old mode's critical periods, H2 of those critical in old and new mode; 1 if none."
 unfoldable pub criticalIn : Thread → ℕ → Bool
 criticalIn x mode = isCritical x && inMode (x .modes) mode
 

@@ -9,7 +9,7 @@ use mir.Val.{SFits}
 use borrow.Author.Tests.{not-false, ltb-true, ltb-false, leb-true, leb-false, eqb-false}
 use lib.Dec.{eqb, ltb, leb}
 use Rattle.numbers.specs.Lists.{item, store}
-use Rattle.numbers.specs.ListLaws.{item-store-same, item-store-other}
+use Rattle.numbers.specs.ListLaws.{item-store-same, item-store-other, none-below}
 use Rattle.records.specs.Refusals.{isNone}
 use Rattle.records.specs.Events.{lastClock}
 use Rattle.model_format.specs.declared.Head.{Head}
@@ -27,7 +27,7 @@ use Rattle.model_format.specs.Reading.{inOrder, timesFit, longestTime, m
 use Rattle.model_format.specs.WellFormed.{GoodThread, GoodAtom, GoodAssignment}
 use Rattle.model_format.specs.Arrays.{filled-as, filled-more, rows-none}
 use Rattle.model_format.specs.Hyperperiods.{hyperperiod-positive}
-use Rattle.model_format.specs.Faultless.{both-true, both-false, none-below, faultless, order-head, order-item}
+use Rattle.model_format.specs.Faultless.{both-true, both-false, faultless, order-head, order-item}
 use Rattle.model_format.specs.Sound.{GoodInput, GoodConnection, GoodSwitch, SameTarget, Never, SoundTiming, SoundBehavior, SoundHead, Sound}
 
 -- ---- a model without transitions, with other timing

@@ -14,6 +14,7 @@ pub use reading::buffer_value;
 pub use reading::clock_of;
 pub use reading::code_of;
 pub use reading::dispatch_time;
+pub use reading::has_job;
 pub use reading::input_value;
 pub use reading::is_active;
 pub use reading::is_live;

@@ -6,7 +6,10 @@ use model_format::MAX_INPUTS;
 use model_format::MAX_LOCALS;
 use model_format::MAX_OUTPUTS;
 use model_format::MAX_THREADS;
+use model_semantics::COMPLETED;
 use model_semantics::Clock;
+use model_semantics::EXECUTION;
+use model_semantics::WAITING_EXECUTION;
 use numbers::Duration;
 use numbers::Value;
 use numbers::value_of;
@@ -14,6 +17,7 @@ use numbers::word_at;
 ghost use mathlib.Core.Path.{_≡_};
 ghost use Rattle.numbers.specs.Values.{duration};
 ghost use Rattle.model_semantics.specs.State as semantics;
+ghost use Rattle.model_semantics.specs.Tests as tests;
 ghost use Rattle.model_state.specs.Words as words;
 
 // A byte, by the remainder.
@@ -66,6 +70,13 @@ pub fn code_of(state: &[u32], thread: usize) -> u8
         return 0;
     }
     byte_of(word_at(state, layout::CODE + thread))
+}
+
+// Whether a code is that of a job in hand: one that waits for the processor, runs, or is done.
+pub fn has_job(code: u8) -> bool
+    ensures { λ r. ⌜ r ≡ tests.hasJob code ⌝ }
+{
+    ((code == WAITING_EXECUTION) | (code == EXECUTION)) | (code == COMPLETED)
 }
 
 pub fn dispatch_time(state: &[u32], thread: usize) -> Duration

@@ -11,6 +11,7 @@ use model_semantics::NONE;
 use model_semantics::WAITING_DISPATCH;
 use model_semantics::WAITING_EXECUTION;
 use model_semantics::WAITING_MODE;
+use model_state::has_job;
 use numbers::is_multiple;
 ghost use mathlib.Core.Path.{_≡_};
 ghost use Prim.Native.Nat.{_+_};
@@ -23,12 +24,6 @@ pub fn activates(job: Job) -> bool
     ensures { λ r. ⌜ r ≡ jobs.activates job ⌝ }
 {
     job.active & (job.code == WAITING_MODE)
-}
-
-pub fn has_job(code: u8) -> bool
-    ensures { λ r. ⌜ r ≡ tests.hasJob code ⌝ }
-{
-    ((code == WAITING_EXECUTION) | (code == EXECUTION)) | (code == COMPLETED)
 }
 
 // A thread that leaves with a job in hand is stopped, unless it is critical.

@@ -7,7 +7,6 @@ mod threads;
 mod views;
 
 pub use jobs::deactivates;
-pub use jobs::has_job;
 use model_format::Thread;
 use model_semantics::Clock;
 pub use modes::can_enter;

@@ -113,6 +113,14 @@ any-some (suc n) p k l e = go (λ b. any-some n p k b e) (decLt k n)
     go ih (yes b) = rw (ih b)
     go ih (no b) = let q : k ≡ n = omega arith in rw (ap p (sym q) ∙ e, or-true (anyBelow n p))
 
+-- of numbers below n none passes p
+pub none-below : (n : ℕ) (p : ℕ → Bool) → anyBelow n p ≡ false → (k : ℕ) → k < n → p k ≡ false
+none-below n p e k l = go (p k) refl
+  where
+    go : (b : Bool) → p k ≡ b → b ≡ false
+    go true q = sym (any-some n p k l q) ∙ e
+    go false q = refl
+
 pub all-not : (n : ℕ) (p : ℕ → Bool) (k : ℕ) → k < n → p k ≡ false → allBelow n p ≡ false
 unfolding allBelow and-false
 all-not zero p k l e = absurd (omega arith)

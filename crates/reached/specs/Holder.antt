@@ -15,12 +15,12 @@ use Rattle.model_semantics.specs.declared.State.{State}
 use Rattle.model_semantics.specs.State.{none, isActive, codeOf, cpuFor, withLive, withPorts, withNow, withEntered, withMode, withPhase, withCpu, withActive, withCode, withDispatchTime, withJob, withBehavior, withMissed}
 use Rattle.model_semantics.specs.Tests.{waitingMode, waitingDispatch, waitingExecution, execution, completed, runs, canComplete}
 use Rattle.model_semantics.specs.StartLaws.{start-passed}
-use Rattle.model_semantics.specs.DeactivateLaws.{deactivated}
+use Rattle.model_semantics.specs.DeactivateLaws.{deactivated, idle-still}
 use Rattle.model_semantics.specs.Effects.{dispatch, start, restCode, advance, finish, complete, meetDeadline, miss, request, enter, leave, tick}
 use Rattle.model_semantics.specs.Machine.{startState}
 use Rattle.reached.specs.Reachable.{Reachable}
 use Rattle.reached.specs.Moves.{Move, activates, deactivates, dispatches, starts, completes, meets, misses, requests, enters, leaves, ticks-once, invariant}
-use Rattle.reached.specs.Kept.{end-cpu, end-code, code-there, code-elsewhere, start-code, spends}
+use Rattle.reached.specs.Kept.{end-cpu, end-code, code-there, code-elsewhere, start-code, rest-idle, spends}
 
 pub record Held (m : Timing) (s : State) : Type 0 where
   pub sized : length (s .threads .code) ≡ maxThreads
@@ -54,10 +54,6 @@ end-held m s r t code l f e c h = stored-held m s r t code l e h (λ q. absurd (
     go true k u n q = absurd (n (sym (h .holder u q) ∙ h .holder t k))
     go false k u n q = h .holder u q
 
-rest-still : (b : Bool) → runs (cond b waitingDispatch waitingMode) ≡ false
-rest-still true = refl
-rest-still false = refl
-
 module _ (m : Model) (few : m .timing .threads ≤ maxThreads) where
   move-held : (s r : State) → Held (m .timing) s → Move m s r → Held (m .timing) r
   unfolding dispatch start advance finish complete meetDeadline miss request enter leave tick canComplete withLive withPorts withNow withEntered withMode withPhase withActive withCode withDispatchTime withBehavior withMissed withJob withCpu
@@ -73,8 +69,8 @@ module _ (m : Model) (few : m .timing .threads ≤ maxThreads) where
   move-held s r h (completes t l c) =
       end-held (m .timing) (advance m s t) _ t completed (omega arith) refl (end-code (m .timing) (advance m s t) t completed) (end-cpu (m .timing) (advance m s t) t completed) (same-held refl refl h)
   move-held s r h (meets t l c) =
-      stored-held (m .timing) s _ t (restCode s t) (omega arith) refl h (λ q. absurd (false≢true (sym (rest-still (isActive s t)) ∙ q))) (λ u n q. h .holder u q)
-  move-held s r h (misses t l c) = end-held (m .timing) s _ t (restCode s t) (omega arith) (rest-still (isActive s t)) (end-code (m .timing) s t (restCode s t)) (end-cpu (m .timing) s t (restCode s t)) h
+      stored-held (m .timing) s _ t (restCode s t) (omega arith) refl h (λ q. absurd (false≢true (sym (idle-still (restCode s t) (rest-idle (isActive s t))) ∙ q))) (λ u n q. h .holder u q)
+  move-held s r h (misses t l c) = end-held (m .timing) s _ t (restCode s t) (omega arith) (idle-still (restCode s t) (rest-idle (isActive s t))) (end-code (m .timing) s t (restCode s t)) (end-cpu (m .timing) s t (restCode s t)) h
   move-held s r h (requests q l) = go (eqb (s .clock .phase) 0 && eqb (s .clock .mode) (switchAt (m .timing) q .from))
     where
       go : (b : Bool) → Held (m .timing) (cond b (withPhase s 1 q) s)

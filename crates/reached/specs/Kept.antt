@@ -13,7 +13,7 @@ use Rattle.model_format.specs.declared.Timing.{Timing}
 use Rattle.model_format.specs.Model.{maxThreads}
 use Rattle.model_semantics.specs.declared.State.{State}
 use Rattle.model_semantics.specs.State.{none, codeOf, spentOf, nowOf, withCpu, withCode, withJob, withSpent}
-use Rattle.model_semantics.specs.Tests.{runs}
+use Rattle.model_semantics.specs.Tests.{waitingMode, waitingDispatch, runs, isUnfinished, hasJob}
 use Rattle.model_semantics.specs.Effects.{endJob}
 use Rattle.model_semantics.specs.Machine.{startState}
 
@@ -68,6 +68,12 @@ module _ (s r : State) (t code : ℕ) (e : r .threads .code ≡ store maxThreads
   pub code-elsewhere : (u : ℕ) → (u ≡ t → ⊥) → codeOf r u ≡ codeOf s u
   unfolding codeOf
   code-elsewhere u n = rw e (item-store-other maxThreads (s .threads .code) t u code 0 n)
+
+-- a thread at rest has no job
+pub rest-idle : (b : Bool) → hasJob (cond b waitingDispatch waitingMode) ≡ false
+unfolding hasJob isUnfinished
+rest-idle true = refl
+rest-idle false = refl
 
 -- at the start all codes are 0
 pub start-code : (m : Timing) (t : ℕ) → codeOf (startState m) t ≡ 0

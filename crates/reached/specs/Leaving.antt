@@ -8,11 +8,12 @@ use lib.Dec.{eqb}
 use lib.ListN.{length}
 use borrow.Author.Tests.{eq-eqb, eqb-true, not-true}
 use Rattle.numbers.specs.declared.Duration.{Duration}
-use Rattle.numbers.specs.Lists.{store}
-use Rattle.numbers.specs.ListLaws.{length-store, any-some}
+use Rattle.numbers.specs.Lists.{store, anyBelow}
+use Rattle.numbers.specs.ListLaws.{length-store, none-below}
 use Rattle.model_format.specs.declared.Timing.{Timing}
 use Rattle.model_format.specs.declared.Model.{Model}
 use Rattle.model_format.specs.Model.{maxThreads, threadAt, switchAt, isCritical}
+use Rattle.model_format.specs.Faultless.{both-false}
 use Rattle.model_semantics.specs.declared.State.{State}
 use Rattle.model_semantics.specs.State.{isActive, codeOf, nowOf, withLive, withPorts, withNow, withEntered, withMode, withPhase, withCpu, withActive, withCode, withDispatchTime, withJob, withBehavior, withMissed}
 use Rattle.model_semantics.specs.Tests.{waitingMode, waitingDispatch, waitingExecution, execution, completed, steady, changing, isUnfinished, hasJob, canActivate, canDeactivate, canDispatch, canComplete, canLeave, threadBusy, isBusy}
@@ -22,7 +23,7 @@ use Rattle.model_semantics.specs.Effects.{dispatch, start, endJob, restCode, ad
 use Rattle.model_semantics.specs.Machine.{startState}
 use Rattle.reached.specs.Reachable.{Reachable}
 use Rattle.reached.specs.Moves.{both, Move, activates, deactivates, dispatches, starts, completes, meets, misses, requests, enters, leaves, ticks-once, invariant}
-use Rattle.reached.specs.Kept.{code-there, code-elsewhere, start-code, end-now, end-code, end-stays, spends}
+use Rattle.reached.specs.Kept.{code-there, code-elsewhere, start-code, rest-idle, end-now, end-code, end-stays, spends}
 
 -- the clock of ENTER, while the mode transition is under way
 abbrev pub Entering : State → Type 0
@@ -68,11 +69,6 @@ dispatched-active : (m : Timing) (s : State) (t : ℕ) → canDispatch m s t ≡
 unfolding canDispatch
 dispatched-active m s t c = both (isActive s t) _ (both (eqb (codeOf s t) waitingDispatch) _ c .1) .0
 
-rest-idle : (b : Bool) → hasJob (cond b waitingDispatch waitingMode) ≡ false
-unfolding hasJob isUnfinished
-rest-idle true = refl
-rest-idle false = refl
-
 -- "Now ≠ EnteredAt"
 later : (m : Timing) (s : State) (q : ℕ) → canLeave m s q ≡ true → Entering s → ⊥
 unfolding canLeave
@@ -86,11 +82,7 @@ later m s q c i =
 module _ (m : Timing) (s : State) (q : isBusy m s ≡ false) (t : ℕ) (l : t < m .threads) where
   quiet-thread : threadBusy m s t ≡ false
   unfolding isBusy
-  quiet-thread = go (threadBusy m s t) refl
-    where
-      go : (b : Bool) → threadBusy m s t ≡ b → b ≡ false
-      go true e = rw (any-some (m .threads) (threadBusy m s) t l e) at q
-      go false e = refl
+  quiet-thread = none-below (m .threads) (threadBusy m s) (both-false (anyBelow (m .threads) (threadBusy m s)) _ q .0) t l
 
   quiet-left : isCritical (threadAt m t) ≡ false → isActive s t ≡ false → hasJob (codeOf s t) ≡ true → ⊥
   unfolding threadBusy canDeactivate

@@ -1,5 +1,5 @@
 -- "Any enabled rule not of kind 08 stops it": the table that is made of a model is busy just where the model is.
-use mathlib.Core.Path.{_≡_, refl, sym, _∙_}
+use mathlib.Core.Path.{_≡_, refl, _∙_}
 use mathlib.Core.Bool.{Bool, true, false, cond, _||_, or-assoc, or-true, or-false}
 use mathlib.Core.List.{List, [], _∷_}
 use Prim.Native.Nat.{ℕ, zero, suc, _<_, _≤_}
@@ -8,10 +8,11 @@ use lib.Dec.{eqb}
 use borrow.Author.Tests.{eq-eqb, eqb-false}
 use Rattle.numbers.specs.declared.Value.{Value}
 use Rattle.numbers.specs.Lists.{anyBelow}
-use Rattle.numbers.specs.ListLaws.{any-some}
+use Rattle.numbers.specs.ListLaws.{none-below}
 use Rattle.model_format.specs.declared.Timing.{Timing}
 use Rattle.model_format.specs.declared.Model.{Model}
 use Rattle.model_format.specs.Model.{threadAt}
+use Rattle.model_format.specs.Faultless.{both-false}
 use Rattle.model_format.specs.WellFormed.{WellFormed}
 use Rattle.model_semantics.specs.declared.State.{State}
 use Rattle.model_semantics.specs.State.{codeOf, lengthOf, spentOf}
@@ -45,14 +46,6 @@ any-or (suc n) p q = rw (any-or n p q) (go (anyBelow n p) (anyBelow n q) (p n) (
     go false true true y = refl
     go false true false y = refl
     go false false x y = refl
-
--- no number, where there is none
-none-at : (n : ℕ) (p : ℕ → Bool) → anyBelow n p ≡ false → (i : ℕ) → i < n → p i ≡ false
-none-at n p e i l = go (p i) refl
-  where
-    go : (b : Bool) → p i ≡ b → b ≡ false
-    go true q = sym (any-some n p i l q) ∙ e
-    go false q = refl
 
 -- ---- the model's own test, kind by kind
 module _ (m : Timing) (s : State) where
@@ -100,10 +93,6 @@ module _ (m : Model) (d : Dispatched) (s : State) (v : List Value) (w : WellForm
   busy-same = busy-groups v (groupsOf m) ∙ groups-busy
 
 -- ---- what quiet states have
-neither : (a b : Bool) → (a || b) ≡ false → a ≡ false
-neither true b e = e
-neither false b e = refl
-
 fifth : (a b c e f r : Bool) → (a || (b || (c || (e || (f || r))))) ≡ false → f ≡ false
 fifth a b c e false r q = refl
 fifth a b c e true r q = simp or-true at q
@@ -114,7 +103,7 @@ module _ (m : Timing) (d : Dispatched) (s : State) (v : List Value) (h : Match m
   unfolding isBusy threadBusy
   quiet-complete t l =
       fifth (canActivate s t) (canDeactivate m s t) (canDispatch m s t) (canStart m s t (threadAt m t .bcet .0)) (canComplete s t) (canMeetDeadline m s t || canMiss m s t)
-      (none-at (m .threads) (threadBusy m s) (neither (anyBelow (m .threads) (threadBusy m s)) (anyBelow (m .switches) (switchBusy m s)) e) t l)
+      (none-below (m .threads) (threadBusy m s) (both-false (anyBelow (m .threads) (threadBusy m s)) (anyBelow (m .switches) (switchBusy m s)) e .0) t l)
 
   pub quiet-unspent : (t : ℕ) → t < m .threads → codeOf s t ≡ execution → spentOf s t < lengthOf s t
   unfolding canComplete

@@ -286,6 +286,25 @@ pub fn changing(folder: &Folder) -> String {
     model
 }
 
+/// The mode changes, the thread leaves, and both come back.
+macro_rules! there_and_back {
+    () => {
+        "\
+REQUEST transition 0
+ENTER transition 0
+DEACTIVATE thread 0
+TICK 1
+LEAVE transition 0
+REQUEST transition 1
+ENTER transition 1
+ACTIVATE thread 0
+TICK 1
+LEAVE transition 1
+TICK 1
+"
+    };
+}
+
 /// One period each, of 7, 14 and 12 steps: a job that is finished; one that is stopped
 /// when the mode changes, and back; a change there and back without a job.
 const FINISHED: &str = "\
@@ -297,36 +316,11 @@ TICK 1
 TICK 1
 DEADLINE thread 0
 ";
-const STOPPED: &str = "\
-DISPATCH thread 0
-START thread 0 for 3
-TICK 1
-REQUEST transition 0
-ENTER transition 0
-DEACTIVATE thread 0
-TICK 1
-LEAVE transition 0
-REQUEST transition 1
-ENTER transition 1
-ACTIVATE thread 0
-TICK 1
-LEAVE transition 1
-TICK 1
-";
-const CHANGED: &str = "\
-REQUEST transition 0
-ENTER transition 0
-DEACTIVATE thread 0
-TICK 1
-LEAVE transition 0
-REQUEST transition 1
-ENTER transition 1
-ACTIVATE thread 0
-TICK 1
-LEAVE transition 1
-TICK 1
-TICK 1
-";
+const STOPPED: &str = concat!(
+    "DISPATCH thread 0\nSTART thread 0 for 3\nTICK 1\n",
+    there_and_back!()
+);
+const CHANGED: &str = concat!(there_and_back!(), "TICK 1\n");
 
 /// The picture of periods, each so many times.
 fn periods(name: &str, periods: &[(&str, usize)]) -> Vec<Element> {

@@ -1,7 +1,7 @@
 use mathlib.Core.Path.{refl}
 use Rattle.model_semantics.specs.Tests.{isUnfinished, hasJob}
-use Rattle.model_tests.proofs.jobs.has_job.Statement.{statement}
-use Rattle.model_tests.proofs.jobs.has_job.Tie as tie
+use Rattle.model_state.proofs.reading.has_job.Statement.{statement}
+use Rattle.model_state.proofs.reading.has_job.Tie as tie
 
 returns : tie.Need-returns
 unfolding hasJob isUnfinished
