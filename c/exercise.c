@@ -621,6 +621,37 @@ static void threads_that_leave(void)
     MUST(fk_run_table(output, made[2], stopping, sizeof stopping, told, 4) == 0 && told[2] == 15 && told[3] == 2);
 }
 
+/* Two outputs, a local at each end of 32 bits, and a transition whose sums lie outside: local 0 + 1, local 1 - 1, 0 - local 1, local 1 + -1. */
+static const uint8_t past_the_ends[] = {
+    HEAD,
+    0x02, 5, 0, 0, 0, 4, 0, 0, 0, 1, 0, 0, 0, 5, 0, 0, 0, 1, 0, 0,
+    0x04, 0, 0x04, 0, 0x05, 0, 255, 255, 255, 127, 0x05, 0, 0, 0, 0, 128,
+    0x08, 0, 0, 0,
+    0x0a, 2, 0, 1, 2, 0, 0, 0, 0, 0, 1, 0, 0, 0,
+    0x0a, 2, 1, 2, 2, 1, 0, 0, 0, 0, 1, 0, 0, 0,
+    0x0a, 3, 0, 2, 0, 0, 0, 0, 0, 2, 1, 0, 0, 0,
+    0x0a, 3, 1, 1, 2, 1, 0, 0, 0, 0, 255, 255, 255, 255,
+};
+
+/* Sums outside of 32 bits are the nearest end, in model and table. */
+static void sums_that_stop(void)
+{
+    enum { OUTPUT = 224, LOCAL = 256 };
+    static const uint8_t job[] = {0x01, 0, 0x03, 0, 0x04, 0, 1, 0, 0, 0, 0x0b, 1, 0}, complete[] = {0x05, 0};
+    int32_t of_model[FK_VARIABLES], of_table[FK_VARIABLES];
+    size_t made[3];
+    MUST(fk_model_after(past_the_ends, sizeof past_the_ends, job, sizeof job, complete, 2, of_model, FK_VARIABLES) == 0);
+    MUST(of_model[OUTPUT] == INT32_MAX && of_model[OUTPUT + 1] == INT32_MIN);
+    MUST(of_model[LOCAL] == INT32_MAX && of_model[LOCAL + 1] == INT32_MIN);
+
+    MUST(fk_translate(past_the_ends, sizeof past_the_ends, output, sizeof output, made, 3) == 0);
+    MUST(fk_table_start(output, made[2], of_table, FK_VARIABLES) == 0);
+    for (size_t at = 0; at < sizeof job; at += fk_event_length(job + at, sizeof job - at))
+        MUST(fk_table_step(output, made[2], NULL, 0, of_table, FK_VARIABLES, job + at, fk_event_length(job + at, sizeof job - at)) == 0);
+    MUST(fk_table_step(output, made[2], NULL, 0, of_table, FK_VARIABLES, complete, 2) == 0);
+    MUST(memcmp(of_model + OUTPUT, of_table + OUTPUT, (FK_VARIABLES - OUTPUT) * sizeof *of_table) == 0);
+}
+
 int main(int count, char **names)
 {
     MUST(count == 3);
@@ -655,6 +686,7 @@ int main(int count, char **names)
     start_tests_that_are_refused();
     start_tests_of_the_script();
     threads_that_leave();
+    sums_that_stop();
     puts("every promise held");
     return 0;
 }

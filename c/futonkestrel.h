@@ -43,7 +43,10 @@ extern "C" {
 
 /* Variables of a table, all of 32 bits: 0 Now, 1 Mode, 2 Phase, 3 Pending, 4 EnteredAt, 5 Cpu; for thread t 16+t Active, 32+t State,
  * 48+t DispatchTime, 64+t Due, 80+t End, 96+t behaviour state, 112+t Missed; 128+c Flag; 160+i input port; 192+i its buffer;
- * 224+o output port; 256+v local. */
+ * 224+o output port; 256+v local.
+ *
+ * A sum or difference that lies outside of 32 bits is the nearest end, in every update of a table and every assignment of a model:
+ * 2147483647 + 1 and 0 - (-2147483648) are 2147483647, -2147483648 - 1 and -2147483648 + (-1) are -2147483648. */
 #define FK_VARIABLES 288
 
 /* No table made from a model is longer; some are as long. */

@@ -309,7 +309,8 @@ class _Numbers:
 
 
 class Variables(_Numbers):
-    """The state of a table. Variable 0 is the clock."""
+    """The state of a table. Variable 0 is the clock. Sums and differences that a step
+    works out, in a model too, stop at the ends of 32 bits."""
 
     __slots__ = ()
     _sort = ctypes.c_int32 * VARIABLES

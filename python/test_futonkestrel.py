@@ -202,6 +202,33 @@ class Leaving(unittest.TestCase):
             self.assertEqual(self.shown(model, at), [0, 3, 0, 0])
 
 
+class Sums(unittest.TestCase):
+    """Sums and differences outside of 32 bits are the nearest end."""
+
+    # Behind M: two outputs, a local at each end, and a transition whose sums lie outside:
+    # local 0 + 1, local 1 - 1, 0 - local 1, local 1 + -1.
+    PAST_THE_ENDS = bytes.fromhex(
+        "0400 0400 0500 ffffff7f 0500 00000080"
+        "08000000"
+        "0a020001 02 00000000 00 01000000"
+        "0a020102 02 01000000 00 01000000"
+        "0a030002 00 00000000 02 01000000"
+        "0a030101 02 01000000 00 ffffffff"
+    )
+
+    def test_they_stop_at_the_ends(self) -> None:
+        model = fk.Model(example("m/model.bin") + self.PAST_THE_ENDS)
+        table = model.table()
+        state, variables = model.start(), table.start()
+        for event in [fk.activate(0), fk.dispatch(0), fk.start(0, 1), fk.tick(1), fk.complete(0)]:
+            model.step(state, event)
+            table.step(variables, event)
+        least, most = -(1 << 31), (1 << 31) - 1
+        for shown in [model.variables(state), variables]:
+            self.assertEqual([shown[224], shown[225]], [most, least])
+            self.assertEqual([shown[256], shown[257]], [most, least])
+
+
 class StartTests(unittest.TestCase):
     """The test for START, on a state and after a script."""
 

@@ -345,7 +345,7 @@ impl Checker<'_> {
             Ok(table) => {
                 let wanted = |lent: &Lent| wanted::lent_step(&table, &lent.variables, &lent.event);
                 let wanted: Vec<After> = lent.iter().map(wanted).collect();
-                self.tally.note_lent_steps(&wanted);
+                self.tally.note_lent_steps(&table, lent, &wanted);
                 self.note("lent_steps", compare::lent_steps(&wanted, &found));
                 let index = stepped::index_into(bytes, stepped::index_size(bytes));
                 let offers = |lent: &Lent| wanted::table_offers(&table, &lent.variables);

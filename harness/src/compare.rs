@@ -403,7 +403,7 @@ impl Times {
             _ => return,
         };
         if let (0, Some(time)) = (after.answer, times.get_mut(usize::from(id))) {
-            *time = Some(now.wrapping_add(wait));
+            *time = Some(now.saturating_add(wait));
         }
     }
 

@@ -10,6 +10,7 @@
 //!   by event on a lent state or by an index, and what is enabled
 //! * [`starts`]: what the test for START is asked for, and what it meets
 //! * [`stops`]: what the threads that leave meet
+//! * [`ends`]: sums and differences that stop at the ends of their range
 //! * [`compare`]: the comparisons
 //! * [`check`], [`runner`]: one case, many cases
 //! * [`tally`], [`reach`], [`refused`]: what they came to, by number, and by kind
@@ -20,6 +21,7 @@ pub mod case;
 pub mod check;
 pub mod compare;
 pub mod damage;
+pub mod ends;
 pub mod found;
 pub mod large;
 pub mod lending;

@@ -146,8 +146,8 @@ impl Rule<'_> {
             if target < VARIABLES {
                 next[target] = match update[6] {
                     0 => first,
-                    1 => first.wrapping_add(second),
-                    _ => first.wrapping_sub(second),
+                    1 => first.saturating_add(second),
+                    _ => first.saturating_sub(second),
                 };
             }
         }

@@ -324,9 +324,11 @@ impl Draft {
         if !outputs.is_empty() {
             let (tag, number) = random.one_of(&outputs);
             let first = any_operand(random, &readable);
-            let second = operand(0, random.within(1, 3) as i32);
+            // Up or down, so that values come to both ends.
+            let (op, by) = random.one_of(&[(1, 1), (1, 2), (2, 3)]);
+            let second = operand(0, by);
             self.records
-                .push([&[0x0A, tag, number, 1], &first[..], &second].concat());
+                .push([&[0x0A, tag, number, op], &first[..], &second].concat());
         }
     }
 

@@ -4,12 +4,13 @@
 
 use std::fmt::{self, Display, Formatter};
 
-use plain::model::{self, Assignment, BehaviorTransition, Model, Operand, State, Timing};
+use plain::model::{self, Model, State, Timing};
 use plain::script::{
     Event, ACTIVATE, COMPLETE, DEADLINE, DISPATCH, ENTER, LAST_NOW, LEAVE, MISS, REQUEST, START,
     TICK,
 };
 
+use crate::ends::ModelEnds;
 use crate::starts::Starts;
 use crate::stops::Stops;
 
@@ -41,6 +42,8 @@ pub struct Reach {
     pub starts: Starts,
     /// What became of threads that left with a job.
     pub stops: Stops,
+    /// Sums and differences that stopped.
+    pub ends: ModelEnds,
     /// Events taken at late clocks, by kind.
     pub late: [u64; 12],
 }
@@ -52,8 +55,6 @@ pub struct Places {
     pub default_sends: u64,
     /// Transitions taken whose guard has four atoms.
     pub four_atoms: u64,
-    pub wrapped_sums: u64,
-    pub wrapped_differences: u64,
     /// TICKs refused with 11 while some thread is active, and with 10 where an
     /// event is due at the last clock.
     pub past_the_last_clock: u64,
@@ -74,6 +75,7 @@ impl Default for Reach {
             places: Places::default(),
             starts: Starts::default(),
             stops: Stops::default(),
+            ends: ModelEnds::default(),
             late: [0; 12],
         }
     }
@@ -153,19 +155,7 @@ impl Reach {
         let values = |state: &State| (state.locals.clone(), state.output_ports.clone());
         self.assigned[number] += u64::from(values(before) != values(after));
         self.places.four_atoms += u64::from(taken.guard.len() == 4);
-        self.note_wraps(before, taken);
-    }
-
-    fn note_wraps(&mut self, before: &State, taken: &BehaviorTransition) {
-        for Assignment {
-            op, first, second, ..
-        } in &taken.assignments
-        {
-            let (first, second) = (value_of(before, *first), value_of(before, *second));
-            self.places.wrapped_sums += u64::from(*op == 1 && first.checked_add(second).is_none());
-            self.places.wrapped_differences +=
-                u64::from(*op == 2 && first.checked_sub(second).is_none());
-        }
+        self.ends.note(model, before, taken);
     }
 
     fn note_sends(
@@ -198,21 +188,12 @@ impl Reach {
         add_each(&mut self.late, &other.late);
         self.starts.add(&other.starts);
         self.stops.add(&other.stops);
+        self.ends.add(&other.ends);
         let (places, others) = (&mut self.places, &other.places);
         places.default_sends += others.default_sends;
         places.four_atoms += others.four_atoms;
-        places.wrapped_sums += others.wrapped_sums;
-        places.wrapped_differences += others.wrapped_differences;
         places.past_the_last_clock += others.past_the_last_clock;
         places.held_at_the_last_clock += others.held_at_the_last_clock;
-    }
-}
-
-fn value_of(state: &State, operand: Operand) -> i32 {
-    match operand {
-        Operand::Constant(value) => value.0,
-        Operand::InputPort(number) => state.input_ports[number].0,
-        Operand::Local(number) => state.locals[number].0,
     }
 }
 
@@ -264,7 +245,8 @@ impl Display for Reach {
             &self.assigned,
         )?;
         writeln!(formatter, "{}", self.places)?;
-        write!(formatter, "{}", self.stops)
+        write!(formatter, "{}", self.stops)?;
+        writeln!(formatter, "{}", self.ends)
     }
 }
 
@@ -273,16 +255,13 @@ impl Display for Places {
         let Places {
             default_sends,
             four_atoms,
-            wrapped_sums,
-            wrapped_differences,
             past_the_last_clock,
             held_at_the_last_clock,
         } = *self;
         write!(
             formatter,
             "COMPLETE without transition that changed a buffer: {default_sends}; guards of four \
-             atoms that held: {four_atoms}; sums that wrapped: {wrapped_sums}; differences: \
-             {wrapped_differences}; with active threads, TICK past the last clock: \
+             atoms that held: {four_atoms}; with active threads, TICK past the last clock: \
              {past_the_last_clock}; TICK held at the last clock: {held_at_the_last_clock}"
         )
     }

@@ -136,17 +136,36 @@ fn update(random: &mut Random, pool: &Pool, of_start: bool) -> Record {
         ),
     };
     let target = random.one_of(&pool.variables);
-    let op = random.below(3) as u8;
-    let first = any_operand(random, pool, of_start);
-    let second = any_operand(random, pool, of_start);
+    let (op, operands) = if random.chance(if of_start { 40 } else { 15 }) {
+        near_an_end(random, of_start)
+    } else {
+        let mut operand = || any_operand(random, pool, of_start);
+        let operands = [operand(), operand()];
+        (random.below(3) as u8, operands)
+    };
     let mut record = vec![0x24];
     record.extend(condition.to_le_bytes());
     record.push(wanted);
     record.extend(target.to_le_bytes());
     record.push(op);
-    record.extend(first);
-    record.extend(second);
+    record.extend(operands.concat());
     record
+}
+
+/// A sum or difference that comes near an end of the range, just to it or past it; of
+/// START mostly by the chosen length.
+fn near_an_end(random: &mut Random, of_start: bool) -> (u8, [Vec<u8>; 2]) {
+    let short = random.below(4) as i32;
+    let (op, near) = random.one_of(&[(1, i32::MAX - short), (2, i32::MIN + short)]);
+    let little = match of_start && random.chance(70) {
+        true => operand(2, random.value()),
+        false => operand(0, random.within(0, 8) as i32 - 4),
+    };
+    let mut operands = [operand(0, near), little];
+    if random.chance(30) {
+        operands.reverse();
+    }
+    (op, operands)
 }
 
 fn any_operand(random: &mut Random, pool: &Pool, of_start: bool) -> Vec<u8> {

@@ -3,11 +3,15 @@
 use std::collections::BTreeMap;
 use std::fmt::{self, Display, Formatter};
 
+use plain::script::read_event;
+use plain::table::{self, Table};
+
 use crate::answers::{
-    After, Offers, Said, Step, Translation, BEHAVIOR_STATE, FIRST_VALUE, MISSED, NOW, SIZE_PLACES,
-    THREADS,
+    After, Offers, Said, Step, Translation, Variables, BEHAVIOR_STATE, FIRST_VALUE, MISSED, NOW,
+    SIZE_PLACES, THREADS,
 };
-use crate::case::Case;
+use crate::case::{Case, Lent};
+use crate::ends::TableEnds;
 use crate::lending::Lending;
 use crate::reach::{add_each, Reach, KINDS, LATE};
 use crate::records::{model_body, split};
@@ -57,6 +61,8 @@ pub struct Tally {
     pub offered_by_tables: [u64; 12],
     /// Events that such a table offers more than once in a state.
     pub offered_twice: u64,
+    /// Sums and differences that stopped in such tables, and in single steps.
+    pub table_ends: TableEnds,
     /// Runs of at least ten events without a refusal.
     pub whole_runs: u64,
     pub behavior_changes: u64,
@@ -183,11 +189,27 @@ impl Tally {
             &mut self.table_events,
             &mut self.taken_by_tables,
         );
+        if let Ok(table) = table::read(&case.table) {
+            let mut before = &wanted.start.variables;
+            for step in &wanted.steps {
+                let event = &case.table_script[step.start..step.end];
+                self.note_ends(&table, before, event, &step.after);
+                before = &step.after.variables;
+            }
+        }
     }
 
-    pub fn note_lent_steps(&mut self, wanted: &[After]) {
-        for after in wanted {
+    pub fn note_lent_steps(&mut self, table: &Table, lent: &[Lent], wanted: &[After]) {
+        for (lent, after) in lent.iter().zip(wanted) {
             self.lent_steps[after.answer as usize] += 1;
+            self.note_ends(table, &lent.variables, &lent.event, after);
+        }
+    }
+
+    fn note_ends(&mut self, table: &Table, before: &Variables, event: &[u8], after: &After) {
+        if after.answer == 0 {
+            let (event, _) = read_event(event, 0).expect("it was taken");
+            self.table_ends.note(table, before, &event);
         }
     }
 
@@ -220,6 +242,7 @@ impl Tally {
         add_each(&mut self.offered_by_models, &other.offered_by_models);
         add_each(&mut self.offered_by_tables, &other.offered_by_tables);
         self.offered_twice += other.offered_twice;
+        self.table_ends.add(&other.table_ends);
         self.shown += other.shown;
         self.whole_runs += other.whole_runs;
         self.behavior_changes += other.behavior_changes;
@@ -288,6 +311,7 @@ impl Display for Tally {
             writeln!(formatter, "{what} above clock {LATE}: {}", kinds(counts))?;
         }
         write!(formatter, "{}", self.reach)?;
+        writeln!(formatter, "{}", self.table_ends)?;
         let comparisons: Vec<String> = self
             .comparisons
             .iter()

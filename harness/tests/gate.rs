@@ -28,6 +28,7 @@ fn library_and_plain_model_agree() {
     thin_places_are_met(&outcome.tally);
     every_step_is_told(&outcome.tally);
     threads_leave_in_every_way(&outcome.tally.reach.stops);
+    sums_stop_at_both_ends(&outcome.tally);
     every_comparison_is_made(&outcome.tally);
 }
 
@@ -212,8 +213,6 @@ fn thin_places_are_met(tally: &Tally) {
     for (what, count, floor) in [
         ("default sends", places.default_sends, 20),
         ("guards of four atoms", places.four_atoms, 500),
-        ("sums that wrap", places.wrapped_sums, 200),
-        ("differences that wrap", places.wrapped_differences, 100),
         ("past the last clock", places.past_the_last_clock, 500),
         ("held at the last clock", places.held_at_the_last_clock, 200),
     ] {
@@ -286,6 +285,23 @@ fn threads_leave_in_every_way(stops: &Stops) {
     let floors = [30, 60, 15, 600, 85, 290];
     for ((what, count), floor) in stops.places.met().into_iter().zip(floors) {
         assert!(count >= floor, "stops {what}: {count} below {floor}");
+    }
+}
+
+/// Sums and differences past the lower and the upper end, and just there, in models
+/// and in updates of tables.
+fn sums_stop_at_both_ends(tally: &Tally) {
+    let of_models = [[50, 250], [150, 85], [15, 70], [20, 40], [30, 45]];
+    let of_tables = [[30, 220], [150, 95], [39, 85], [35, 50], [18, 32], [23, 50]];
+    for (whose, met, floors) in [
+        ("models", tally.reach.ends.met(), &of_models[..]),
+        ("tables", tally.table_ends.met(), &of_tables),
+    ] {
+        assert_eq!(met.len(), floors.len());
+        for ((what, counts), floors) in met.into_iter().zip(floors) {
+            let floors: Vec<(usize, u64)> = floors.iter().copied().enumerate().collect();
+            at_least(&format!("ends met by {whose}, {what}"), &counts, &floors);
+        }
     }
 }
 

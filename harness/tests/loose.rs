@@ -70,6 +70,31 @@ fn rules_as_far_as_they_can_be_read() {
     assert_eq!(stepped(&[HEAD, HEAD].concat(), &[]), refused(12));
 }
 
+/// Here too, and with what no reader lets stand: a further op is a difference, a
+/// further tag the chosen length, and a variable that is not there reads 0.
+#[test]
+fn sums_stop_at_the_ends() {
+    let (greatest, least) = (operand(0, i32::MAX), operand(0, i32::MIN));
+    let (one, none, length) = (operand(0, 1), operand(1, 288), operand(9, 5));
+    for (op, first, second, wanted) in [
+        (1, &greatest, &one, i32::MAX),
+        (1, &least, &operand(0, -1), i32::MIN),
+        (2, &least, &one, i32::MIN),
+        (2, &none, &least, i32::MAX),
+        (2, &operand(0, -1), &least, i32::MAX),
+        (2, &operand(0, -2), &least, i32::MAX - 1),
+        (7, &none, &least, i32::MAX),
+        (1, &length, &greatest, i32::MAX),
+    ] {
+        let mut update = update(7, 0);
+        update.splice(6.., [&[op], &first[..], second].concat());
+        let rule = [&[0x21, 4, 0, 0, 0, 0, 0, 9, 0, 0, 0], &update[..]].concat();
+        let start = [4, 0, 6, 0, 0, 0];
+        let found = Rules::new(&rule, &[]).step(&[0; VARIABLES], &start);
+        assert_eq!(found, written(7, wanted), "{first:?} {op} {second:?}");
+    }
+}
+
 #[test]
 fn rules_that_an_index_lists() {
     let table = [

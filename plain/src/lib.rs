@@ -1,5 +1,5 @@
 //! A plain implementation of document 01, "Pad timing models and their rule
-//! tables", with the changes W1 to W5 of document 02.
+//! tables", with the changes W1 to W6 of document 02.
 //!
 //! It reads a timing model from bytes, runs event lists on it, translates it
 //! into a rule table, reads rule tables from bytes and runs event lists on
@@ -11,6 +11,7 @@
 //! * [`bytes`]: readers of integers, least byte first, and the extent of a record
 //! * [`refusal`]: the numbers of the causes, with two for names and times (W3),
 //!   and the part handed back
+//! * [`sums`]: add and subtract, for values and updates alike, up to the ends (W6)
 //! * [`script`]: reading events, and runs that stop at or go on after refusals
 //! * [`model`]: reading a model, with written starts of input ports (W2), and the
 //!   model's machine, which stops threads that leave (W5)
@@ -34,5 +35,6 @@ pub mod script;
 pub mod show;
 pub mod size;
 pub mod start_test;
+pub mod sums;
 pub mod table;
 pub mod translate;

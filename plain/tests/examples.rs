@@ -1,4 +1,5 @@
-//! Document 01's starred examples, each on the model and on its table.
+//! Document 01's starred examples, each on the model and on its table, with sums as
+//! document 02 has them (W6).
 
 mod common;
 mod taken;
@@ -149,7 +150,7 @@ fn zero_minus_the_least_value() {
     let subtract = [[0x0A, 2, 0, 2, 0, 0, 0, 0, 0, 2, 1, 0, 0, 0]];
     let model = model_with_locals([7, -2_147_483_648], &subtract);
     let variables = variables_after(&model, &one_job());
-    assert_eq!(variables[variable::local(0)], -2_147_483_648);
+    assert_eq!(variables[variable::local(0)], 2_147_483_647);
 }
 
 #[test]
@@ -157,6 +158,25 @@ fn sum_past_the_greatest_value() {
     // Local 0 takes local 1 plus the constant 1.
     let add = [[0x0A, 2, 0, 1, 2, 1, 0, 0, 0, 0, 1, 0, 0, 0]];
     let variables = variables_after(&model_with_locals([7, 2_147_483_647], &add), &one_job());
+    assert_eq!(variables[variable::local(0)], 2_147_483_647);
+}
+
+// The same at the lower end, which has no example in the documents.
+
+#[test]
+fn difference_past_the_least_value() {
+    // Local 0 takes local 1 minus the constant 1.
+    let subtract = [[0x0A, 2, 0, 2, 2, 1, 0, 0, 0, 0, 1, 0, 0, 0]];
+    let model = model_with_locals([7, -2_147_483_648], &subtract);
+    let variables = variables_after(&model, &one_job());
+    assert_eq!(variables[variable::local(0)], -2_147_483_648);
+}
+
+#[test]
+fn sum_past_the_least_value() {
+    // Local 0 takes local 1 plus the constant -1.
+    let add = [[0x0A, 2, 0, 1, 2, 1, 0, 0, 0, 0, 255, 255, 255, 255]];
+    let variables = variables_after(&model_with_locals([7, -2_147_483_648], &add), &one_job());
     assert_eq!(variables[variable::local(0)], -2_147_483_648);
 }
 

@@ -9,7 +9,8 @@
 //! is the answer: what the two programs print, the translation with its table
 //! and counts, and the trace of variables, which goes on after refused events. Some
 //! have `start.txt`: `THREAD LENGTH: STEP` of the test for START after the script.
-//! In the group `tables`, `table.bin` and `script.bin` are given.
+//! In the group `tables`, `table.bin` and `script.bin` are given; the trace shows
+//! every variable, since none need stand for anything.
 
 mod common;
 
@@ -182,12 +183,12 @@ fn not_zero(variables: &Variables) -> String {
         .collect()
 }
 
-fn trace_of_table(table: &Table, script: &[u8]) -> String {
+fn trace_of_table(table: &Table, script: &[u8], shown: impl Fn(&Variables) -> Variables) -> String {
     trace(
         script,
         table::start_state(table),
         |variables, event| table::step(table, variables, event),
-        without_idle_ends,
+        shown,
     )
 }
 
@@ -273,7 +274,7 @@ fn check_accepted_model(case: &Case, table_bytes: &[u8], differences: &mut Vec<S
         case.compare(
             differences,
             "trace.txt",
-            trace_of_table(&table, script).as_bytes(),
+            trace_of_table(&table, script, without_idle_ends).as_bytes(),
         );
     }
     if let Err(difference) = simulation(model_bytes, script) {
@@ -293,7 +294,7 @@ fn check_table_case(case: &Case, differences: &mut Vec<String>) {
             case.compare(
                 differences,
                 "trace.txt",
-                trace_of_table(&table, script).as_bytes(),
+                trace_of_table(&table, script, |variables| *variables).as_bytes(),
             );
             if table::read(&table::write(&table)) != Ok(table) {
                 differences.push(format!("{}: written and read again it differs", case.name));
@@ -305,7 +306,7 @@ fn check_table_case(case: &Case, differences: &mut Vec<String>) {
 #[test]
 fn models() {
     let cases = cases("models");
-    assert_eq!(cases.len(), 204);
+    assert_eq!(cases.len(), 216);
     let of_start = cases.iter().filter(|case| case.has("start.txt"));
     assert_eq!(of_start.count(), 12);
     let mut differences = Vec::new();
@@ -318,7 +319,7 @@ fn models() {
 #[test]
 fn tables() {
     let cases = cases("tables");
-    assert_eq!(cases.len(), 91);
+    assert_eq!(cases.len(), 92);
     let mut differences = Vec::new();
     for case in &cases {
         check_table_case(case, &mut differences);

@@ -125,7 +125,8 @@ impl Run {
 /// How many variables a table has.
 pub const VARIABLES: usize = 288;
 
-/// The state of a table. Variable 0 is the clock.
+/// The state of a table. Variable 0 is the clock. Sums and differences that a step works
+/// out, in a model too, stop at the ends of 32 bits.
 pub type Variables = [i32; VARIABLES];
 
 /// Room that suffices for the table of every accepted model; some tables take all

@@ -8,7 +8,7 @@ use std::collections::BTreeSet;
 
 use common::{
     counted, table_of_m, BUFFER, BYTE, CPU, DUE, END, INPUT, LEAVING, LEFT_WITH_JOBS, LESSON,
-    LISTING, M, NOW, SCRIPT, SIZE_OF_M, STATE,
+    LISTING, LOCAL, M, NOW, OUTPUT, PAST_THE_ENDS, SCRIPT, SIZE_OF_M, STATE,
 };
 use futonkestrel::refusals::{meaning_of, Holder, Meaning, MEANINGS};
 use futonkestrel::{
@@ -298,6 +298,25 @@ fn threads_that_leave() {
 
 /// ACTIVATE and DISPATCH of all four threads of the lesson.
 const DISPATCHED: &[u8] = &[1, 0, 1, 1, 1, 2, 1, 3, 3, 0, 3, 1, 3, 2, 3, 3];
+
+/// Sums and differences outside of 32 bits are the nearest end, in model and table.
+#[test]
+fn sums_stop_at_the_ends() {
+    let bytes = [M, PAST_THE_ENDS].concat();
+    let made = translate_to_vec(&bytes).expect("accepted");
+    let model = Model::read(&bytes).expect("accepted");
+    let table = Table::read(&made).expect("accepted");
+    let (mut state, mut variables) = (model.start(), table.start());
+    // Up to COMPLETE.
+    for event in events(SCRIPT).take(5) {
+        assert_eq!(model.step(&mut state, event), Ok(()));
+        assert_eq!(table.step(&mut variables, event), Ok(()));
+    }
+    for shown in [model.variables(&state), variables] {
+        assert_eq!(shown[OUTPUT..][..2], [i32::MAX, i32::MIN]);
+        assert_eq!(shown[LOCAL..][..2], [i32::MAX, i32::MIN]);
+    }
+}
 
 fn start(thread: u8, length: u32) -> Vec<u8> {
     [&[0x04, thread], &length.to_le_bytes()[..]].concat()

@@ -282,8 +282,8 @@ impl State {
             let (first, second) = (self.value(assignment.first), self.value(assignment.second));
             *new = match assignment.op {
                 0 => first,
-                1 => first.wrapping_add(second),
-                _ => first.wrapping_sub(second),
+                1 => first.saturating_add(second),
+                _ => first.saturating_sub(second),
             };
         }
         for (new, assignment) in new.iter().zip(assignments) {

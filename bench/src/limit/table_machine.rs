@@ -215,8 +215,8 @@ impl Update {
         };
         match self.op {
             0 => value(self.first),
-            1 => value(self.first).wrapping_add(value(self.second)),
-            _ => value(self.first).wrapping_sub(value(self.second)),
+            1 => value(self.first).saturating_add(value(self.second)),
+            _ => value(self.first).saturating_sub(value(self.second)),
         }
     }
 }

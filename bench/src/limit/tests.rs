@@ -4,10 +4,11 @@
 use std::cell::RefCell;
 
 use harness::case::Case;
+use harness::ends::{ModelEnds, TableEnds};
 use harness::stops::Stops;
 use plain::model::{COMPLETED, EXECUTION, WAITING_EXECUTION};
 use plain::refusal::EVENT;
-use plain::script::run_on;
+use plain::script::{run_on, COMPLETE};
 use plain::show::show;
 use plain::{model, table};
 
@@ -17,20 +18,40 @@ use super::{read, Machine, Model, Scratch, State, Table};
 const SEED: u64 = 7;
 const CASES: u64 = 4_000;
 
-/// Runs a model's script on both; what became of threads that left with a job.
-fn model_agrees(read_model: &model::Model, case: &Case) -> Stops {
+/// What models met: threads that left with a job, and sums that stop at an end.
+#[derive(Default)]
+struct Met {
+    stops: Stops,
+    ends: ModelEnds,
+}
+
+/// Both ends are met, by each sort of sum.
+fn assert_ends(met: &[(&str, [u64; 2])]) {
+    for (what, ends) in met {
+        assert!(ends.iter().all(|count| *count > 0), "{what}: {ends:?}");
+    }
+}
+
+/// Runs a model's script on both.
+fn model_agrees(read_model: &model::Model, case: &Case, met: &mut Met) {
     let number = case.number;
     let decoded = Model::decode(read_model);
     let mut ours = State::start(&decoded);
     let mut plain = model::start_state(read_model);
     assert_eq!(ours.show(&decoded), show(read_model, &plain));
-    let stops = RefCell::new(Stops::default());
+    let met = RefCell::new(met);
     run_on(
         &case.script,
         &mut plain,
         |state, event| {
             let came = model::step(read_model, state, event);
-            stops.borrow_mut().note(read_model, state, event, &came);
+            let mut met = met.borrow_mut();
+            met.stops.note(read_model, state, event, &came);
+            if event.kind == COMPLETE && came.is_ok() {
+                if let Some(taken) = model::first_enabled(read_model, state, event.id.into()) {
+                    met.ends.note(read_model, state, taken);
+                }
+            }
             came
         },
         |answer, state| {
@@ -43,18 +64,17 @@ fn model_agrees(read_model: &model::Model, case: &Case) -> Stops {
             assert_eq!(ours.show(&decoded), shown, "case {number}");
         },
     );
-    stops.into_inner()
 }
 
 #[test]
 fn models_agree() {
     let mut accepted = 0;
-    let mut stops = Stops::default();
+    let mut met = Met::default();
     for number in 0..CASES {
         let case = Case::new(SEED, number);
         if let Ok(read_model) = model::read(&case.model) {
             accepted += 1;
-            stops.add(&model_agrees(&read_model, &case));
+            model_agrees(&read_model, &case, &mut met);
         }
     }
     assert!(accepted > CASES / 2, "{accepted}");
@@ -64,15 +84,16 @@ fn models_agree() {
             critical,
             awaited,
             ..
-        } = &stops;
+        } = &met.stops;
         assert!(taken[code] >= 80, "stops: {taken:?}");
         assert!(critical[code] >= 5, "refused stops: {critical:?}");
         assert!(awaited[code] >= 5, "stops that ticks await: {awaited:?}");
     }
+    assert_ends(&met.ends.met());
 }
 
 /// A run keeps what it knows of quiet ticks, single steps do not.
-fn tables_agree(bytes: &[u8], script: &[u8], number: u64) -> bool {
+fn tables_agree(bytes: &[u8], script: &[u8], number: u64, ends: &mut TableEnds) -> bool {
     let Ok(read_table) = table::read(bytes) else {
         return false;
     };
@@ -81,10 +102,17 @@ fn tables_agree(bytes: &[u8], script: &[u8], number: u64) -> bool {
     let mut lent = decoded.start;
     let mut scratch = Scratch::default();
     let mut plain = table::start_state(&read_table);
+    let ends = RefCell::new(ends);
     run_on(
         script,
         &mut plain,
-        |variables, event| table::step(&read_table, variables, event),
+        |variables, event| {
+            let came = table::step(&read_table, variables, event);
+            if came.is_ok() {
+                ends.borrow_mut().note(&read_table, variables, event);
+            }
+            came
+        },
         |answer, variables| {
             let (of_run, of_step) = match read(script, answer.start) {
                 Some((event, _)) => (
@@ -106,17 +134,23 @@ fn tables_agree(bytes: &[u8], script: &[u8], number: u64) -> bool {
 
 #[test]
 fn made_tables_agree() {
+    let mut ends = TableEnds::default();
     let cases = (0..CASES / 4).map(|number| Case::new(SEED, number));
     let accepted = cases.filter(|case| {
         let made = case.made.as_ref();
-        made.is_some_and(|made| tables_agree(made, &case.script, case.number))
+        made.is_some_and(|made| tables_agree(made, &case.script, case.number, &mut ends))
     });
     assert!(accepted.count() as u64 > CASES / 8);
+    // Lengths and clock figures of a model are never so large.
+    assert_ends(&ends.met()[..4]);
 }
 
 #[test]
 fn other_tables_agree() {
+    let mut ends = TableEnds::default();
     let cases = (0..CASES).map(|number| Case::new(SEED, number));
-    let accepted = cases.filter(|case| tables_agree(&case.table, &case.table_script, case.number));
+    let accepted =
+        cases.filter(|case| tables_agree(&case.table, &case.table_script, case.number, &mut ends));
     assert!(accepted.count() as u64 > CASES / 8);
+    assert_ends(&ends.met());
 }

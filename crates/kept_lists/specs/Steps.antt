@@ -1,15 +1,13 @@
 -- A plain state stays plain: the start, each event, and any step.
-use mathlib.Core.Path.{_≡_, refl, ap}
+use mathlib.Core.Path.{_≡_, refl}
 use mathlib.Core.Bool.{Bool, true, false, cond, _&&_}
 use mathlib.Core.List.{List}
-use Prim.Native.Nat.{ℕ, zero, suc, _+_, _-_, _%_, _^_, _<_}
-use native.Mathlib.Omega.{arith}
+use Prim.Native.Nat.{ℕ, zero, suc}
 use lib.Dec.{eqb, ltb}
-use mir.Syntax.{w32}
-use mir.ValLaws.{ofZ-toZ}
 use Rattle.numbers.specs.declared.Value.{Value}
 use Rattle.numbers.specs.Lists.{foldBelow}
-use Rattle.numbers.specs.Values.{value, signed, bitsOf, natural, plus, minus, combine, oneMore}
+use Rattle.numbers.specs.Values.{bitsOf, natural, copyOp, sumOp, combine, oneMore}
+use Rattle.numbers.specs.ValueLaws.{plus-again, minus-again}
 use Rattle.records.specs.declared.Event.{Event}
 use Rattle.records.specs.declared.Operand.{Operand}
 use Rattle.records.specs.Events.{isBroken, lastClock, tickKind}
@@ -55,16 +53,9 @@ zero-again : again (natural 0) ≡ natural 0
 zero-again = refl
 
 -- ---- values
-signed-again : (n : ℕ) → n < 2 ^ 32 → again (value (signed n)) ≡ value (signed n)
-signed-again n h = ap (λ (k : ℕ). value (signed k)) (ofZ-toZ w32 n (record { fits = h }))
-
-wrapped : (n : ℕ) → n % 2 ^ 32 < 2 ^ 32
-wrapped n = omega arith
-
 combine-again : (op : ℕ) (x y : Value) → again x ≡ x → again (combine op x y) ≡ combine op x y
-unfolding combine plus minus
-combine-again op x y h =
-    value-of (eqb op 0) _ _ h (value-of (eqb op 1) _ _ (signed-again _ (wrapped (bitsOf (x .0) + bitsOf (y .0)))) (signed-again _ (wrapped (bitsOf (x .0) + (2 ^ 32 - bitsOf (y .0))))))
+unfolding combine
+combine-again op x y h = value-of (eqb op copyOp) _ _ h (value-of (eqb op sumOp) _ _ (plus-again x y) (minus-again x y))
 
 module _ (p : Ports) (w : PlainPorts p) where
   operand-again : (o : Operand) → again (o .value) ≡ o .value → again (operandValue p o) ≡ operandValue p o

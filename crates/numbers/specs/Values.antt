@@ -1,10 +1,10 @@
 -- Durations and values: bytes least first, the two readings of 32 bits, sums of VALUEs.
 use mathlib.Core.Bool.{Bool, cond, not}
 use mathlib.Core.List.{List, _∷_}
-use Prim.Native.Nat.{ℕ, _+_, _-_, _*_, _/_, _%_, _^_}
+use Prim.Native.Nat.{ℕ, _+_, _*_, _/_, _%_}
 use lib.ListN.{getD}
 use lib.Dec.{eqb, ltb}
-use lib.IntN.{ℤ, pos}
+use lib.IntN.{ℤ, pos, negsuc, _+ℤ_, _-ℤ_}
 use lib.Signed.{ltZ}
 use mir.Syntax.{w32}
 use mir.Val.{toZ, ofZ}
@@ -48,12 +48,21 @@ valueAt s p = value (signed (u32At s p))
 abbrev pub natural : ℕ → Value
 natural n = value (pos n)
 
--- "Sums of VALUEs wrap at 32 bits"
+-- "give the nearest end of the 32-bit range where the sum lies outside" (W6): a number over the integers, cut to that range
+abbrev pub leastValue : ℤ
+leastValue = negsuc 2147483647
+
+abbrev pub lastValue : ℤ
+lastValue = pos 2147483647
+
+unfoldable pub nearest : ℤ → ℤ
+nearest z = cond (ltZ z leastValue) leastValue (cond (ltZ lastValue z) lastValue z)
+
 unfoldable pub plus : Value → Value → Value
-plus a b = value (signed ((bitsOf (a .0) + bitsOf (b .0)) % 2 ^ 32))
+plus a b = value (nearest (a .0 +ℤ b .0))
 
 unfoldable pub minus : Value → Value → Value
-minus a b = value (signed ((bitsOf (a .0) + (2 ^ 32 - bitsOf (b .0))) % 2 ^ 32))
+minus a b = value (nearest (a .0 -ℤ b .0))
 
 -- "op u8 (0 copy the first, 1 add, 2 subtract)", of model assignments and table updates
 abbrev pub copyOp : ℕ

@@ -22,6 +22,11 @@ ghost use Rattle.numbers.specs.Multiples as multiples;
 // The last number that 32 bits hold.
 pub const LAST_U32: u32 = 4294967295;
 
+// The ends of what a value holds, in the type in which sums are made.
+const LEAST_VALUE: i64 = -2147483648;
+
+const LAST_VALUE: i64 = 2147483647;
+
 // DURATION: a clock figure.
 pub struct Duration(pub u32);
 
@@ -73,21 +78,41 @@ pub fn magnitude(v: Value) -> u32
     if u < 2147483648 { u } else { LAST_U32 - u + 1 }
 }
 
-// Sums and differences are those of the bits, which wrap.
+// A number cut to what a value holds.
+fn nearest(n: i64) -> i32
+    ensures { λ r. ⌜ r ≡ values.nearest n ⌝ }
+{
+    if n < LEAST_VALUE {
+        return LEAST_VALUE as i32;
+    }
+    if LAST_VALUE < n {
+        return LAST_VALUE as i32;
+    }
+    n as i32
+}
+
+// A value in 64 bits, which hold every sum and difference of two.
+fn wide(v: Value) -> i64
+    ensures { λ r. ⌜ r ≡ v .0 ⌝ }
+{
+    let x = v.0;
+    x as i64
+}
+
 pub fn plus(a: Value, b: Value) -> Value
     ensures { λ r. ⌜ r ≡ values.plus a b ⌝ }
 {
-    let x = bits(a);
-    let y = bits(b);
-    value_of(std::num::wrapping_add_u32(x, y))
+    let x = wide(a);
+    let y = wide(b);
+    Value(nearest(x + y))
 }
 
 fn minus(a: Value, b: Value) -> Value
     ensures { λ r. ⌜ r ≡ values.minus a b ⌝ }
 {
-    let x = bits(a);
-    let y = bits(b);
-    value_of(std::num::wrapping_sub_u32(x, y))
+    let x = wide(a);
+    let y = wide(b);
+    Value(nearest(x - y))
 }
 
 // What an assignment or an update makes of its two operands.

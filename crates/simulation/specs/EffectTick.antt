@@ -13,6 +13,7 @@ use Rattle.numbers.specs.declared.Value.{Value}
 use Rattle.numbers.specs.Lists.{item, store, foldBelow}
 use Rattle.numbers.specs.ListLaws.{length-store, item-store-same, item-store-other}
 use Rattle.numbers.specs.Values.{duration, natural, plus, oneMore}
+use Rattle.numbers.specs.ValueLaws.{plus-small}
 use Rattle.records.specs.Events.{lastClock}
 use Rattle.model_format.specs.declared.Timing.{Timing}
 use Rattle.model_format.specs.Model.{maxThreads}
@@ -28,7 +29,7 @@ use Rattle.simulation.specs.Compared.{Dispatched}
 use Rattle.simulation.specs.Match.{Match}
 use Rattle.simulation.specs.Ticks.{tickVariables}
 use Rattle.simulation.specs.Quiet.{quiet-unspent}
-use Rattle.simulation.specs.Writes.{plus-small, column-kept, fold-related}
+use Rattle.simulation.specs.Writes.{column-kept, fold-related}
 use Rattle.simulation.specs.Effects.{InParts, JobShown, jobOf, in-parts, whole, ports-kept}
 
 -- ---- Spent of all threads

@@ -2,7 +2,7 @@
 use mathlib.Core.Path.{_≡_, refl, sym, _∙_, ap}
 use mathlib.Core.Bool.{Bool, true, false, cond, _&&_}
 use mathlib.Core.List.{List, [], _∷_, _++_}
-use Prim.Native.Nat.{ℕ, zero, suc, _+_, _%_, _^_, _<_, _≤_}
+use Prim.Native.Nat.{ℕ, zero, suc, _+_, _<_, _≤_}
 use native.Mathlib.Omega.{arith}
 use native.Mathlib.Decide.{ℕ-discrete}
 use lib.Dec.{eqb, ltb}
@@ -13,17 +13,14 @@ use borrow.Author.Tests.{eq-eqb, ne-eqb, ltb-true, ltb-false}
 use Rattle.numbers.specs.declared.Value.{Value}
 use Rattle.numbers.specs.Lists.{item, store, foldBelow, firstBelow, joinBelow}
 use Rattle.numbers.specs.ListLaws.{length-store, item-store-same, item-store-other}
-use Rattle.numbers.specs.Values.{natural, plus, combine, value, signed}
+use Rattle.numbers.specs.Values.{natural, combine, value, signed}
+use Rattle.numbers.specs.ValueLaws.{plus-small}
 use Rattle.table_format.specs.declared.Update.{Update}
 use Rattle.table_format.specs.Variables.{variables, threadRoom, connectionRoom, inputRoom, activeVar, flagVar, inputVar, bufferVar}
 use Rattle.table_semantics.specs.Rules.{valueOf, operandValue, applies, newValue, Write, writes, writtenTo, inconsistent, written}
 use Rattle.translation.specs.Parts.{constant, variable, chosenLength, Expression, copied, sumOf, update, setTo}
 
--- ---- sums that do not wrap
-pub plus-small : (a b : ℕ) → a + b < 2147483648 → plus (natural a) (natural b) ≡ natural (a + b)
-unfolding plus
-plus-small a b h = let e : (a + b) % 2 ^ 32 ≡ a + b = omega arith in rw (e, toZ-pos w32 (a + b) h)
-
+-- ---- a chosen length is a value
 pub chosen-small : (n : ℕ) → n < 2147483648 → value (signed n) ≡ natural n
 chosen-small n h = rw (toZ-pos w32 n h)
 

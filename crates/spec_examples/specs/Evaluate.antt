@@ -40,7 +40,7 @@ use Rattle.listing.specs.Programs as programs
 
 -- all that a model's run rests on
 unfoldable pub openModel : ℕ → ℕ
-unfolding lists.anyBelow lists.allBelow lists.foldBelow lists.firstBelow lists.joinBelow multiples.isMultiple multiples.gcdIn multiples.lcm multiples.lcmUpTo values.plus values.minus values.combine values.compares values.oneMore events.eventOf events.figureOf events.isBroken grammar.recordSize grammar.partLength grammar.partsFrom grammar.operandAt refusals.numberOf refusals.partOf runs.runFrom runs.stagesFrom runs.tallyFrom model-format.headOf model-format.threadOf model-format.inputOf model-format.ownedOf model-format.connectionOf model-format.switchOf model-format.transitionOf model-format.atomOf model-format.assignmentOf model-format.recordOf model-format.rankOf model-model.threadAt model-model.inputAt model-model.outputOwner model-model.localAt model-model.connectionAt model-model.switchAt model-model.transitionAt model-model.atomAt model-model.assignmentAt model-model.emptyModel model-model.inMode model-model.criticalIn model-model.hyperperiod model-reading.inOrder model-reading.timesFit model-reading.maskFits model-reading.namesItem model-reading.isOwnedBy model-reading.isConnected model-reading.isAssigned model-reading.judged model-reading.causeOf model-reading.addHead model-reading.addThread model-reading.addInput model-reading.addOutput model-reading.addLocal model-reading.addConnection model-reading.addSwitch model-reading.addTransition model-reading.addAtom model-reading.addAssignment model-reading.addRecord model-reading.readFrom model-reading.readModel model-effects.isFedImmediately model-effects.isPort model-effects.freeze model-effects.dispatch model-effects.start model-effects.operandValue model-effects.leftValue model-effects.atomHolds model-effects.isOpen model-effects.firstOpen model-effects.takenTransition model-effects.assignedValue model-effects.assign model-effects.carries model-effects.send model-effects.endJob model-effects.complete model-effects.advance model-effects.finish model-effects.meetDeadline model-effects.miss model-effects.deactivate model-effects.request model-effects.activeIn model-effects.inBoth model-effects.liveIn model-effects.enter model-effects.leave model-effects.tick model-machine.startState model-machine.onActivate model-machine.onDeactivate model-machine.onDispatch model-machine.onStart model-machine.onComplete model-machine.onDeadline model-machine.onMiss model-machine.onRequest model-machine.onEnter model-machine.onLeave model-machine.ticks model-machine.step model-machine.runModel model-machine.modelStages model-state.isActive model-state.codeOf model-state.dispatchTime model-state.lengthOf model-state.spentOf model-state.behaviorOf model-state.missedOf model-state.isLive model-state.inputValue model-state.bufferValue model-state.outputValue model-state.localValue model-state.withLive model-state.withPorts model-state.withNow model-state.withEntered model-state.withMode model-state.withPhase model-state.withCpu model-state.withActive model-state.withCode model-state.withDispatchTime model-state.withJob model-state.withSpent model-state.withBehavior model-state.withMissed model-tests.isWaiting model-tests.isUnfinished model-tests.hasJob model-tests.dueOf model-tests.feeds model-tests.canActivate model-tests.canDeactivate model-tests.awaitsDelayed model-tests.canDispatch model-tests.runsBeside model-tests.comesBeside model-tests.awaitsImmediate model-tests.startFault model-tests.canComplete model-tests.canMeetDeadline model-tests.canMiss model-tests.canEnter model-tests.canLeave model-tests.threadBusy model-tests.switchBusy model-tests.isBusy
+unfolding lists.anyBelow lists.allBelow lists.foldBelow lists.firstBelow lists.joinBelow multiples.isMultiple multiples.gcdIn multiples.lcm multiples.lcmUpTo values.nearest values.plus values.minus values.combine values.compares values.oneMore events.eventOf events.figureOf events.isBroken grammar.recordSize grammar.partLength grammar.partsFrom grammar.operandAt refusals.numberOf refusals.partOf runs.runFrom runs.stagesFrom runs.tallyFrom model-format.headOf model-format.threadOf model-format.inputOf model-format.ownedOf model-format.connectionOf model-format.switchOf model-format.transitionOf model-format.atomOf model-format.assignmentOf model-format.recordOf model-format.rankOf model-model.threadAt model-model.inputAt model-model.outputOwner model-model.localAt model-model.connectionAt model-model.switchAt model-model.transitionAt model-model.atomAt model-model.assignmentAt model-model.emptyModel model-model.inMode model-model.criticalIn model-model.hyperperiod model-reading.inOrder model-reading.timesFit model-reading.maskFits model-reading.namesItem model-reading.isOwnedBy model-reading.isConnected model-reading.isAssigned model-reading.judged model-reading.causeOf model-reading.addHead model-reading.addThread model-reading.addInput model-reading.addOutput model-reading.addLocal model-reading.addConnection model-reading.addSwitch model-reading.addTransition model-reading.addAtom model-reading.addAssignment model-reading.addRecord model-reading.readFrom model-reading.readModel model-effects.isFedImmediately model-effects.isPort model-effects.freeze model-effects.dispatch model-effects.start model-effects.operandValue model-effects.leftValue model-effects.atomHolds model-effects.isOpen model-effects.firstOpen model-effects.takenTransition model-effects.assignedValue model-effects.assign model-effects.carries model-effects.send model-effects.endJob model-effects.complete model-effects.advance model-effects.finish model-effects.meetDeadline model-effects.miss model-effects.deactivate model-effects.request model-effects.activeIn model-effects.inBoth model-effects.liveIn model-effects.enter model-effects.leave model-effects.tick model-machine.startState model-machine.onActivate model-machine.onDeactivate model-machine.onDispatch model-machine.onStart model-machine.onComplete model-machine.onDeadline model-machine.onMiss model-machine.onRequest model-machine.onEnter model-machine.onLeave model-machine.ticks model-machine.step model-machine.runModel model-machine.modelStages model-state.isActive model-state.codeOf model-state.dispatchTime model-state.lengthOf model-state.spentOf model-state.behaviorOf model-state.missedOf model-state.isLive model-state.inputValue model-state.bufferValue model-state.outputValue model-state.localValue model-state.withLive model-state.withPorts model-state.withNow model-state.withEntered model-state.withMode model-state.withPhase model-state.withCpu model-state.withActive model-state.withCode model-state.withDispatchTime model-state.withJob model-state.withSpent model-state.withBehavior model-state.withMissed model-tests.isWaiting model-tests.isUnfinished model-tests.hasJob model-tests.dueOf model-tests.feeds model-tests.canActivate model-tests.canDeactivate model-tests.awaitsDelayed model-tests.canDispatch model-tests.runsBeside model-tests.comesBeside model-tests.awaitsImmediate model-tests.startFault model-tests.canComplete model-tests.canMeetDeadline model-tests.canMiss model-tests.canEnter model-tests.canLeave model-tests.threadBusy model-tests.switchBusy model-tests.isBusy
 openModel n = n
 
 -- all that a table's run rests on

@@ -1,5 +1,5 @@
--- The starred examples of document 01, as a group, one of written start values, some of finer field faults, some of START's test and some of threads that
--- leave (document 02, W2 to W5). Those that are runs are proved of the model's run and of the run of its table.
+-- The starred examples of document 01, as a group, one of written start values, some of finer field faults, some of START's test, some of threads that
+-- leave and some of sums that stop (document 02, W2 to W6). Those that are runs are proved of the model's run and of the run of its table.
 use mathlib.Core.Path.{_≡_, refl}
 use mathlib.Core.List.{List, [], _∷_, _++_}
 use Prim.Native.Nat.{ℕ}
@@ -7,7 +7,7 @@ use Prim.Native.Char.{code}
 use Prim.Native.String as strings
 use Prim.Native.String.{String}
 use lib.IntN.{negsuc}
-use Rattle.numbers.specs.Values.{u16To, u32To, value, natural, minus}
+use Rattle.numbers.specs.Values.{u16To, u32To, value, natural, nearest, plus, minus}
 use Rattle.numbers.specs.declared.Value.{Value}
 use Rattle.records.specs.declared.Cause.the-variants.{None, WrongField, NamesNothing, FaultyTime}
 use Rattle.table_format.specs.declared.Atom.{Atom}
@@ -132,26 +132,65 @@ locals-exchanged : (modelLocal exchange oneJob 0 ≡ natural 2) × (modelLocal e
 unfolding modelLocal tableLocal
 locals-exchanged = (refl, refl, refl, refl)
 
--- ---- *0 − (−2,147,483,648) = −2,147,483,648.
-zero-minus-least : minus (natural 0) (value (negsuc 2147483647)) ≡ value (negsuc 2147483647)
-unfolding minus
+-- ---- *0 − (−2,147,483,648), which is 2,147,483,647 since W6: "the nearest end of the 32-bit range where the sum lies outside". Beside it 2,147,483,647 + 1,
+-- −2,147,483,648 − 1 and −2,147,483,648 + −1.
+abbrev greatest : Value
+greatest = natural 2147483647
+
+abbrev least : Value
+least = value (negsuc 2147483647)
+
+zero-minus-least : minus (natural 0) least ≡ greatest
+unfolding nearest minus
 zero-minus-least = refl
 
--- in a run: local 0, 1 at first, is assigned 0 less the least constant
-abbrev negate : List ℕ
-negate = M ++ (5 ∷ 0 ∷ u32To 1 []) ++ (8 ∷ 0 ∷ 0 ∷ 0 ∷ []) ++ (10 ∷ 2 ∷ 0 ∷ 2 ∷ 0 ∷ u32To 0 (0 ∷ u32To 2147483648 []))
+greatest-plus-one : plus greatest (natural 1) ≡ greatest
+unfolding nearest plus
+greatest-plus-one = refl
 
-negate-accepted : Accepted negate
-unfolding modelCause tableCause
-negate-accepted = (refl, refl)
+least-minus-one : minus least (natural 1) ≡ least
+unfolding nearest minus
+least-minus-one = refl
 
-negated-before : (modelLocal negate [] 0 ≡ natural 1) × (tableLocal negate [] 0 ≡ natural 1)
-unfolding modelLocal tableLocal
-negated-before = (refl, refl)
+least-plus-minus-one : plus least (value (negsuc 0)) ≡ least
+unfolding nearest plus
+least-plus-minus-one = refl
 
-negated : (modelLocal negate oneJob 0 ≡ value (negsuc 2147483647)) × (tableLocal negate oneJob 0 ≡ value (negsuc 2147483647))
-unfolding modelLocal tableLocal
-negated = (refl, refl)
+-- local 0, 1 at first, is assigned: an op, an operand with its tag, and a constant
+abbrev assigned : ℕ → ℕ → ℕ → ℕ → List ℕ
+assigned op tag a b = M ++ (5 ∷ 0 ∷ u32To 1 []) ++ (8 ∷ 0 ∷ 0 ∷ 0 ∷ []) ++ (10 ∷ 2 ∷ 0 ∷ op ∷ tag ∷ u32To a (0 ∷ u32To b []))
+
+-- in a run: the sum or the difference of two constants
+abbrev sumOf : ℕ → ℕ → List ℕ
+sumOf = assigned 1 0
+
+abbrev differenceOf : ℕ → ℕ → List ℕ
+differenceOf = assigned 2 0
+
+abbrev Gives : List ℕ → Value → Type 0
+Gives model x =
+    Accepted model × (modelLocal model [] 0 ≡ natural 1) × (tableLocal model [] 0 ≡ natural 1) × (modelLocal model oneJob 0 ≡ x) × (tableLocal model oneJob 0 ≡ x)
+
+zero-minus-least-run : Gives (differenceOf 0 2147483648) greatest
+unfolding modelCause tableCause modelLocal tableLocal
+zero-minus-least-run = ((refl, refl), refl, refl, refl, refl)
+
+greatest-plus-one-run : Gives (sumOf 2147483647 1) greatest
+unfolding modelCause tableCause modelLocal tableLocal
+greatest-plus-one-run = ((refl, refl), refl, refl, refl, refl)
+
+least-minus-one-run : Gives (differenceOf 2147483648 1) least
+unfolding modelCause tableCause modelLocal tableLocal
+least-minus-one-run = ((refl, refl), refl, refl, refl, refl)
+
+least-plus-minus-one-run : Gives (sumOf 2147483648 4294967295) least
+unfolding modelCause tableCause modelLocal tableLocal
+least-plus-minus-one-run = ((refl, refl), refl, refl, refl, refl)
+
+-- a sum within the range is exact
+one-inside-run : Gives (sumOf 2147483646 1) greatest × Gives (differenceOf 2147483649 1) least
+unfolding modelCause tableCause modelLocal tableLocal
+one-inside-run = (((refl, refl), refl, refl, refl, refl), ((refl, refl), refl, refl, refl, refl))
 
 -- ---- *Critical 4 and 6: H1 12; none: 1.
 abbrev stay : List ℕ
@@ -223,10 +262,7 @@ unfolding modelCause
 connections-refused = (refl, refl)
 
 -- "a number behind a tag that may not stand there is not looked at": local 9, and 9 behind tag 3, as an operand
-abbrev assigned : ℕ → List ℕ
-assigned tag = M ++ (5 ∷ 0 ∷ u32To 1 []) ++ (8 ∷ 0 ∷ 0 ∷ 0 ∷ []) ++ (10 ∷ 2 ∷ 0 ∷ 0 ∷ tag ∷ u32To 9 (0 ∷ u32To 0 []))
-
-operands-refused : (modelCause (assigned 2) ≡ NamesNothing) × (modelCause (assigned 3) ≡ WrongField)
+operands-refused : (modelCause (assigned 0 2 9 0) ≡ NamesNothing) × (modelCause (assigned 0 3 9 0) ≡ WrongField)
 unfolding modelCause
 operands-refused = (refl, refl)
 

@@ -11,6 +11,8 @@ pub use machine::{
 };
 pub use reader::{hyperperiod, read};
 
+use crate::sums::{difference, sum};
+
 /// A figure of the clock: an instant or a stretch of time.
 #[derive(Clone, Copy, Debug, PartialEq, Eq, PartialOrd, Ord)]
 pub struct Duration(pub u64);
@@ -26,17 +28,17 @@ impl Duration {
     }
 }
 
-/// A value of a port or of a local. Its arithmetic goes round at both ends.
+/// A value of a port or of a local. Its arithmetic stops at both ends.
 #[derive(Clone, Copy, Debug, PartialEq, Eq, PartialOrd, Ord)]
 pub struct Value(pub i32);
 
 impl Value {
     pub fn plus(self, other: Value) -> Value {
-        Value(self.0.wrapping_add(other.0))
+        Value(sum(self.0, other.0))
     }
 
     pub fn minus(self, other: Value) -> Value {
-        Value(self.0.wrapping_sub(other.0))
+        Value(difference(self.0, other.0))
     }
 }
 

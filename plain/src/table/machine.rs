@@ -3,6 +3,7 @@
 use super::{variable, Atom, Operand, Rule, Table, Update, MULTIPLE, NO_MULTIPLE};
 use crate::refusal::{CONFLICTING_RULES, INCONSISTENT_UPDATES, LAST_CLOCK, NOT_ENABLED};
 use crate::script::{Event, LAST_NOW, REQUEST, START, TICK};
+use crate::sums::{difference, sum};
 
 /// The state of the table's machine.
 pub type Variables = [i32; variable::COUNT];
@@ -112,14 +113,15 @@ fn condition_holds(variables: &Variables, update: &Update) -> bool {
         .is_none_or(|condition| variables[condition.variable] == i32::from(condition.wanted))
 }
 
-/// The arithmetic goes round at both ends, as in the model.
+/// The arithmetic is that of a model's values, whatever the target stands for and
+/// the operands are, a chosen length too.
 fn expression(variables: &Variables, update: &Update, chosen_length: i32) -> i32 {
     let first = value_of(variables, update.first, chosen_length);
     let second = value_of(variables, update.second, chosen_length);
     match update.op {
         0 => first,
-        1 => first.wrapping_add(second),
-        _ => first.wrapping_sub(second),
+        1 => sum(first, second),
+        _ => difference(first, second),
     }
 }
 

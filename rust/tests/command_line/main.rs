@@ -4,6 +4,7 @@
 mod any_files;
 mod calls;
 mod commands;
+mod ends;
 mod explore;
 mod field_faults;
 mod files;

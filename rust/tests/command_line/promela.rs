@@ -86,7 +86,8 @@ fn spin(folder: &Folder, name: &str, table: &[u8], options: &[&str]) -> (String,
         "spin",
         &[&["-o2", "-a"], options, &["table.pml"]].concat(),
     );
-    let flags = ["-O0", "-fwrapv", "-w", "-DSAFETY", "-DPRINTF", "-DNOREDUCE"];
+    // A sum that left 32 bits would end the checker.
+    let flags = ["-O0", "-ftrapv", "-w", "-DSAFETY", "-DPRINTF", "-DNOREDUCE"];
     done(
         &place,
         "cc",
@@ -182,6 +183,7 @@ fn spin_reaches_the_same_states() {
     assert_same(&folder, "lesson", &table_of(&model), 21);
     assert_same(&folder, "stops", &table_of(&changing(&folder)), 9);
     assert_same(&folder, "conflicts", &conflicts(&folder), 7);
+    assert_same(&folder, "sums", &sums(&folder), 1);
 }
 
 /// The lesson with two threads, each of one length.
@@ -197,8 +199,72 @@ pub fn small_lesson(folder: &Folder) -> String {
     model
 }
 
-/// Rules that meet, updates that meet, values exchanged, sums that go round.
-/// REQUESTs do not stop ticks.
+const MOST: i32 = i32::MAX;
+const LEAST: i32 = i32::MIN;
+/// The first local among the variables.
+const LOCAL: usize = 256;
+
+/// Sums and differences at both ends, where Local(0) has 2147483646 and Local(1) the least
+/// value: just within, past them by one, and by far.
+const SUMS: &[(&str, i32)] = &[
+    ("Local(0) + 1", MOST),
+    ("Local(0) + 2", MOST),
+    ("2147483647 + Local(0)", MOST),
+    ("Local(0) + Local(0)", MOST),
+    ("Local(0) - -1", MOST),
+    ("Local(0) - -2", MOST),
+    ("Local(0) - Local(1)", MOST),
+    ("-1 - Local(1)", MOST),
+    ("0 - Local(1)", MOST),
+    ("0 - -2147483648", MOST),
+    ("Local(1) - 0", LEAST),
+    ("Local(1) - 1", LEAST),
+    ("Local(1) + -1", LEAST),
+    ("Local(1) + -2147483648", LEAST),
+    ("Local(1) + Local(1)", LEAST),
+    ("-2 - Local(0)", LEAST),
+    ("-3 - Local(0)", LEAST),
+    ("Local(1) - Local(0) if Phase = 0", LEAST),
+    ("Local(0) + Local(1)", -2),
+    ("Local(1) - Local(1)", 0),
+];
+
+/// A table that works them out by REQUEST 1, from the third local on. REQUEST 0 counts on to
+/// the end, and stays there.
+fn sums(folder: &Folder) -> Vec<u8> {
+    let mut text = "\
+table
+start Local(0) := 2147483646
+start Local(1) := -2147483648
+rule 0 REQUEST transition 0
+  if Local(0) > 0
+  then Local(0) := Local(0) + 1
+rule 1 START thread 0 length 1..3
+  if Now = 1
+  then Local(30) := Local(0) + length
+  with Local(31) := Local(1) - length
+rule 2 REQUEST transition 1
+  then Phase := 0
+"
+    .to_string();
+    for (number, (sum, _)) in SUMS.iter().enumerate() {
+        text += &format!("  with Local({}) := {sum}\n", number + 2);
+    }
+    packed(folder, &text)
+}
+
+#[test]
+fn sums_stop_at_the_ends() {
+    let table = sums(&Folder::new("promela-sums"));
+    let table = Table::read(&table).expect("it is accepted");
+    let mut variables = table.start();
+    table.step(&mut variables, &[8, 1]).expect("it is taken");
+    for (value, (sum, wanted)) in variables[LOCAL + 2..].iter().zip(SUMS) {
+        assert_eq!(value, wanted, "{sum}");
+    }
+}
+
+/// Rules that meet, updates that meet, values exchanged. REQUESTs do not stop ticks.
 pub fn conflicts(folder: &Folder) -> Vec<u8> {
     let text = "\
 table
@@ -233,11 +299,16 @@ rule 5 START thread 0 length 2..4
   and Now > 2
   then Local(4) := Now - length
 ";
-    let out = folder.path("conflicts.bin");
-    run_with(&["pack", "-", &out], text.as_bytes()).good();
     // A last rule with an empty clause: it never holds.
     let never = vec![RULE, 7, 1, 0, 0, 0, 0, 0, 0, 0, 0, 0x22];
-    [bytes_of(&out), never].concat()
+    [packed(folder, text), never].concat()
+}
+
+/// The bytes of a table in words.
+fn packed(folder: &Folder, text: &str) -> Vec<u8> {
+    let out = folder.path("packed.bin");
+    run_with(&["pack", "-", &out], text.as_bytes()).good();
+    bytes_of(&out)
 }
 
 /// A small model: few threads of short periods, all kinds of records.

@@ -34,6 +34,8 @@ pub const DUE: usize = 64;
 pub const END: usize = 80;
 pub const INPUT: usize = 160;
 pub const BUFFER: usize = 192;
+pub const OUTPUT: usize = 224;
+pub const LOCAL: usize = 256;
 
 /// What stands in an output before a call, to see what the call touched.
 pub const BYTE: u8 = 0xA5;
@@ -81,6 +83,18 @@ pub fn counted(table: &[u8]) -> Size {
 
 /// The lesson of a pad, which has all kinds of records.
 pub const LESSON: &[u8] = include_bytes!("../../../examples/lesson/model.bin");
+
+/// Behind M: two outputs, a local at each end of 32 bits, and a transition whose sums lie
+/// outside: local 0 + 1, local 1 - 1, 0 - local 1, local 1 + -1.
+pub const PAST_THE_ENDS: &[u8] = &[
+    0x04, 0, 0x04, 0, //
+    0x05, 0, 255, 255, 255, 127, 0x05, 0, 0, 0, 0, 128, //
+    0x08, 0, 0, 0, //
+    0x0A, 2, 0, 1, 2, 0, 0, 0, 0, 0, 1, 0, 0, 0, //
+    0x0A, 2, 1, 2, 2, 1, 0, 0, 0, 0, 1, 0, 0, 0, //
+    0x0A, 3, 0, 2, 0, 0, 0, 0, 0, 2, 1, 0, 0, 0, //
+    0x0A, 3, 1, 1, 2, 1, 0, 0, 0, 0, 255, 255, 255, 255,
+];
 
 /// Two modes and the way from the first to the second. Thread 0, which is critical, and
 /// thread 1, which is not, are in the first alone.

@@ -1,26 +1,22 @@
-use mathlib.Core.Path.{_∙_}
-use native.Mathlib.Omega.{arith}
 use borrow.Author.Needs.{needs}
-use Rattle.numbers.specs.ValueLaws.{minus-bits}
+use Rattle.numbers.specs.ValueLaws.{difference-wide, minus-cut}
 use Rattle.numbers.proofs.minus.Statement.{statement}
 use Rattle.numbers.proofs.minus.Tie as tie
 
-bits-requires : tie.Need-bits-requires
-bits-requires c κs = search needs
+wide-requires : tie.Need-wide-requires
+wide-requires c κs = search needs
 
-bits-requires-2 : tie.Need-bits-requires-2
-bits-requires-2 c κs = search needs
+wide-requires-2 : tie.Need-wide-requires-2
+wide-requires-2 c κs = search needs
 
-wrapping-sub-u32-requires : tie.Need-wrapping-sub-u32-requires
-wrapping-sub-u32-requires c κs = search needs
+sub-nearest : tie.Need-sub-nearest
+sub-nearest c = difference-wide (c .before .before .args .a) (c .before .before .args .b) _ _ (c .before .wide .ensures) (c .wide2 .ensures) (search needs) (search needs)
 
-value-of-requires : tie.Need-value-of-requires
-value-of-requires c κs = search needs
+nearest-requires : tie.Need-nearest-requires
+nearest-requires c κs = search needs
 
 returns : tie.Need-returns
-returns c = c .value-of .ensures ∙ minus-bits _ _ _ _ _ (c .before .before .before .bits .ensures) (c .before .before .bits2 .ensures) (omega arith) (omega arith) (c .before .wrapping-sub-u32 .ensures)
+returns c = minus-cut (c .before .before .before .args .a) (c .before .before .before .args .b) _ _ (c .before .before .wide .ensures) (c .before .wide2 .ensures) (search needs) (search needs) _ (c .nearest .ensures)
 
 pub minus-spec : {M : Type 1} → statement M
-minus-spec =
-    tie.close
-    (tie.spec bits-requires bits-requires-2 wrapping-sub-u32-requires value-of-requires returns)
+minus-spec = tie.close (tie.spec wide-requires wide-requires-2 sub-nearest nearest-requires returns)

@@ -1,25 +1,22 @@
-use mathlib.Core.Path.{_∙_}
 use borrow.Author.Needs.{needs}
-use Rattle.numbers.specs.ValueLaws.{plus-bits}
+use Rattle.numbers.specs.ValueLaws.{sum-wide, plus-cut}
 use Rattle.numbers.proofs.plus.Statement.{statement}
 use Rattle.numbers.proofs.plus.Tie as tie
 
-bits-requires : tie.Need-bits-requires
-bits-requires c κs = search needs
+wide-requires : tie.Need-wide-requires
+wide-requires c κs = search needs
 
-bits-requires-2 : tie.Need-bits-requires-2
-bits-requires-2 c κs = search needs
+wide-requires-2 : tie.Need-wide-requires-2
+wide-requires-2 c κs = search needs
 
-wrapping-add-u32-requires : tie.Need-wrapping-add-u32-requires
-wrapping-add-u32-requires c κs = search needs
+add-nearest : tie.Need-add-nearest
+add-nearest c = sum-wide (c .before .before .args .a) (c .before .before .args .b) _ _ (c .before .wide .ensures) (c .wide2 .ensures) (search needs) (search needs)
 
-value-of-requires : tie.Need-value-of-requires
-value-of-requires c κs = search needs
+nearest-requires : tie.Need-nearest-requires
+nearest-requires c κs = search needs
 
 returns : tie.Need-returns
-returns c = c .value-of .ensures ∙ plus-bits _ _ _ _ _ (c .before .before .before .bits .ensures) (c .before .before .bits2 .ensures) (c .before .wrapping-add-u32 .ensures)
+returns c = plus-cut (c .before .before .before .args .a) (c .before .before .before .args .b) _ _ (c .before .before .wide .ensures) (c .before .wide2 .ensures) (search needs) (search needs) _ (c .nearest .ensures)
 
 pub plus-spec : {M : Type 1} → statement M
-plus-spec =
-    tie.close
-    (tie.spec bits-requires bits-requires-2 wrapping-add-u32-requires value-of-requires returns)
+plus-spec = tie.close (tie.spec wide-requires wide-requires-2 add-nearest nearest-requires returns)

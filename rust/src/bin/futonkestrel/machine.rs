@@ -24,7 +24,7 @@ const TOLD: usize = 16;
 
 pub struct Machine<'a> {
     table: Table<'a>,
-    rules: Vec<Rule>,
+    pub rules: Vec<Rule>,
     /// Whether it is the table made from a model.
     of_model: bool,
     pub variables: Variables,
@@ -206,13 +206,22 @@ impl<'a> Machine<'a> {
 
     /// The numbers of the first rules, two at most, that are enabled for an event.
     fn enabled_rules(&self, event: &[u8]) -> String {
-        let enabled = self.rules.iter().zip(0_usize..).filter(|(rule, _)| {
-            (rule.event, rule.id) == (event[0], event[1])
-                && failing(rule, &self.variables).is_empty()
-        });
-        let numbers = enabled.take(2).map(|(_, number)| number.to_string());
+        let enabled = enabled_for(&self.rules, event, &self.variables);
+        let numbers = enabled.take(2).map(|(number, _)| number.to_string());
         numbers.collect::<Vec<_>>().join(" and ")
     }
+}
+
+/// The rules that are enabled for an event, with their numbers; where it is taken, just
+/// one.
+pub fn enabled_for<'a>(
+    rules: &'a [Rule],
+    event: &'a [u8],
+    variables: &'a Variables,
+) -> impl Iterator<Item = (usize, &'a Rule)> {
+    let own = |(_, rule): &(usize, &Rule)| rule.key() == (event[0], event[1]);
+    let enabled = |(_, rule): &(usize, &Rule)| failing(rule, variables).is_empty();
+    rules.iter().enumerate().filter(own).filter(enabled)
 }
 
 /// The clauses of a rule that fail.
@@ -222,7 +231,7 @@ fn failing<'a>(rule: &'a Rule, variables: &Variables) -> Vec<&'a Vec<Atom>> {
     clauses.filter(|clause| !holds(clause)).collect()
 }
 
-fn value(variables: &Variables, variable: i64) -> i64 {
+pub fn value(variables: &Variables, variable: i64) -> i64 {
     let found = usize::try_from(variable)
         .ok()
         .and_then(|variable| variables.get(variable));
@@ -271,11 +280,7 @@ impl Rule {
     }
 
     fn allows(&self, event: &[u8]) -> bool {
-        let length = event
-            .get(2..6)
-            .and_then(|bytes| bytes.try_into().ok())
-            .map(u32::from_le_bytes);
-        length.is_none_or(|length| (self.low..=self.high).contains(&length))
+        length_of(event).is_none_or(|length| (self.low..=self.high).contains(&length))
     }
 
     fn words(&self, names: &Names) -> String {
@@ -290,6 +295,12 @@ impl Rule {
             high: self.high,
         }
     }
+}
+
+/// The length that a START chooses.
+pub fn length_of(event: &[u8]) -> Option<u32> {
+    let bytes = event.get(2..6)?.try_into().ok()?;
+    Some(u32::from_le_bytes(bytes))
 }
 
 fn tick(ticks: u16) -> [u8; 3] {

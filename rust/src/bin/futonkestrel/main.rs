@@ -7,6 +7,7 @@ use std::io::Write;
 use std::process::ExitCode;
 
 mod commands;
+mod ends;
 mod explain;
 mod explore;
 mod figures;

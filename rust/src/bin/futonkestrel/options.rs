@@ -78,6 +78,9 @@ transition or number of ticks. The last line is 'end', the events taken, the
 refusal that stopped the run (0 for none) and the clock. A refusal is explained
 on standard error, and the status is then 1.
 
+A sum that lies outside of 32 bits stops at the nearest end. --words says where that
+happened: the value is then not the sum.
+
 A file of names has a line for each item, first its sort (thread, mode, input,
 output, local, connection, transition), then its number, then its name.";
 
@@ -316,9 +319,9 @@ on standard error, and the status is then 1.",
         about: "write a table as a model for the checker SPIN",
         help: "\
 The Promela model has the table's variables, rules and quiet ticks: its states are
-those that the table's events reach. 'spin -DLAST=60' lets no tick pass clock 60,
-'-DENDS' gives STARTs their shortest and longest length only. A refused table
-writes no file.",
+those that the table's events reach. Sums stop at the ends of 32 bits, as they do
+here. 'spin -DLAST=60' lets no tick pass clock 60, '-DENDS' gives STARTs their
+shortest and longest length only. A refused table writes no file.",
         example: "futonkestrel promela table.bin table.pml",
         run: promela::promela,
     },

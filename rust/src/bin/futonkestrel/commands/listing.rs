@@ -7,6 +7,7 @@ use futonkestrel::{
 };
 
 use super::{tell, tell_file};
+use crate::ends::{stopped, with_ends};
 use crate::files::{self, Input};
 use crate::format::{Format, Item, DEACTIVATE, MODEL, REQUEST, SCRIPT, START, TABLE, TICK};
 use crate::items::Items;
@@ -240,10 +241,15 @@ impl<'a> Job<'a> {
             } else if let (Some(machine), Some(event)) = (&mut machine, events.next()) {
                 let before = machine.variables;
                 machine.step(event);
-                let stop = stops.see(event, &before, &machine.variables);
-                let changed = self.changes(&before, &machine.variables, names);
-                let is_ignored = changed.is_empty();
-                said.extend(words.then(|| happened(event, stop, is_ignored, names, &modes)));
+                let after = &machine.variables;
+                let stop = stops.see(event, &before, after);
+                let changed = self.changes(&before, after, names);
+                said.extend(words.then(|| {
+                    let ends = stopped(&machine.rules, event, &before, after);
+                    let is_ignored = changed.is_empty() && ends.is_empty();
+                    let told = happened(event, stop, is_ignored, names, &modes);
+                    with_ends(&told, &ends, names)
+                }));
                 said.extend((values && !changed.is_empty()).then(|| changed.join(" ")));
             }
             text += format!("{line:COLUMN$}  {}", said.join(": ")).trim_end();

@@ -4,9 +4,10 @@
 //! whether the clock is a multiple of a period or of a least common multiple of
 //! periods. Shifted by the hyperperiod, the least common multiple of all of
 //! them, the clock and all instants that are still looked at answer alike, and
-//! what an event sets is shifted alike. Instants that are no longer looked at
-//! count for nothing. Values of ports and locals never depend on the clock, and
-//! no event looks at how many deadlines were missed.
+//! what an event sets is shifted alike: no instant comes near the end of 32 bits,
+//! where a sum would stop. Instants that are no longer looked at count for nothing.
+//! Values of ports and locals never depend on the clock, and no event looks at how
+//! many deadlines were missed.
 
 use futonkestrel::Variables;
 

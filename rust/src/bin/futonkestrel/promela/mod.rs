@@ -3,7 +3,8 @@
 //! Each rule is an option of one loop. It is taken where its guard holds, no other
 //! rule of the same event holds too (refusal 12), and no variable would be set
 //! twice (refusal 13). Updates read old values: all are worked out before any is
-//! stored.
+//! stored. Sums stop at the ends of 32 bits, and the checker's C code never leaves
+//! them, since what it would do there no compiler promises.
 
 mod conflicts;
 
@@ -58,14 +59,13 @@ fn head(name: &str) -> String {
         "\
 /* {name} in Promela: its variables, its rules and quiet ticks.
  *
- *   spin -o2 -DLAST=60 -a FILE && gcc -O2 -fwrapv -DSAFETY -o pan pan.c && ./pan -m1000000
+ *   spin -o2 -DLAST=60 -a FILE && gcc -O2 -DSAFETY -o pan pan.c && ./pan -m1000000
  *
  * -o2        states differ by variables that no rule reads, too
  * -DLAST=N   no tick passes clock N
  * -DENDS     STARTs have their shortest or longest length only
  * -DCHECK=C  what must hold in every state, as Missed_0==0; else there is a trail
  * -DSHOW     print every state, with pan.c compiled with -DPRINTF
- * -fwrapv    sums go round at 32 bits
  *
  * A trail is replayed by 'spin -t' with the same options; its lines 'event: ..' are a
  * script in words. */
@@ -80,6 +80,12 @@ fn head(name: &str) -> String {
 #else
 #define CHOOSE(low, high) chosen = low; do :: chosen < high -> chosen = chosen + 1 :: break od
 #endif
+/* A sum or difference outside of 32 bits is the nearest end; nothing that is worked out on the
+ * way lies outside. Ticks and lengths are counted up to a bound, so they need not ask. */
+#define LEAST (-2147483647 - 1)
+#define MOST 2147483647
+#define PLUS(a, b) (b < 0 -> (a < LEAST - b -> LEAST : a + b) : (a > MOST - b -> MOST : a + b))
+#define MINUS(a, b) (b < 0 -> (a > MOST + b -> MOST : a - b) : (a < LEAST + b -> LEAST : a - b))
 
 "
     )
@@ -264,7 +270,8 @@ fn updates(rule: &Rule) -> String {
 fn sum(update: &Update) -> String {
     let (first, second) = (operand(update.first), operand(update.second));
     match SUMS[update.op as usize] {
-        "" => first,
-        sign => format!("{first} {sign} {second}"),
+        "+" => format!("PLUS({first}, {second})"),
+        "-" => format!("MINUS({first}, {second})"),
+        _ => first,
     }
 }

@@ -3,10 +3,12 @@
 use futonkestrel::{events, Table};
 
 use super::folding::Piece;
+use crate::ends::{stopped, with_ends};
 use crate::format::TICK;
 use crate::look::Look;
 use crate::machine::event_words;
 use crate::names::Names;
+use crate::rules::rules;
 use crate::stops::{Stop, Stops};
 
 /// A line of the listing.
@@ -72,7 +74,7 @@ pub struct Moment {
     pub last: Step,
     pub before: Look,
     pub after: Look,
-    /// The first step's event in words.
+    /// The first step's event in words, with the sums that it stops.
     pub words: String,
     /// Whether it is the first step of an instant.
     pub begins_instant: bool,
@@ -104,7 +106,7 @@ pub fn moments(
     pieces: &[Piece],
     names: &Names,
 ) -> Vec<Moment> {
-    let mut variables = table.start();
+    let (rules, mut variables) = (rules(table.bytes()), table.start());
     let mut moments: Vec<Moment> = Vec::new();
     let mut wanted = pieces.iter();
     let mut next = wanted.next();
@@ -113,13 +115,14 @@ pub fn moments(
         let before = variables;
         let _ = table.step(&mut variables, event);
         if at == piece.first {
+            let ends = stopped(&rules, event, &before, &variables);
             moments.push(Moment {
                 piece: piece.clone(),
                 first: steps[piece.first],
                 last: steps[piece.last],
                 before: Look::new(before),
                 after: Look::new(variables),
-                words: event_words(event, names),
+                words: with_ends(&event_words(event, names), &ends, names),
                 begins_instant: begins_instant(steps, piece.first),
             });
         }
