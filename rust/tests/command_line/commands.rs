@@ -425,8 +425,7 @@ rule 0 ACTIVATE thread 0
   with State(0) := 1
 21 01 01 00 00 00 00 00 00 00 00
 ";
-    let out = folder.path("out.bin");
-    run_with(&["pack", "-", &out], text.as_bytes()).good();
+    let out = folder.pack("out.bin", text);
     let wanted = "\
 table
 

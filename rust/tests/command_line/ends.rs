@@ -2,7 +2,7 @@
 //! listings and pictures say of it.
 
 use crate::timeline::picture;
-use crate::tools::{readme_example, run, run_with, Folder};
+use crate::tools::{readme_example, run, Folder};
 
 /// The total can be raised once; the other local, and what is sent to a thread that is in no
 /// mode, are at their ends with the first job.
@@ -46,18 +46,12 @@ const FIRST: &str = "5 1 5 0    COMPLETE thread 0, Output(0) and Buffer(0) stop 
 const SECOND: &str = "12 6 5 0   COMPLETE press, Local(total), Output(force) and Buffer(0) stop \
                       at 2147483647, Local(1) stops at -2147483648";
 
-fn packed(folder: &Folder, name: &str, text: &str) -> String {
-    let file = folder.path(name);
-    run_with(&["pack", "-", &file], text.as_bytes()).good();
-    file
-}
-
 /// Model and table have the same values, and the same is said of both.
 #[test]
 fn in_words() {
     let folder = Folder::new("ends-words");
-    let model = packed(&folder, "model.bin", MODEL);
-    let script = packed(&folder, "script.bin", TWO_JOBS);
+    let model = folder.pack("model.bin", MODEL);
+    let script = folder.pack("script.bin", TWO_JOBS);
     let (table, names) = (folder.path("table.bin"), folder.write("names", NAMES));
     run(&["table", &model, &table]).good();
     for (command, file, end) in [
@@ -82,8 +76,8 @@ fn in_words() {
 #[test]
 fn in_traces() {
     let folder = Folder::new("ends-traces");
-    let model = packed(&folder, "model.bin", MODEL);
-    let script = packed(&folder, "script.bin", TWO_JOBS);
+    let model = folder.pack("model.bin", MODEL);
+    let script = folder.pack("script.bin", TWO_JOBS);
     let table = folder.path("table.bin");
     run(&["table", &model, &table]).good();
     for words in [
@@ -100,8 +94,8 @@ fn in_traces() {
 #[test]
 fn in_pictures() {
     let folder = Folder::new("ends-drawn");
-    let model = packed(&folder, "model.bin", MODEL);
-    let script = packed(&folder, "script.bin", TWO_JOBS);
+    let model = folder.pack("model.bin", MODEL);
+    let script = folder.pack("script.bin", TWO_JOBS);
     let drawn = picture(&model, &script, &["--names", &folder.write("names", NAMES)]);
     let (_, words) = SECOND.split_once("   ").expect("there");
     let title = format!("step 12, clock 6: {words}");
@@ -126,7 +120,7 @@ rule 1 REQUEST transition 0
   then Due(3) := Due(3) - -1
 rule 2 REQUEST transition 1
 ";
-    let table = packed(&folder, "table.bin", table);
+    let table = folder.pack("table.bin", table);
     let script = "\
 script
 START thread 3 for 8
@@ -135,7 +129,7 @@ REQUEST transition 0
 START thread 3 for 1
 REQUEST transition 1
 ";
-    let script = packed(&folder, "script.bin", script);
+    let script = folder.pack("script.bin", script);
     let text = run(&["run", "--words", &table, &script]).good();
     let words = text.lines().map(|line| line[9..].trim_start());
     let wanted = [

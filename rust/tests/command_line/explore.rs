@@ -8,7 +8,7 @@ use futonkestrel::{translate_to_vec, Table, Variables};
 use crate::promela::{conflicts, events, reached, small_lesson, small_model, table_of, States};
 use crate::random::Random;
 use crate::stops::changing;
-use crate::tools::{bytes_of, example, run, run_with, Done, Folder};
+use crate::tools::{bytes_of, example, run, Done, Folder};
 use crate::xml::elements;
 
 const REQUEST: u8 = 8;
@@ -311,8 +311,7 @@ rule 0 START thread 0 length 1..2
   then Local(0) := 1
   with Local(0) := 2
 ";
-    let table = folder.path("table.bin");
-    run_with(&["pack", "-", &table], text.as_bytes()).good();
+    let table = folder.pack("table.bin", text);
     let report = explored(&["--table", "--until", "stuck"], &table);
     assert!(
         report.starts_with("found: stuck holds after 1 event, at clock 3\n  TICK 3\n"),
@@ -579,9 +578,7 @@ fn a_table_with_a_fault() {
     ];
     for (right, wrong, events, how) in faults {
         assert!(text.contains(right), "no '{right}': {text}");
-        let table = folder.path("table.bin");
-        let changed = text.replacen(right, wrong, 1);
-        run_with(&["pack", "-", &table], changed.as_bytes()).good();
+        let table = folder.pack("table.bin", &text.replacen(right, wrong, 1));
         let trail = folder.path("trail.bin");
         let options = ["--depth", "9", "--beside", &table, "--trail", &trail];
         let said = explore(&options, &m()).refused();

@@ -1,7 +1,7 @@
 //! Which fields are told of a refused record: those that name nothing (14), the
 //! times of a thread (15), or the others (4), and only the first of these sorts.
 
-use crate::tools::{run, run_with, Folder};
+use crate::tools::{run, Folder};
 
 /// `check` refuses with this number and tells these fields and no others.
 fn assert_told(words: &[&str], number: u32, faults: &[&str]) {
@@ -141,8 +141,7 @@ fn tags_of_a_model() {
 
 /// A table of these lines.
 fn of_table(folder: &Folder, lines: &str, number: u32, faults: &[&str]) {
-    let file = folder.path("table.bin");
-    run_with(&["pack", "-", &file], format!("table\n{lines}").as_bytes()).good();
+    let file = folder.pack("table.bin", &format!("table\n{lines}"));
     assert_told(&["check", "--table", &file], number, faults);
 }
 

@@ -10,7 +10,7 @@ use futonkestrel::{translate_to_vec, Table, Variables};
 
 use crate::random::Random;
 use crate::stops::changing;
-use crate::tools::{bytes_of, example, run, run_with, Folder};
+use crate::tools::{bytes_of, example, run, Folder};
 
 const START: u8 = 4;
 const RULE: u8 = 0x21;
@@ -141,8 +141,7 @@ fn a_trail_is_replayed() {
         .lines()
         .filter_map(|line| line.trim().strip_prefix("event: "));
     let script: Vec<&str> = ["script"].into_iter().chain(events).collect();
-    let out = folder.path("trail.bin");
-    run_with(&["pack", "-", &out], script.join("\n").as_bytes()).good();
+    let out = folder.pack("trail.bin", &script.join("\n"));
     let listing = run(&["steps", &model, &out]).good();
     let last: Vec<&str> = listing.lines().rev().take(2).collect();
     assert!(last[1].ends_with(" 7 0"), "{listing}");
@@ -194,9 +193,7 @@ pub fn small_lesson(folder: &Folder) -> String {
         .replace("min 1 max 4", "min 1 max 1")
         .replace("min 2 max 6 modes 0,1", "min 2 max 2 modes none")
         .replace("min 1 max 5 modes 0", "min 1 max 1 modes none");
-    let model = folder.path("lesson.bin");
-    run_with(&["pack", "-", &model], small.as_bytes()).good();
-    model
+    folder.pack("lesson.bin", &small)
 }
 
 const MOST: i32 = i32::MAX;
@@ -250,7 +247,7 @@ rule 2 REQUEST transition 1
     for (number, (sum, _)) in SUMS.iter().enumerate() {
         text += &format!("  with Local({}) := {sum}\n", number + 2);
     }
-    packed(folder, &text)
+    bytes_of(&folder.pack("sums.bin", &text))
 }
 
 #[test]
@@ -301,14 +298,7 @@ rule 5 START thread 0 length 2..4
 ";
     // A last rule with an empty clause: it never holds.
     let never = vec![RULE, 7, 1, 0, 0, 0, 0, 0, 0, 0, 0, 0x22];
-    [packed(folder, text), never].concat()
-}
-
-/// The bytes of a table in words.
-fn packed(folder: &Folder, text: &str) -> Vec<u8> {
-    let out = folder.path("packed.bin");
-    run_with(&["pack", "-", &out], text.as_bytes()).good();
-    bytes_of(&out)
+    [bytes_of(&folder.pack("conflicts.bin", text)), never].concat()
 }
 
 /// A small model: few threads of short periods, all kinds of records.

@@ -235,8 +235,7 @@ thread 1 period 999979 deadline 1 min 1 max 1 modes 0 critical
 transition 0 from mode 0 to mode 0
 ";
     let folder = Folder::new("hyperperiod");
-    let file = folder.path("model.bin");
-    run_with(&["pack", "-", &file], text.as_bytes()).good();
+    let file = folder.pack("model.bin", text);
     let err = run(&["check", &file]).refused();
     assert!(err.starts_with("refused 7 43 46 "), "{err}");
     let fault = "at fault: the critical threads of mode 0 have the periods 999983, 999979\n";
@@ -484,8 +483,7 @@ fn many_rules_at_once() {
     let rule = |number: usize| format!("rule {number} DISPATCH thread {}\n", number % 256);
     let text: String = (0..2_000).map(rule).collect();
     let folder = Folder::new("many");
-    let table = folder.path("table.bin");
-    run_with(&["pack", "-", &table], format!("table\n{text}").as_bytes()).good();
+    let table = folder.pack("table.bin", &format!("table\n{text}"));
     let script = folder.write("script.bin", &[0x0B, 1, 0]);
     let err = run(&["run", &table, &script]).refused();
     assert!(

@@ -109,12 +109,6 @@ fn a_deadline_that_is_now() {
     assert_eq!(said("2"), "2 processor: thread 0 holds it at clock 10\n");
 }
 
-fn packed(folder: &Folder, name: &str, text: &str) -> String {
-    let out = folder.path(name);
-    run_with(&["pack", "-", &out], text.as_bytes()).good();
-    out
-}
-
 /// Two sources, a connection that is not live, a delayed one, and one from the thread itself.
 #[test]
 fn several_connections() {
@@ -133,7 +127,7 @@ fn several_connections() {
         "connection 3 immediate output 1 to input 2 modes 0\n",
         "connection 4 immediate output 2 to input 3 modes 0\n",
     ];
-    let model = packed(&folder, "model.bin", &text.concat());
+    let model = folder.pack("model.bin", &text.concat());
     let script = folder.write("script.bin", &[1, 0, 1, 1, 1, 2, 3, 2, 3, 0]);
     let wanted = "3 connections: \
                   connection 1 waits for thread 0, which was dispatched at the same clock, 0, and is not done; \
@@ -190,7 +184,7 @@ connection 6 immediate output 1 to input 6 modes 0
 #[test]
 fn connections_that_do_not_wait() {
     let folder = Folder::new("start-others");
-    let model = packed(&folder, "model.bin", JOINED);
+    let model = folder.pack("model.bin", JOINED);
     // All but thread 3, which is not in this mode, begin; thread 0 runs up to clock 4.
     // There it is done, threads 2 and 5 miss, and thread 2 is dispatched again.
     let here = [0, 1, 2, 4, 5, 6];

@@ -2,7 +2,7 @@
 //! others finish first. What listings, pictures and refusals say of it.
 
 use crate::timeline::{picture, texts};
-use crate::tools::{example, readme_example, run, run_with, Folder};
+use crate::tools::{example, readme_example, run, Folder};
 use crate::xml::Element;
 
 /// Threads 1 to 4 are in the first mode alone, and the last of them is critical.
@@ -77,15 +77,12 @@ struct Files {
 impl Files {
     fn new(name: &str) -> Files {
         let folder = Folder::new(name);
-        let model = folder.path("model.bin");
-        run_with(&["pack", "-", &model], MODEL.as_bytes()).good();
+        let model = folder.pack("model.bin", MODEL);
         Files { folder, model }
     }
 
     fn script(&self, parts: &[&str]) -> String {
-        let script = self.folder.path("script.bin");
-        run_with(&["pack", "-", &script], parts.concat().as_bytes()).good();
-        script
+        self.folder.pack("script.bin", &parts.concat())
     }
 
     fn table(&self) -> String {
@@ -281,9 +278,7 @@ transition 1 from mode 1 to mode 0
 ";
 
 pub fn changing(folder: &Folder) -> String {
-    let model = folder.path("changing.bin");
-    run_with(&["pack", "-", &model], CHANGING.as_bytes()).good();
-    model
+    folder.pack("changing.bin", CHANGING)
 }
 
 /// The mode changes, the thread leaves, and both come back.
@@ -325,14 +320,12 @@ const CHANGED: &str = concat!(there_and_back!(), "TICK 1\n");
 /// The picture of periods, each so many times.
 fn periods(name: &str, periods: &[(&str, usize)]) -> Vec<Element> {
     let folder = Folder::new(name);
-    let (model, script) = (changing(&folder), folder.path("script.bin"));
     let all: String = periods
         .iter()
         .map(|(one, many)| one.repeat(*many))
         .collect();
-    let text = format!("script\nACTIVATE thread 0\n{all}");
-    run_with(&["pack", "-", &script], text.as_bytes()).good();
-    picture(&model, &script, &[])
+    let script = folder.pack("script.bin", &format!("script\nACTIVATE thread 0\n{all}"));
+    picture(&changing(&folder), &script, &[])
 }
 
 /// The numbers before these words in folded stretches.

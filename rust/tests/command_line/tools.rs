@@ -139,6 +139,13 @@ impl Folder {
         self.path(name)
     }
 
+    /// What a text says, as a file.
+    pub fn pack(&self, name: &str, text: &str) -> String {
+        let file = self.path(name);
+        assert_eq!(run_with(&["pack", "-", &file], text.as_bytes()).good(), "");
+        file
+    }
+
     /// The names of all files in it.
     pub fn files(&self) -> Vec<String> {
         let entries = fs::read_dir(&self.path).expect("the folder is there");
@@ -154,12 +161,6 @@ impl Folder {
     pub fn edited(&self, file: &str, from: &str, to: &str) -> String {
         let text = run(&["show", &example(file)]).good();
         assert!(text.contains(from), "no '{from}' in {file}");
-        let text = text.replacen(from, to, 1);
-        let edited = self.path("edited.bin");
-        assert_eq!(
-            run_with(&["pack", "-", &edited], text.as_bytes()).good(),
-            ""
-        );
-        edited
+        self.pack("edited.bin", &text.replacen(from, to, 1))
     }
 }
