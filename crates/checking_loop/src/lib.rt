@@ -1,5 +1,7 @@
 // A study group's checking loop lends its state and gets it back one event further. The lent struct is small, and the step is by value.
 
+#![tactic(auto)]
+
 ghost use Rattle.std.specs.Prelude.{◌≡◌};
 ghost use Rattle.model_state.specs.Words.{state_in};
 ghost use Rattle.checking_loop.specs.View.{next_count, view_of, view_after, step_in, told_by, Steps, Turns};
@@ -10,7 +12,7 @@ use numbers::Duration;
 use records::Event;
 
 // What a checking loop shows of a run: the clock, mode and phase of its state, and how many events were taken.
-#[derive(Drop)]
+#[derive(Clone, Copy)]
 pub struct View {
     pub clock: Duration,
     pub mode: u8,
@@ -19,7 +21,7 @@ pub struct View {
 }
 
 // A turn of the loop: the view after it, and what the step gave.
-#[derive(Drop)]
+#[derive(Clone, Copy)]
 pub struct Turn {
     pub view: View,
     pub answered: Answered,

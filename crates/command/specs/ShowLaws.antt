@@ -1,7 +1,7 @@
 -- Laws of what a program prints.
 use Rattle.std.specs.Prelude.{◌≡◌, refl, true, false, List, ℕ, take, get_or, replicate}
 use Rattle.std.proofs.Common.{sym, true≢false}
-use Rattle.io.specs.Counts.{IsPrefixLen}
+use Rattle.command.specs.Counts.{IsPrefixLen}
 use Rattle.records.specs.declared.Notation.{Notation}
 use Rattle.records.specs.declared.Refusal.{Refusal}
 use Rattle.table_writer.specs.Wrote.{Wrote}

@@ -1,6 +1,6 @@
 -- What a program promises of the bytes that it reads and prints.
 use Rattle.std.specs.Prelude.{◌≡◌, Bool, true, false, ◌&&◌, List, ℕ, take, leb}
-use Rattle.io.specs.Counts.{IsPrefixLen}
+use Rattle.command.specs.Counts.{IsPrefixLen}
 use Rattle.records.specs.declared.Cause.TheVariants.{BrokenEvent, InconsistentUpdates}
 use Rattle.records.specs.Refusals.{number_of}
 use Rattle.table_writer.specs.Wrote.{Wrote}

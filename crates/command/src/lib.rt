@@ -1,5 +1,7 @@
 // Files, arguments, standard output and standard error: the only library that touches the operating system.
 
+#![tactic(auto)]
+
 mod arguments;
 mod read;
 mod say;
@@ -7,7 +9,7 @@ mod write;
 
 ghost use Rattle.std.specs.Prelude.{◌≡◌, length};
 
-pub use read::{Input, Inputs, read_inputs, read_model};
+pub use read::{Input, Inputs, read_full, read_inputs, read_model};
 pub use say::tell_refused;
 pub use write::{print_start, write_argument};
 
@@ -15,7 +17,7 @@ pub use write::{print_start, write_argument};
 pub const TOLD: usize = 4;
 
 // What a program came to: how many bytes of its files were read, whether both could be, and how many bytes it printed.
-#[derive(Drop)]
+#[derive(Clone, Copy)]
 pub struct Shown {
     pub model: usize,
     pub script: usize,
@@ -32,6 +34,25 @@ pub fn outcome(model: usize, script: usize, good: bool, printed: usize) -> Shown
         good: good,
         printed: printed,
     }
+}
+
+// The longest name that a file may have.
+const LONGEST_NAME: usize = 4096;
+
+// Room for such a name, and for a last line.
+pub fn buffer() -> [u8; LONGEST_NAME]
+    ensures { 4096 ≡ length result }
+{
+    [0; LONGEST_NAME]
+}
+
+// Room for any model and any script: of a longer file the first 65,536 bytes are read.
+const LARGE: usize = 65536;
+
+pub fn large_buffer() -> [u8; LARGE]
+    ensures { 65536 ≡ length result }
+{
+    [0; LARGE]
 }
 
 // Room for any listing, as 65,536 bytes hold at most 32,768 events and a line has at most 26 bytes, and for any table: one of more than

@@ -1,30 +1,36 @@
 // Files that are read, as far as there is room.
 
 ghost use Rattle.std.specs.Prelude.{◌≡◌};
-ghost use Rattle.io.specs.Counts.{IsPrefixLen};
+ghost use Rattle.command.specs.Counts.{IsPrefixLen};
 
-use crate::arguments::{is_called_well, is_own_model};
-use crate::say::{say, say_name, say_number};
+use crate::arguments::{is_called_well, is_own_model, text_of};
+use crate::buffer;
+use crate::say::{fail, say, say_name, say_number, tell_too_long};
+use std::env::FillError;
+use std::fs::File;
+use std::io;
+use std::io::Read;
+use std::rt::Env;
 
 // How many bytes of a file were read. Where it could not be opened or read, the reason has been told.
-#[derive(Drop)]
+#[derive(Clone, Copy)]
 pub struct Input {
     pub length: usize,
     pub good: bool,
 }
 
 // How many bytes of both files were read, and whether both could be.
-#[derive(Drop)]
+#[derive(Clone, Copy)]
 pub struct Inputs {
     pub model: usize,
     pub script: usize,
     pub good: bool,
 }
 
-fn failed(what: &[u8]) -> Input
+fn failed(rt: &HostRuntime, what: &[u8], error: io::Error) -> Input
     ensures { result.length ≡ 0 }
 {
-    os::fail(what);
+    fail(rt, what, error);
     unread()
 }
 
@@ -37,80 +43,103 @@ fn unread() -> Input
     }
 }
 
-// What one more read answers: negative where it fails, 0 at the end of the file, else there is more.
-fn read_more(fd: i32) -> isize {
+// Reads until the buffer is full, the file ends or a read fails.
+pub fn read_full(file: &mut File, buffer: &mut [u8]) -> usize
+    ensures { IsPrefixLen result buffer.new }
+{
+    let mut done = 0;
+    while done < buffer.len() {
+        let more = file.read(&mut buffer[done..]).unwrap_or(0);
+        if more == 0 {
+            break;
+        }
+        done += more;
+    }
+    done
+}
+
+// What one more read answers: 0 at the end of the file, else there is more.
+fn read_more(file: &mut File) -> io::Result<usize> {
     let mut one = [0u8; 1];
-    libc::read(fd, &mut one)
+    file.read(&mut one)
 }
 
 // Where a file is longer than the room for it.
-fn tell_more(path: &[u8], length: usize, more: isize) {
-    if more <= 0 {
+fn tell_more(rt: &HostRuntime, path: &[u8], length: usize, more: usize) {
+    if more == 0 {
         return;
     }
-    say(path);
-    say(b": only the first ");
-    say_number(length);
-    say(b" bytes were read, there are more\n");
+    say(rt, path);
+    say(rt, b": only the first ");
+    say_number(rt, length);
+    say(rt, b" bytes were read, there are more\n");
 }
 
 // A short count may be the end of the file or a failure: one more read tells which.
-fn read_open(fd: i32, path: &[u8], buffer: &mut [u8]) -> Input
+fn read_open(rt: &HostRuntime, mut file: File, path: &[u8], buffer: &mut [u8]) -> Input
     ensures { IsPrefixLen result.length buffer.new }
 {
-    let length = io::read_full(fd, buffer);
-    let more = read_more(fd);
-    if more < 0 {
-        return failed(path);
+    let length = read_full(&mut file, buffer);
+    match read_more(&mut file) {
+        Ok(more) => {
+            tell_more(rt, path, length, more);
+            Input {
+                length: length,
+                good: true,
+            }
+        }
+        Err(error) => failed(rt, path, error),
     }
-    tell_more(path, length, more);
-    Input {
-        length: length,
-        good: true,
-    }
+}
+
+fn open(rt: &HostRuntime, path: &[u8]) -> io::Result<File> {
+    File::open(rt, text_of(path)?)
 }
 
 // The start of a file, as much as the buffer has room for.
-fn read_file(path: &[u8], buffer: &mut [u8]) -> Input
+fn read_file(rt: &HostRuntime, path: &[u8], buffer: &mut [u8]) -> Input
     ensures { IsPrefixLen result.length buffer.new }
 {
-    let fd = os::open_read(path);
-    if fd < 0 {
-        return failed(path);
+    match open(rt, path) {
+        Ok(file) => read_open(rt, file, path, buffer),
+        Err(error) => failed(rt, path, error),
     }
-    let input = read_open(fd, path, buffer);
-    libc::close(fd);
-    input
 }
 
 // The file that an argument names, or the one of the given name where there is no such argument.
-fn read_argument(argument: usize, name: &[u8], buffer: &mut [u8]) -> Input
-    ensures { IsPrefixLen result.length buffer.new }
+fn read_argument(rt: &HostRuntime, argument: usize, name: &[u8], room: &mut [u8]) -> Input
+    ensures { IsPrefixLen result.length room.new }
 {
-    if os::arg_count() <= argument {
-        return read_file(name, buffer);
+    let mut path = buffer();
+    match rt.arg(argument, &mut path) {
+        Ok(length) => read_file(rt, &path[..length], room),
+        Err(FillError::NotPresent) => read_file(rt, name, room),
+        Err(FillError::TooLong) => {
+            tell_too_long(rt);
+            unread()
+        }
     }
-    let mut path = io::buffer();
-    let length = os::arg(argument, &mut path);
-    if os::errno() != 0 {
-        return failed(b"argument");
-    }
-    read_file(&path[..length], buffer)
 }
 
 // The model, or the table that stands for it, and the script: the first two arguments.
-pub fn read_inputs(usage: &[u8], name: &[u8], model: &mut [u8], script: &mut [u8]) -> Inputs
+pub fn read_inputs(
+    rt: &HostRuntime,
+    usage: &[u8],
+    name: &[u8],
+    model: &mut [u8],
+    script: &mut [u8],
+) -> Inputs
     ensures { (IsPrefixLen result.model model.new) × (IsPrefixLen result.script script.new) }
 {
-    if !is_called_well(usage) {
+    if !is_called_well(rt, usage) {
         return Inputs {
             model: 0,
             script: 0,
             good: false,
         };
     }
-    let first = read_argument(1, name, model);
-    let second = read_argument(2, b"script.bin", script);
+    let first = read_argument(rt, 1, name, model);
+    let second = read_argument(rt, 2, b"script.bin", script);
     let first_good = first.good;
     let second_good = second.good;
     Inputs {
@@ -121,16 +150,16 @@ pub fn read_inputs(usage: &[u8], name: &[u8], model: &mut [u8], script: &mut [u8
 }
 
 // The model that `make_table` reads: its first argument.
-pub fn read_model(usage: &[u8], buffer: &mut [u8]) -> Input
+pub fn read_model(rt: &HostRuntime, usage: &[u8], buffer: &mut [u8]) -> Input
     ensures { IsPrefixLen result.length buffer.new }
 {
-    if !is_called_well(usage) {
+    if !is_called_well(rt, usage) {
         return unread();
     }
-    if is_own_model() {
-        say_name(1, b"model.bin");
-        say(b": the table would be written over its model\n");
+    if is_own_model(rt) {
+        say_name(rt, 1, b"model.bin");
+        say(rt, b": the table would be written over its model\n");
         return unread();
     }
-    read_argument(1, b"model.bin", buffer)
+    read_argument(rt, 1, b"model.bin", buffer)
 }

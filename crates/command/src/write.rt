@@ -1,131 +1,115 @@
 // What is printed, and the files that are written: all of a table, or what was there.
 
-use crate::arguments::begins_with;
-use crate::say::say;
-use libc::{STDERR_FILENO, STDOUT_FILENO};
-use numbers::Value;
-
-// The longest name that a file may have, as large as the buffer for it.
-const LONGEST_NAME: usize = 4096;
-
-// The digits of a process number.
-const MOST_DIGITS: usize = 20;
+use crate::arguments::{begins_with, text_before_zeros, text_of};
+use crate::buffer;
+use crate::say::{fail, say, tell_too_long};
+use std::env::FillError;
+use std::fs::{File, OpenOptions};
+use std::io::{ErrorKind, Write};
+use std::rt::Env;
+use std::{fs, io, process};
 
 // As many bytes of a buffer, from its start on.
-pub fn print_start(buffer: &[u8], length: usize) {
+pub fn print_start(rt: &HostRuntime, buffer: &[u8], length: usize) {
     if buffer.len() < length {
-        io::write_all(STDERR_FILENO, b"listing: too long\n");
+        say(rt, b"listing: too long\n");
         return;
     }
-    if !io::write_all(STDOUT_FILENO, &buffer[..length]) {
-        os::fail(b"standard output");
+    if let Err(error) = rt.write_all(&buffer[..length]) {
+        fail(rt, b"standard output", error);
     }
 }
 
-fn write_straight(fd: i32, path: &[u8], bytes: &[u8]) {
-    if fd < 0 {
-        os::fail(path);
-        return;
-    }
-    if !io::write_all(fd, bytes) {
-        os::fail(path);
-    }
-    libc::close(fd);
+fn write_straight(mut file: File, bytes: &[u8]) -> io::Result<()> {
+    file.write_all(bytes)
 }
 
-// Whether all bytes were written, have reached the device, and the file was closed. Where not, errno says why.
-fn is_stored(fd: i32, bytes: &[u8]) -> bool {
-    if !io::write_all(fd, bytes) {
-        libc::close(fd);
-        return false;
-    }
-    if libc::fsync(fd) != 0 {
-        libc::close(fd);
-        return false;
-    }
-    libc::close(fd) == 0
+// All bytes are written and have reached the device.
+fn store(mut file: File, bytes: &[u8]) -> io::Result<()> {
+    file.write_all(bytes)?;
+    file.sync_all()
 }
 
 // A new file gets the bytes, and then the name: whoever opens the path finds what was there, or all of the table.
-fn write_whole(new: &[u8], path: &[u8], bytes: &[u8]) {
-    let fd = os::create(new);
-    if fd < 0 {
-        os::fail(path);
-        return;
+fn write_whole(rt: &HostRuntime, new: &str, path: &str, bytes: &[u8]) -> io::Result<()> {
+    let file = OpenOptions::new()
+        .write(true)
+        .create_new(true)
+        .open(rt, new)?;
+    let written = move_in(rt, file, new, path, bytes);
+    if written.is_err() {
+        let _ = fs::remove_file(rt, new);
     }
-    if !is_stored(fd, bytes) {
-        os::fail(path);
-        os::unlink(new);
-        return;
-    }
-    if os::rename(new, path) != 0 {
-        os::fail(path);
-        os::unlink(new);
-    }
+    written
 }
 
-// The name of the new file, in the same folder: the table's, a dot and the number of this process.
-fn write_beside(path: &[u8], bytes: &[u8]) {
-    let mut digits = [0u8; MOST_DIGITS];
-    let process = Value(libc::getpid());
-    let count = io::decimal(numbers::bits(process) as u64, &mut digits);
-    let mut new = io::buffer();
-    let at = listing_writer::put_text(&mut new, 0, path);
-    let at = listing_writer::put_text(&mut new, at, b".");
-    let length = listing_writer::put_text(&mut new, at, &digits[..count]);
-    if length > LONGEST_NAME {
-        say(path);
-        say(b": the name is too long\n");
-        return;
+fn move_in(rt: &HostRuntime, file: File, new: &str, path: &str, bytes: &[u8]) -> io::Result<()> {
+    store(file, bytes)?;
+    fs::rename(rt, new, path)
+}
+
+// The new file's name, in the same folder: the table's, a dot and the number of this process.
+fn write_beside(rt: &HostRuntime, path: &str, bytes: &[u8]) -> io::Result<()> {
+    let mut new = buffer();
+    let mut rest = &mut new[..];
+    let process = process::id(rt.process());
+    if write!(rest, "{path}.{process}").is_err() {
+        let message = "the name is too long";
+        return Err(io::Error::new(ErrorKind::InvalidFilename, message));
     }
-    write_whole(&new[..length], path, bytes);
+    write_whole(rt, text_before_zeros(&new), path, bytes)
 }
 
 // A file is replaced as a whole. What is no regular file, as a pipe or a device, is written as it is and never replaced: it lies under
 // /dev or /proc, or cannot be synced.
-fn write_file(path: &[u8], bytes: &[u8]) {
+fn write_file(rt: &HostRuntime, path: &[u8], bytes: &[u8]) -> io::Result<()> {
+    let name = text_of(path)?;
     if begins_with(path, b"/dev/") | begins_with(path, b"/proc/") {
-        write_straight(os::open_overwrite(path), path, bytes);
-        return;
+        return write_straight(File::create(rt, name)?, bytes);
     }
-    let fd = os::open_append(path);
-    if fd < 0 {
-        write_missing(path, bytes);
-        return;
+    match OpenOptions::new().append(true).open(rt, name) {
+        Ok(file) => write_over(rt, file, name, bytes),
+        Err(error) => write_missing(rt, error, name, bytes),
     }
-    if libc::fsync(fd) == 0 {
-        libc::close(fd);
-        write_beside(path, bytes);
-        return;
-    }
-    if os::errno() == libc::EINVAL {
-        write_straight(fd, path, bytes);
-        return;
-    }
-    os::fail(path);
-    libc::close(fd);
 }
 
-// A file that could not be opened: none is there, or the reason is told.
-fn write_missing(path: &[u8], bytes: &[u8]) {
-    if os::errno() != libc::ENOENT {
-        os::fail(path);
-        return;
+// A file that is there, open at its end.
+fn write_over(rt: &HostRuntime, file: File, path: &str, bytes: &[u8]) -> io::Result<()> {
+    match file.sync_all() {
+        Ok(()) => {
+            drop(file);
+            write_beside(rt, path, bytes)
+        }
+        Err(error) => {
+            if error.kind() != ErrorKind::InvalidInput {
+                return Err(error);
+            }
+            write_straight(file, bytes)
+        }
     }
-    write_beside(path, bytes);
+}
+
+// A file that could not be opened: none is there, or that is the reason.
+fn write_missing(rt: &HostRuntime, error: io::Error, path: &str, bytes: &[u8]) -> io::Result<()> {
+    if error.kind() != ErrorKind::NotFound {
+        return Err(error);
+    }
+    write_beside(rt, path, bytes)
+}
+
+// Where the file cannot be written, the reason is told.
+fn write_or_tell(rt: &HostRuntime, path: &[u8], bytes: &[u8]) {
+    if let Err(error) = write_file(rt, path, bytes) {
+        fail(rt, path, error);
+    }
 }
 
 // The bytes of a table to the file that an argument names, or to the one of the given name.
-pub fn write_argument(argument: usize, name: &[u8], bytes: &[u8]) {
-    if os::arg_count() <= argument {
-        write_file(name, bytes);
-        return;
+pub fn write_argument(rt: &HostRuntime, argument: usize, name: &[u8], bytes: &[u8]) {
+    let mut path = buffer();
+    match rt.arg(argument, &mut path) {
+        Ok(length) => write_or_tell(rt, &path[..length], bytes),
+        Err(FillError::NotPresent) => write_or_tell(rt, name, bytes),
+        Err(FillError::TooLong) => tell_too_long(rt),
     }
-    let mut path = io::buffer();
-    let length = os::arg(argument, &mut path);
-    if os::errno() != 0 {
-        os::fail(b"argument");
-        return;
-    }
-    write_file(&path[..length], bytes);
 }

@@ -1,6 +1,8 @@
 // The static library: what programs in C and other languages call. Each function takes slices (in C a pointer and a count) and has no
 // condition on what they hold.
 
+#![tactic(auto)]
+
 ghost use Rattle.std.specs.Prelude.{◌≡◌, length};
 ghost use Rattle.std.proofs.lemmas.List.Edits.{sets};
 ghost use Rattle.records.specs.declared.Notation.TheVariants as notations;

@@ -1,5 +1,7 @@
 // What is enabled, for callers who lend slices: four numbers an event into the output, the count and the tick into what is told.
 
+#![tactic(auto)]
+
 ghost use Rattle.std.specs.Prelude.{◌≡◌, length};
 ghost use Rattle.enabled.specs.Enabled.{model_offers, model_may_tick};
 ghost use Rattle.enabled.specs.Told.{told_from, list_from};

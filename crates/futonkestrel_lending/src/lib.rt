@@ -1,5 +1,7 @@
 // What callers lend: variables by their bits, and places for what is told of a refusal or a run.
 
+#![tactic(auto)]
+
 ghost use Rattle.std.specs.Prelude.{◌≡◌, cond};
 ghost use Rattle.records.specs.declared.Notation.TheVariants as notations;
 ghost use Rattle.records.specs.Format.{part_length_at};

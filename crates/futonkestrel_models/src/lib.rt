@@ -1,5 +1,7 @@
 // The model's engine for callers who lend slices. Model and state are lists of numbers of our own, which the engine is lent.
 
+#![tactic(auto)]
+
 ghost use Rattle.std.specs.Prelude.{◌≡◌};
 ghost use Rattle.model_words.specs.Words.{timing_in};
 ghost use Rattle.model_state.specs.Words.{state_in};

@@ -1,5 +1,7 @@
 // A model read into a list of numbers that a caller keeps.
 
+#![tactic(auto)]
+
 ghost use Rattle.std.specs.Prelude.{◌≡◌, length};
 ghost use Rattle.model_format.specs.Reading.{read_model};
 ghost use Rattle.model_settling.specs.ModelWords.{words_of_model};

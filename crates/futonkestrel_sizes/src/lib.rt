@@ -1,5 +1,7 @@
 // The size of a table before it is made, told in the places that a caller lends.
 
+#![tactic(auto)]
+
 ghost use Rattle.futonkestrel_lending.specs.Lending.{Tells};
 ghost use Rattle.futonkestrel_sizes.specs.Sizes.{told_size, TellsSize};
 

@@ -1,6 +1,8 @@
 // START's test, told to callers who lend slices: the first step of it that fails, by a model's bytes and a script, or by numbers that the
 // caller keeps.
 
+#![tactic(auto)]
+
 ghost use Rattle.futonkestrel_starts.specs.Starts.{TellsStart, TellsStartIn};
 
 use futonkestrel_lending::{number, tell_refusal};

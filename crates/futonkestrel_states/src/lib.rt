@@ -1,6 +1,8 @@
 // States in lists of numbers that a caller keeps: started and taken one event further. A list of any content stands for a model or a state,
 // so no call asks how it was made.
 
+#![tactic(auto)]
+
 ghost use Rattle.std.specs.Prelude.{◌≡◌, length};
 ghost use Rattle.model_semantics.specs.Machine as machine;
 ghost use Rattle.state_settling.specs.Words.{words_of_state};

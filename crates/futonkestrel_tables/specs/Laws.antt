@@ -19,7 +19,7 @@ use Rattle.table_format.specs.Variables.{variables}
 use Rattle.table_semantics.specs.declared.Variables.{Variables}
 use Rattle.table_semantics.specs.Machine.{start_variables, clock_of, run_table}
 use Rattle.table_semantics.specs.Runs.{variables_of, stepped_to}
-use Rattle.table_semantics.specs.MachineLaws.{refused_same}
+use Rattle.table_semantics.proofs.MachineLaws.{refused_same}
 use Rattle.table_index.specs.Index.{rules_by, step_by}
 use Rattle.table_machine.specs.Running.{step_size}
 use Rattle.listing.specs.Outcomes.{refused_outcome, table_outcome}

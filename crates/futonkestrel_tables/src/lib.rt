@@ -1,5 +1,7 @@
 // The table's engine for callers who lend slices.
 
+#![tactic(auto)]
+
 ghost use Rattle.std.specs.Prelude.{◌≡◌, length};
 ghost use Rattle.std.proofs.lemmas.List.Edits.{sets};
 ghost use Rattle.table_index.specs.Index.{index_of, index_size};

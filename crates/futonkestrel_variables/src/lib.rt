@@ -1,5 +1,7 @@
 // A state as the variables of a table, Due and End among them.
 
+#![tactic(auto)]
+
 ghost use Rattle.std.specs.Prelude.{◌≡◌, ◌-◌};
 ghost use Rattle.model_state.specs.Words.{state_in};
 ghost use Rattle.model_words.specs.Words.{timing_in};

@@ -52,10 +52,10 @@ module _ {A : Type 0} (fields : A → List ℕ) (z : ℕ) (sized : (a : A) → l
       ap (λ (q : ℕ). get_or ((fields a ++ joined fields l) ++ rest) q 0) p ∙ ap (λ (r : List ℕ). get_or r (length (fields a) + (i * z + k)) 0) (append_assoc (fields a) (joined fields l) rest) ∙
       get_or-append-add (fields a) (joined fields l ++ rest) (i * z + k) 0 ∙ joined_at d l rest i k (omega arith) j
 
-  block : (again : A → A) (itemIn : List ℕ → ℕ → A) → ((W : List ℕ) (q : ℕ) (a : A) → ((k : ℕ) → k < z → get_or W (q + k) 0 ≡ get_or (fields a) k 0) → itemIn W q ≡ again a) →
-      (d : A) (W : List ℕ) (b n : ℕ) (l : List A) (rest : List ℕ) → drop b W ≡ joined fields l ++ rest → length l ≡ n → list_below n (λ i. itemIn W (b + i * z)) ≡ map again l
-  block again itemIn reads d W b n l rest e h =
-      list_below_is n (λ i. itemIn W (b + i * z)) (map again l) (again d) (length-map l again ∙ h) (λ i k. reads W (b + i * z) (get_or l i d) (λ q j. at i q k j) ∙ sym (get_or-map again l i d))
+  block : (again : A → A) (item_in : List ℕ → ℕ → A) → ((W : List ℕ) (q : ℕ) (a : A) → ((k : ℕ) → k < z → get_or W (q + k) 0 ≡ get_or (fields a) k 0) → item_in W q ≡ again a) →
+      (d : A) (W : List ℕ) (b n : ℕ) (l : List A) (rest : List ℕ) → drop b W ≡ joined fields l ++ rest → length l ≡ n → list_below n (λ i. item_in W (b + i * z)) ≡ map again l
+  block again item_in reads d W b n l rest e h =
+      list_below_is n (λ i. item_in W (b + i * z)) (map again l) (again d) (length-map l again ∙ h) (λ i k. reads W (b + i * z) (get_or l i d) (λ q j. at i q k j) ∙ sym (get_or-map again l i d))
     where
       at : (i q : ℕ) → i < n → q < z → get_or W (b + i * z + q) 0 ≡ get_or (fields (get_or l i d)) q 0
       at i q k j =

@@ -5,4 +5,3 @@ pub mod RunLaws
 pub mod Programs
 pub mod Outcomes
 pub mod Parts
-pub mod Same

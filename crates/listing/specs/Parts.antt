@@ -18,14 +18,14 @@ use Rattle.records.specs.Events.{event_of}
 use Rattle.records.specs.Run.{Machine, run_from}
 use Rattle.records.specs.Walk.{parts_at, parts_split}
 use Rattle.model_format.specs.declared.Reading.{Reading}
-use Rattle.model_format.specs.Format.{record_of as modelRecord}
+use Rattle.model_format.specs.Format.{record_of as model_record}
 use Rattle.model_format.specs.Reading as model-reading
 use Rattle.model_semantics.specs.Machine.{start_state, machine_of, run_model}
 use Rattle.table_format.specs.declared.Context.{Context}
-use Rattle.table_format.specs.Format.{record_of as tableRecord}
+use Rattle.table_format.specs.Format.{record_of as table_record}
 use Rattle.table_format.specs.Reading as table-reading
 use Rattle.table_format.specs.Table.{table_of}
-use Rattle.table_semantics.specs.Machine.{start_variables, machine_of as tableMachine, run_table}
+use Rattle.table_semantics.specs.Machine.{start_variables, machine_of as table_machine, run_table}
 use Rattle.translation.specs.Translate.{translated, table_bytes}
 use Rattle.listing.specs.Programs.{room}
 use Rattle.listing.specs.Outcomes.{model_outcome, table_outcome, rules_outcome, cut_at, part_of_input, part_in, cut_part}
@@ -81,12 +81,12 @@ module _ (model script : List ℕ) where
       go true f = rw f (no_head_part p (at_end Model model p e))
       go false f = rw f refl
   read_part a p (x ∷ l) e =
-      go (λ y. read_part (model-reading.next_reading a (modelRecord x)) (p + length x) l y) (is_none (model-reading.cause_of a (modelRecord x))) refl
+      go (λ y. read_part (model-reading.next_reading a (model_record x)) (p + length x) l y) (is_none (model-reading.cause_of a (model_record x))) refl
     where
       go : (parts Model (drop (p + length x) model) ≡ l →
-          part_of (model-reading.read_from (model-reading.next_reading a (modelRecord x)) (p + length x) l).refusal model script ≡
-          cut_part Model (model-reading.read_from (model-reading.next_reading a (modelRecord x)) (p + length x) l).refusal model script) →
-          (b : Bool) → is_none (model-reading.cause_of a (modelRecord x)) ≡ b →
+          part_of (model-reading.read_from (model-reading.next_reading a (model_record x)) (p + length x) l).refusal model script ≡
+          cut_part Model (model-reading.read_from (model-reading.next_reading a (model_record x)) (p + length x) l).refusal model script) →
+          (b : Bool) → is_none (model-reading.cause_of a (model_record x)) ≡ b →
           part_of (model-reading.read_from a p (x ∷ l)).refusal model script ≡ cut_part Model (model-reading.read_from a p (x ∷ l)).refusal model script
       go ih true f = rw f (ih (parts_split Model model p x l e).rest)
       go ih false f = rw (f, f) (part_here Model model p x l e)
@@ -112,12 +112,12 @@ module _ (table script : List ℕ) where
     unfolding table-reading.read_from part_of cut_part part_in part_of_input number_of
     table_from_part c p [] e = refl
     table_from_part c p (x ∷ l) e =
-        go (λ y. table_from_part (table-reading.next_context c (tableRecord x)) (p + length x) l y) (is_none (table-reading.cause_of c (tableRecord x))) refl
+        go (λ y. table_from_part (table-reading.next_context c (table_record x)) (p + length x) l y) (is_none (table-reading.cause_of c (table_record x))) refl
       where
         go : (parts Table (drop (p + length x) table) ≡ l →
-            part_of (table-reading.read_from (table-reading.next_context c (tableRecord x)) (p + length x) l) table script ≡
-            cut_part Table (table-reading.read_from (table-reading.next_context c (tableRecord x)) (p + length x) l) table script) →
-            (b : Bool) → is_none (table-reading.cause_of c (tableRecord x)) ≡ b →
+            part_of (table-reading.read_from (table-reading.next_context c (table_record x)) (p + length x) l) table script ≡
+            cut_part Table (table-reading.read_from (table-reading.next_context c (table_record x)) (p + length x) l) table script) →
+            (b : Bool) → is_none (table-reading.cause_of c (table_record x)) ≡ b →
             part_of (table-reading.read_from c p (x ∷ l)) table script ≡ cut_part Table (table-reading.read_from c p (x ∷ l)) table script
         go ih true f = rw f (ih (parts_split Table table p x l e).rest)
         go ih false f = rw (f, f, short) (part_here Table table p x l e)
@@ -137,7 +137,7 @@ module _ (table script : List ℕ) where
     where
       go : (b : Bool) → is_none (table-reading.read_table table).cause ≡ b →
           part_of (table_outcome table script).refusal table script ≡ cut_part Table (table_outcome table script).refusal table script
-      go true f = rw f (run_part (tableMachine (table_of table).rules) Table table script (start_variables (table_of table)) 0 0 (parts Script script) refl)
+      go true f = rw f (run_part (table_machine (table_of table).rules) Table table script (start_variables (table_of table)) 0 0 (parts Script script) refl)
       go false f = rw f table_read_part
 
 -- ---- translating a model, and the run of its table
@@ -162,5 +162,5 @@ module _ (model script : List ℕ) where
 
         go : (b : Bool) → is_none (translated model room).refusal.cause ≡ b →
             part_of (rules_outcome model script).refusal model script ≡ cut_part Model (rules_outcome model script).refusal model script
-        go true f = rw (f, accepted f) (run_part (tableMachine (table_of table).rules) Model model script (start_variables (table_of table)) 0 0 (parts Script script) refl)
+        go true f = rw (f, accepted f) (run_part (table_machine (table_of table).rules) Model model script (start_variables (table_of table)) 0 0 (parts Script script) refl)
         go false f = rw f (translated_part room)

@@ -1,5 +1,7 @@
 // The numbered lines of a run, as bytes.
 
+#![tactic(auto)]
+
 ghost use Rattle.std.specs.Prelude.{◌≡◌, [], ◌∷◌, ◌+◌, ◌%◌};
 ghost use Rattle.listing.specs.Listing.{zero_digit, most_digits, decimal, line, last_line};
 ghost use Rattle.listing.specs.Lines.{figure_room, line_room, text_of, Padded, Room, Written};
@@ -16,7 +18,7 @@ const MOST_DIGITS: usize = 20;
 const ZERO_DIGIT: u64 = 48;
 
 // A line of text. It is written from its end: the text stands from `start` to the end of `bytes`, after zeros.
-#[derive(Drop)]
+#[derive(Clone, Copy)]
 pub struct Line {
     pub start: usize,
     pub bytes: [u8; LINE_ROOM],

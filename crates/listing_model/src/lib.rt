@@ -1,5 +1,7 @@
 // The listing of a model's run, written into a lent slice.
 
+#![tactic(auto)]
+
 ghost use Rattle.records.specs.declared.Notation.TheVariants as notations;
 ghost use Rattle.model_semantics.specs.State.{now_of};
 ghost use Rattle.model_semantics.specs.Machine.{start_state, machine_of, run_model};

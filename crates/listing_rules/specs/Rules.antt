@@ -15,7 +15,7 @@ use Rattle.translator.specs.Tables.{was_made, table_is}
 use Rattle.listing.specs.Listing.{refused_listing}
 use Rattle.listing.specs.Programs.{room, table_listing, rules_listing, PrintsSame}
 use Rattle.listing.specs.Outcomes.{table_outcome, rules_outcome}
-use Rattle.listing.specs.Same.{demand_prints_same}
+use Rattle.listing.proofs.Same.{demand_prints_same}
 use Rattle.table_writer.specs.Wrote.{Wrote}
 use Rattle.listing_writer.specs.declared.Printed.{Printed}
 use Rattle.listing_writer.specs.PrintLaws.{prints_end}

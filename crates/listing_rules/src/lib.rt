@@ -1,5 +1,7 @@
 // The listing of the run of a model's table, written into a lent slice.
 
+#![tactic(auto)]
+
 ghost use Rattle.std.specs.Prelude.{◌≡◌, length};
 ghost use Rattle.records.specs.declared.Notation.TheVariants as notations;
 ghost use Rattle.listing.specs.Programs.{room, rules_listing, PrintsSame};

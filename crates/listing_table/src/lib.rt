@@ -1,5 +1,7 @@
 // The listing of a table's run, written into a lent slice.
 
+#![tactic(auto)]
+
 ghost use Rattle.records.specs.declared.Notation.TheVariants as notations;
 ghost use Rattle.table_format.specs.Table.{table_of};
 ghost use Rattle.table_semantics.specs.Machine.{machine_of, clock_of, start_variables, run_table};

@@ -19,8 +19,8 @@ told_printed n r = n ∷ number_of r.cause ∷ r.start ∷ r.end ∷ []
 
 -- "The part refused is handed back from the model or the script, whichever holds it": w is the notation of the model, or of the table
 -- that stands for it. The part has the bytes that the refusal names, and they are what cutting the input gives at its place.
-pub record HandsBack (w : Notation) (text : List ℕ) (refused : Refusal) (model script out told part outAfter toldAfter : List ℕ) : Type 0 where
-  pub wrote : Wrote out 0 text outAfter (min (length text) farthest)
-  pub tells : toldAfter ≡ sets told 0 (told_printed (min (length text) farthest) refused)
+pub record HandsBack (w : Notation) (text : List ℕ) (refused : Refusal) (model script out told part out_after told_after : List ℕ) : Type 0 where
+  pub wrote : Wrote out 0 text out_after (min (length text) farthest)
+  pub tells : told_after ≡ sets told 0 (told_printed (min (length text) farthest) refused)
   pub is_part : part ≡ part_of refused model script
   pub is_cut : part ≡ cut_part w refused model script

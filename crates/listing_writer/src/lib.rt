@@ -1,5 +1,7 @@
 // Listings, line by line into a lent slice, and what is told of the refusal that ends one.
 
+#![tactic(auto)]
+
 ghost use Rattle.std.specs.Prelude.{◌≡◌, ◌≤◌, set};
 ghost use Rattle.std.proofs.lemmas.List.Edits.{sets};
 ghost use Rattle.listing.specs.Listing.{line, last_line, refused_listing};
@@ -11,7 +13,7 @@ use listing::Line;
 use records::{Cause, Event, Refusal};
 
 // What writing a listing comes to: its length, and the refusal that stopped the run.
-#[derive(Drop)]
+#[derive(Clone, Copy)]
 pub struct Printed {
     pub length: usize,
     pub refusal: Refusal,

@@ -1,7 +1,7 @@
 -- Laws of what `make_table` makes and prints.
 use Rattle.std.specs.Prelude.{◌≡◌, refl, Bool, true, false, List, ℕ, take}
 use Rattle.std.proofs.Common.{sym, ap, true≢false, arith}
-use Rattle.io.specs.Counts.{IsPrefixLen}
+use Rattle.command.specs.Counts.{IsPrefixLen}
 use Rattle.records.specs.Refusals.{is_none}
 use Rattle.translation.specs.declared.Translation.{Translation}
 use Rattle.translator.specs.Translates.{Translates}

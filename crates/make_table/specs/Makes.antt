@@ -1,6 +1,6 @@
 -- What `make_table` promises of the bytes that it reads, writes and prints.
 use Rattle.std.specs.Prelude.{◌≡◌, true, false, cond, List, [], ℕ, take, length}
-use Rattle.io.specs.Counts.{IsPrefixLen}
+use Rattle.command.specs.Counts.{IsPrefixLen}
 use Rattle.records.specs.Refusals.{is_none}
 use Rattle.translation.specs.Translate.{translated, output_after}
 use Rattle.listing.specs.Listing.{refused_listing}

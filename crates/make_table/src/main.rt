@@ -1,12 +1,14 @@
 // Writes the table of a model to a file. It is tried on a model that is refused, whose last line it prints.
 
+#![tactic(auto)]
+
 ghost use Rattle.std.specs.Prelude.{◌≡◌};
 ghost use Rattle.make_table.specs.Makes.{Makes};
 
 use records::Refusal;
 
 // What `make_table` came to: how many bytes of its file were read, whether it could be, how long the table is, and how many bytes were printed.
-#[derive(Drop)]
+#[derive(Clone, Copy)]
 struct Made {
     pub model: usize,
     pub good: bool,
@@ -15,11 +17,11 @@ struct Made {
 }
 
 // What was refused of a model that has no table.
-fn tell_untranslated(model: &[u8], refusal: Refusal) {
+fn tell_untranslated(rt: &HostRuntime, model: &[u8], refusal: Refusal) {
     let cause = refusal.cause;
     let number = records::number_of(cause) as usize;
     let part = records::part_of(model, model, refusal);
-    command::tell_refused(b"model.bin", number, refusal.start, refusal.end, part);
+    command::tell_refused(rt, b"model.bin", number, refusal.start, refusal.end, part);
 }
 
 fn table_told(model: usize, read: bool, bytes: usize, printed: usize) -> Made
@@ -34,10 +36,10 @@ fn table_told(model: usize, read: bool, bytes: usize, printed: usize) -> Made
 }
 
 // The program `make_table`: `table` up to `bytes` goes to the file, or, where there is none to make, `out` up to `printed` to standard output.
-fn make_main(model: &mut [u8], table: &mut [u8], out: &mut [u8]) -> Made
+fn make_main(rt: &HostRuntime, model: &mut [u8], table: &mut [u8], out: &mut [u8]) -> Made
     ensures { Makes model.new table.old out.old result table.new out.new }
 {
-    let read = command::read_model(b"usage: make_table [model.bin [table.bin]]\n", model);
+    let read = command::read_model(rt, b"usage: make_table [model.bin [table.bin]]\n", model);
     let length = read.length;
     if !read.good {
         return table_told(length, false, 0, 0);
@@ -47,18 +49,18 @@ fn make_main(model: &mut [u8], table: &mut [u8], out: &mut [u8]) -> Made
     let cause = refusal.cause;
     let bytes = translation.bytes;
     if records::is_none(cause) {
-        command::write_argument(2, b"table.bin", &table[..bytes]);
+        command::write_argument(rt, 2, b"table.bin", &table[..bytes]);
         return table_told(length, true, bytes, 0);
     }
     let printed = listing_writer::refused_listing(out, cause);
-    command::print_start(out, printed);
-    tell_untranslated(&model[..length], refusal);
+    command::print_start(rt, out, printed);
+    tell_untranslated(rt, &model[..length], refusal);
     table_told(length, true, bytes, printed)
 }
 
-fn main() {
-    let mut model = io::large_buffer();
+fn main(rt: HostRuntime) {
+    let mut model = command::large_buffer();
     let mut table = command::wide_buffer();
-    let mut out = io::buffer();
-    make_main(&mut model, &mut table, &mut out);
+    let mut out = command::buffer();
+    make_main(&rt, &mut model, &mut table, &mut out);
 }

@@ -2,6 +2,8 @@
 // are stored, and its to-state is the thread's behaviour state. Lists of any content and any length are met; nothing is copied but the new
 // values of one transition.
 
+#![tactic(auto)]
+
 mod assigning;
 
 ghost use Rattle.std.specs.Prelude.{◌≡◌};

@@ -1,5 +1,7 @@
 // The machine with model and state by value, as a caller has them who keeps every state: each call copies the state and works on the copy.
 
+#![tactic(auto)]
+
 ghost use Rattle.std.specs.Prelude.{◌≡◌};
 ghost use Rattle.model_semantics.specs.Machine as machine;
 ghost use Rattle.model_state.specs.Words.{state_in};
@@ -13,18 +15,18 @@ use model_words::MODEL_WORDS;
 use records::{Cause, Event};
 
 // A model as read, and a state, in their numbers.
-#[derive(Drop)]
+#[derive(Clone, Copy)]
 pub struct ModelWords {
     pub word: [u32; MODEL_WORDS],
 }
 
-#[derive(Drop)]
+#[derive(Clone, Copy)]
 pub struct StateWords {
     pub word: [u32; STATE_WORDS],
 }
 
 // The answer to an event, and the state one event further, or as it was where the event is refused.
-#[derive(Drop)]
+#[derive(Clone, Copy)]
 pub struct Answered {
     pub answer: Cause,
     pub state: StateWords,

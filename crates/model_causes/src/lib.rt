@@ -1,5 +1,7 @@
 // Why a record is refused where a reader stands that keeps its model in a lent list of numbers.
 
+#![tactic(auto)]
+
 mod fits;
 
 ghost use Rattle.std.specs.Prelude.{◌≡◌};

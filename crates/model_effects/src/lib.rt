@@ -1,5 +1,7 @@
 // What the events of a thread do.
 
+#![tactic(auto)]
+
 ghost use Rattle.std.specs.Prelude.{◌≡◌, ◌≤◌, length};
 ghost use Rattle.model_format.specs.declared.Timing.{Timing};
 ghost use Rattle.model_semantics.specs.Effects as effects;

@@ -1,5 +1,7 @@
 // What is enabled in a state of a model, both as lists of numbers that a caller lends. Four numbers an event go into a lent list.
 
+#![tactic(auto)]
+
 ghost use Rattle.std.specs.Prelude.{◌≡◌, [], ◌∷◌, ◌*◌, ◌<◌, ◌≤◌, length};
 ghost use Rattle.std.proofs.lemmas.List.Edits.{sets};
 ghost use Rattle.numbers.specs.Lists.{only};

@@ -1,6 +1,8 @@
 // What is wrong with a record, in the place where it stands. The record is judged by few numbers and items, so that no model is copied for
 // each.
 
+#![tactic(auto)]
+
 ghost use Rattle.std.specs.Prelude.{◌≡◌, true, cond};
 ghost use Rattle.model_format.specs.Reading as reading;
 ghost use Rattle.model_faults.specs.Causes as causes;
@@ -15,7 +17,7 @@ use numbers::{lcm_up_to, usize_of_u8, usize_of_u16};
 use records::{Cause, LAST_CLOCK, Operand};
 
 // Where a reader stands: the kind of the last record, 0 before the first, the head's numbers, and how many items there are of each kind.
-#[derive(Drop)]
+#[derive(Clone, Copy)]
 pub struct Stand {
     pub last: u8,
     pub modes: u8,
@@ -30,7 +32,7 @@ pub struct Stand {
 
 // What the items tell of a record that follows them: that the input port of a connection is connected, the hyperperiods of a mode
 // transition.
-#[derive(Drop)]
+#[derive(Clone, Copy)]
 pub struct Found {
     pub connected: bool,
     pub h1: u64,

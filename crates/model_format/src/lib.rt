@@ -1,5 +1,7 @@
 // A timing model: the records of its bytes, and the struct that reading makes of them, with its items by number.
 
+#![tactic(auto)]
+
 mod blank;
 mod codes;
 mod format;
@@ -28,7 +30,7 @@ pub use ranks::{
 use records::{Operand, Refusal};
 
 // Kind 01. Modes are numbered from 0.
-#[derive(Drop)]
+#[derive(Clone, Copy)]
 pub struct Head {
     pub modes: u8,
     pub initial: u8,
@@ -36,7 +38,7 @@ pub struct Head {
 
 // Kind 02. `bcet` and `wcet` are Min and Max, `modes` the mask of the modes in which the thread is active, `first` its first behaviour
 // state.
-#[derive(Drop)]
+#[derive(Clone, Copy)]
 pub struct Thread {
     pub period: Duration,
     pub deadline: Duration,
@@ -48,14 +50,14 @@ pub struct Thread {
 }
 
 // Kinds 03 and 0B, an input port, and kind 05, a local: the thread that it belongs to, and its value at the start.
-#[derive(Drop)]
+#[derive(Clone, Copy)]
 pub struct Owned {
     pub owner: u8,
     pub start: Value,
 }
 
 // Kind 06, from output port `source` to input port `target`. `kind` is 0 immediate or 1 delayed.
-#[derive(Drop)]
+#[derive(Clone, Copy)]
 pub struct Connection {
     pub kind: u8,
     pub source: u16,
@@ -64,7 +66,7 @@ pub struct Connection {
 }
 
 // Kind 07, with its two hyperperiods: `h1` of the threads critical in the old mode, `h2` of those critical in both.
-#[derive(Drop)]
+#[derive(Clone, Copy)]
 pub struct ModeTransition {
     pub from: u8,
     pub to: u8,
@@ -73,7 +75,7 @@ pub struct ModeTransition {
 }
 
 // Kind 08, with how many atoms and assignments it has.
-#[derive(Drop)]
+#[derive(Clone, Copy)]
 pub struct Transition {
     pub thread: u8,
     pub from: u8,
@@ -83,7 +85,7 @@ pub struct Transition {
 }
 
 // Kind 09. The left side is a tag (1 input port, 2 local) and a number.
-#[derive(Drop)]
+#[derive(Clone, Copy)]
 pub struct Atom {
     pub op: u8,
     pub tag: u8,
@@ -92,7 +94,7 @@ pub struct Atom {
 }
 
 // Kind 0A. The target is a tag (2 local, 3 output port) and a number.
-#[derive(Drop)]
+#[derive(Clone, Copy)]
 pub struct Assignment {
     pub tag: u8,
     pub number: u16,
@@ -102,7 +104,7 @@ pub struct Assignment {
 }
 
 // One record of a model. `Cut`: its body runs past the end. `Unknown`: its kind is no model kind.
-#[derive(Drop)]
+#[derive(Clone, Copy)]
 pub enum Record {
     HeadRecord(Head),
     ThreadRecord(Thread),
@@ -120,7 +122,7 @@ pub enum Record {
 
 // What the clock, the modes and the connections need of a model. `threads` is how many there are, and `thread` has them; likewise the
 // others. `output` has the owners of output ports.
-#[derive(Drop)]
+#[derive(Clone, Copy)]
 pub struct Timing {
     pub modes: u8,
     pub initial: u8,
@@ -139,7 +141,7 @@ pub struct Timing {
 }
 
 // The behaviours. Transition k has the atoms and assignments from 4 k on.
-#[derive(Drop)]
+#[derive(Clone, Copy)]
 pub struct Behavior {
     pub transitions: usize,
     pub transition: [Transition; MAX_TRANSITIONS],
@@ -147,14 +149,14 @@ pub struct Behavior {
     pub assignment: [Assignment; MAX_TIMES],
 }
 
-#[derive(Drop)]
+#[derive(Clone, Copy)]
 pub struct Model {
     pub timing: Timing,
     pub behavior: Behavior,
 }
 
 // Where a reader stands: the rank of the last record, 0 before the first, and the model so far.
-#[derive(Drop)]
+#[derive(Clone, Copy)]
 pub struct Reading {
     pub last: u8,
     pub model: Model,
@@ -162,7 +164,7 @@ pub struct Reading {
 
 // What is wrong with a record, by cause. `names`, `times` and `ranges` are the faults of single fields: a number that names nothing, a
 // faulty time, any other.
-#[derive(Drop)]
+#[derive(Clone, Copy)]
 pub struct Faults {
     pub order: bool,
     pub excess: bool,
@@ -175,7 +177,7 @@ pub struct Faults {
 }
 
 // What reading gives: the model where nothing is refused, else the empty model.
-#[derive(Drop)]
+#[derive(Clone, Copy)]
 pub struct ModelRead {
     pub refusal: Refusal,
     pub model: Model,

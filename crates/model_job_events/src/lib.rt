@@ -1,6 +1,8 @@
 // The events of a job, each with its test and its effect: DISPATCH, START, COMPLETE, DEADLINE and MISS. Every test stands before the
 // first store, so a refused event leaves the list as it was.
 
+#![tactic(auto)]
+
 ghost use Rattle.std.specs.Prelude.{◌≡◌, ◌≤◌, length};
 ghost use Rattle.model_semantics.specs.Effects as effects;
 ghost use Rattle.model_semantics.specs.Machine as machine;

@@ -1,5 +1,7 @@
 // A model's machine on lent lists of numbers: one event, which changes the state's list in place. One match over its kind.
 
+#![tactic(auto)]
+
 ghost use Rattle.std.specs.Prelude.{◌≡◌, ◌≤◌, length};
 ghost use Rattle.model_semantics.specs.Machine as machine;
 ghost use Rattle.model_state.specs.Words.{state_in, clock_words};

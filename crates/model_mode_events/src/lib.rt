@@ -1,6 +1,8 @@
 // The events of modes, each with its test and its effect: ACTIVATE and DEACTIVATE of a thread, REQUEST, ENTER and LEAVE of a mode
 // transition. Every test stands before the first store, so a refused event leaves the list as it was.
 
+#![tactic(auto)]
+
 ghost use Rattle.std.specs.Prelude.{◌≤◌, length};
 ghost use Rattle.model_semantics.specs.Machine as machine;
 ghost use Rattle.model_state.specs.Words.{state_in, clock_words};

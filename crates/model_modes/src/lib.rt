@@ -1,5 +1,7 @@
 // What the events of a mode transition do.
 
+#![tactic(auto)]
+
 ghost use Rattle.std.specs.Prelude.{◌≡◌, ◌≤◌, length};
 ghost use Rattle.model_semantics.specs.Effects as effects;
 ghost use Rattle.model_semantics.specs.State.{with_active, with_live};

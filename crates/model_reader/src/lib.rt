@@ -1,5 +1,7 @@
 // Reading a model into a lent list of numbers: its records one by one, up to the first that is refused.
 
+#![tactic(auto)]
+
 mod parts;
 
 ghost use Rattle.std.specs.Prelude.{◌≡◌, length};

@@ -28,8 +28,8 @@ use records::{
 // is a constant, it has no byte that must be looked for. A part of no kind is empty and does not come here; with an arm for each of the eleven kinds the
 // compiler sees that, and does not test the kind again.
 pub fn take_whole(model: &mut [u32], last: u8, kind: u8, part: &[u8]) -> Cause
-    requires model_words_in_bounds { words.model_words ≤ length model.old }
-    requires part_len { (length part.now ≡ record_size notations.Model kind) × (0 < length part.now) }
+    requires whole_model { words.model_words ≤ length model.old }
+    requires whole_part { (length part.now ≡ record_size notations.Model kind) × (0 < length part.now) }
     ensures { Took last model.old (format.record_of_whole kind part.now) result model.new }
 {
     match kind {

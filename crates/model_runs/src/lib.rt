@@ -1,5 +1,7 @@
 // Runs of a model over a script, on lent lists of numbers: the list of the state is where the run is, and where it ends.
 
+#![tactic(auto)]
+
 mod run;
 mod tally;
 
@@ -8,14 +10,14 @@ pub use run::run_in;
 pub use tally::run_on_in;
 
 // How a run has ended: the events taken, and the refusal that stopped it.
-#[derive(Drop)]
+#[derive(Clone, Copy)]
 pub struct Stop {
     pub taken: usize,
     pub refusal: Refusal,
 }
 
 // How a run that goes on after refusals has ended: the events taken, and the events refused.
-#[derive(Drop)]
+#[derive(Clone, Copy)]
 pub struct Counts {
     pub taken: usize,
     pub refused: usize,

@@ -1,5 +1,7 @@
 // A model's state, and the answer to an event. What they mean is in specs/.
 
+#![tactic(auto)]
+
 mod codes;
 
 pub use codes::{
@@ -11,7 +13,7 @@ use numbers::{Duration, Value};
 use records::Cause;
 
 // `now` and `entered` are Now and EnteredAt. `pending` and `cpu` are NONE where there is none.
-#[derive(Drop)]
+#[derive(Clone, Copy)]
 pub struct Clock {
     pub now: Duration,
     pub entered: Duration,
@@ -22,7 +24,7 @@ pub struct Clock {
 }
 
 // By thread. `code` is the state code, `dispatched` the time of dispatch, `behavior` the behaviour state.
-#[derive(Drop)]
+#[derive(Clone, Copy)]
 pub struct Threads {
     pub active: [bool; MAX_THREADS],
     pub code: [u8; MAX_THREADS],
@@ -33,7 +35,7 @@ pub struct Threads {
     pub missed: [u32; MAX_THREADS],
 }
 
-#[derive(Drop)]
+#[derive(Clone, Copy)]
 pub struct Ports {
     pub input: [Value; MAX_INPUTS],
     pub buffer: [Value; MAX_INPUTS],
@@ -42,7 +44,7 @@ pub struct Ports {
 }
 
 // `live` is Flag, by connection.
-#[derive(Drop)]
+#[derive(Clone, Copy)]
 pub struct State {
     pub clock: Clock,
     pub threads: Threads,
@@ -51,7 +53,7 @@ pub struct State {
 }
 
 // The answer to an event, and the state one event further, or as it was where the event is refused.
-#[derive(Drop)]
+#[derive(Clone, Copy)]
 pub struct Stepped {
     pub answer: Cause,
     pub state: State,

@@ -1,6 +1,8 @@
 // A list of numbers as the model that it stands for has them: each is cut to its field, so that lists which stand for one model are the same
 // list.
 
+#![tactic(auto)]
+
 ghost use Rattle.std.specs.Prelude.{◌≡◌, ◌<◌, length};
 ghost use Rattle.model_words.specs.Words.{model_in, model_words};
 ghost use Rattle.model_settling.specs.ModelWords.{words_of_model};

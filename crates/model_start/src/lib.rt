@@ -1,5 +1,7 @@
 // The state that a model starts in, made in a lent list of numbers.
 
+#![tactic(auto)]
+
 ghost use Rattle.std.specs.Prelude.{◌≡◌, ◌≤◌, length};
 ghost use Rattle.model_semantics.specs.Machine as machine;
 ghost use Rattle.model_state.specs.Words.{state_in, state_words};

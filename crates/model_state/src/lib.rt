@@ -2,6 +2,8 @@
 // and any length stands for a state (specs/Words.antt): a number past its end reads 0, and an item past its end or past its array is not
 // stored.
 
+#![tactic(auto)]
+
 mod layout;
 mod reading;
 mod time;

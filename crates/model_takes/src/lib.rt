@@ -1,6 +1,8 @@
 // Records taken into a model in a lent list: each is judged by the records before it, and added where nothing is wrong with it. A function
 // for each kind: a record goes from its bytes to its numbers with no enum in between, which would be written and read back at every step.
 
+#![tactic(auto)]
+
 ghost use Rattle.std.specs.Prelude.{◌≡◌, ◌≤◌, length};
 ghost use Rattle.numbers.specs.Values.{duration};
 ghost use Rattle.records.specs.Events.{last_clock};

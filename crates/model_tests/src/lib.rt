@@ -1,5 +1,7 @@
 // The test of each event, on a model and a state as lists of numbers.
 
+#![tactic(auto)]
+
 mod jobs;
 mod modes;
 mod rooms;
@@ -19,7 +21,7 @@ pub use threads::{
 pub use views::job_of;
 
 // A thread's job, as the tests ask for it.
-#[derive(Drop)]
+#[derive(Clone, Copy)]
 pub struct Job {
     pub active: bool,
     pub code: u8,
@@ -29,7 +31,7 @@ pub struct Job {
 }
 
 // What the tests of a thread ask for: the clock, the thread's record and its job.
-#[derive(Drop)]
+#[derive(Clone, Copy)]
 pub struct ThreadView {
     pub clock: Clock,
     pub thread: Thread,

@@ -1,5 +1,7 @@
 // Ticks that pass at once, and TICK, all of its ticks or none.
 
+#![tactic(auto)]
+
 mod calm;
 mod quiet;
 

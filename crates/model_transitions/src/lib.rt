@@ -1,5 +1,7 @@
 // Transitions of a behaviour, on a model and a state in lent lists of numbers: the first open one of a thread, and what an assignment assigns.
 
+#![tactic(auto)]
+
 mod opening;
 mod values;
 

@@ -1,5 +1,7 @@
 // A model in a list of numbers that the caller lends, one field a number: its items by number.
 
+#![tactic(auto)]
+
 mod fields;
 mod items;
 mod layout;

@@ -1,5 +1,7 @@
 // Records added to a model in a lent list: a head, or one item more of its kind, stored after the others.
 
+#![tactic(auto)]
+
 ghost use Rattle.std.specs.Prelude.{◌≡◌, ◌<◌, ◌≤◌, length, set};
 ghost use Rattle.model_format.specs.declared.Record.TheVariants as variants;
 ghost use Rattle.model_format.specs.Model as models;
@@ -93,8 +95,8 @@ pub fn add_connection(model: &mut [u32], connection: Connection)
 
 // With its hyperperiods.
 pub fn add_switch(model: &mut [u32], switch: ModeTransition, h1: Duration, h2: Duration)
-    requires model_words_in_bounds { (words.model_words ≤ length model.old) × ((words.timing_in model.old).switches < models.max_switches) }
-    requires h1_value { (h1.0 ≡ models.h1_of (words.timing_in model.old) switch.from) × (h2.0 ≡ models.h2_of (words.timing_in model.old) switch.from switch.to) }
+    requires whole_model { (words.model_words ≤ length model.old) × ((words.timing_in model.old).switches < models.max_switches) }
+    requires hyperperiods { (h1.0 ≡ models.h1_of (words.timing_in model.old) switch.from) × (h2.0 ≡ models.h2_of (words.timing_in model.old) switch.from switch.to) }
     ensures { words.model_in model.new ≡ reading.add_record (words.model_in model.old) (variants.ModeRecord switch) }
 {
     let count = switches(model);
@@ -119,8 +121,8 @@ pub fn add_transition(model: &mut [u32], transition: Transition)
 
 // ---- atoms and assignments belong to the last transition
 pub fn add_atom(model: &mut [u32], atom: Atom)
-    requires model_words_in_bounds { words.model_words ≤ length model.old }
-    requires model_bound { (models.transition_at (words.behavior_in model.old) (reading.last_transition (words.behavior_in model.old))).atoms < models.max_each }
+    requires whole_model { words.model_words ≤ length model.old }
+    requires room_left { (models.transition_at (words.behavior_in model.old) (reading.last_transition (words.behavior_in model.old))).atoms < models.max_each }
     ensures { words.model_in model.new ≡ reading.add_record (words.model_in model.old) (variants.AtomRecord atom) }
 {
     let number = last_transition(model);
@@ -130,8 +132,8 @@ pub fn add_atom(model: &mut [u32], atom: Atom)
 }
 
 pub fn add_assignment(model: &mut [u32], assignment: Assignment)
-    requires model_words_in_bounds { words.model_words ≤ length model.old }
-    requires model_bound { (models.transition_at (words.behavior_in model.old) (reading.last_transition (words.behavior_in model.old))).assignments < models.max_each }
+    requires whole_model { words.model_words ≤ length model.old }
+    requires room_left { (models.transition_at (words.behavior_in model.old) (reading.last_transition (words.behavior_in model.old))).assignments < models.max_each }
     ensures { words.model_in model.new ≡ reading.add_record (words.model_in model.old) (variants.AssignmentRecord assignment) }
 {
     let number = last_transition(model);

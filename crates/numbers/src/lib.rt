@@ -1,5 +1,7 @@
 // Clock figures and port values, the two number types of the timing models.
 
+#![tactic(auto)]
+
 mod ops;
 
 ghost use Rattle.std.specs.Prelude.{◌≡◌, [], ◌+◌, ◌*◌, ◌<◌, get_or, set, nat_abs};
@@ -18,11 +20,11 @@ const LEAST_VALUE: i64 = -2147483648;
 const LAST_VALUE: i64 = 2147483647;
 
 // DURATION: a clock figure.
-#[derive(Drop)]
+#[derive(Clone, Copy)]
 pub struct Duration(pub u32);
 
 // VALUE: what a port, a local or a table's variable holds.
-#[derive(Drop)]
+#[derive(Clone, Copy)]
 pub struct Value(pub i32);
 
 // The number that 32 bits stand for. A cast keeps its value, so bits of the upper half are turned over.

@@ -1,1 +1,3 @@
 // Facts of every state that a run of a model reaches.
+
+#![tactic(auto)]

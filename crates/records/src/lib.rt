@@ -1,5 +1,7 @@
 // What models, tables and event lists share: the record grammar, the refusals, and events.
 
+#![tactic(auto)]
+
 mod kinds;
 
 ghost use Rattle.std.specs.Prelude.{◌≡◌, ◌-◌, ◌<◌, min, take, drop};
@@ -20,7 +22,7 @@ pub use kinds::{
 use numbers::Value;
 
 // The three languages of records: each has kinds of its own.
-#[derive(Drop)]
+#[derive(Clone, Copy)]
 pub enum Notation {
     Model,
     Table,
@@ -28,7 +30,7 @@ pub enum Notation {
 }
 
 // Why a record or an event is refused; `None` where it is not.
-#[derive(Drop)]
+#[derive(Clone, Copy)]
 pub enum Cause {
     None,
     CutRecord,
@@ -49,14 +51,14 @@ pub enum Cause {
 }
 
 // Which of the two lent slices holds the part handed back. A table stands for its model.
-#[derive(Drop)]
+#[derive(Clone, Copy)]
 pub enum Holder {
     Model,
     Script,
 }
 
 // A refusal and its part, `start` up to `end` of the slice that `holder` names.
-#[derive(Drop)]
+#[derive(Clone, Copy)]
 pub struct Refusal {
     pub cause: Cause,
     pub holder: Holder,
@@ -65,14 +67,14 @@ pub struct Refusal {
 }
 
 // An operand of a model's atom or assignment, or of a table's atom or update.
-#[derive(Drop)]
+#[derive(Clone, Copy)]
 pub struct Operand {
     pub tag: u8,
     pub value: Value,
 }
 
 // One event: its kind, the thread or mode transition that it names, and START's length or TICK's n.
-#[derive(Drop)]
+#[derive(Clone, Copy)]
 pub struct Event {
     pub kind: u8,
     pub id: u8,
@@ -322,7 +324,7 @@ pub fn event_of(part: &[u8]) -> Event
 }
 
 // The event that begins at a place of a list, and the place after it.
-#[derive(Drop)]
+#[derive(Clone, Copy)]
 pub struct Listed {
     pub event: Event,
     pub end: usize,

@@ -20,7 +20,7 @@ use Rattle.model_format.specs.Reading.{names_item}
 use Rattle.model_format.specs.WellFormed.{GoodTiming, GoodOperand, GoodAtom, WellFormed}
 use Rattle.model_semantics.specs.declared.State.{State}
 use Rattle.model_semantics.specs.State.{code_of, length_of, spent_of, behavior_of, input_value, local_value}
-use Rattle.model_semantics.specs.Effects.{left_value, atom_holds, is_open, first_open, operand_value as modelValue}
+use Rattle.model_semantics.specs.Effects.{left_value, atom_holds, is_open, first_open, operand_value as model_value}
 use Rattle.model_semantics.specs.Tests.{execution, can_complete}
 use Rattle.table_format.specs.declared.Atom as table-atom
 use Rattle.table_format.specs.Variables.{behavior_var, state_var}
@@ -63,11 +63,11 @@ module _ (m : Timing) (d : Dispatched) (s : State) (v : List Value) (g : GoodTim
           rw b (h.local n (omega arith))
 
   -- an operand; n is the chosen length, which no operand of a model asks for
-  pub operand_same : (n : ℕ) (o : Operand) → GoodOperand m o → operand_value n v (operand_of o) ≡ modelValue s.ports o
-  unfolding operand_value operand_of modelValue
+  pub operand_same : (n : ℕ) (o : Operand) → GoodOperand m o → operand_value n v (operand_of o) ≡ model_value s.ports o
+  unfolding operand_value operand_of model_value
   operand_same n o w = go (ℕ_discrete o.tag 0)
     where
-      go : Dec (o.tag ≡ 0) → operand_value n v (operand_of o) ≡ modelValue s.ports o
+      go : Dec (o.tag ≡ 0) → operand_value n v (operand_of o) ≡ model_value s.ports o
       go (yes a) = rw (eq-eqb o.tag 0 a, eq-eqb o.tag 0 a)
       go (no a) =
           let l : o.tag < 3 = ltb-true o.tag 3 w.tag in

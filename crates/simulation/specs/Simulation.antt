@@ -13,16 +13,16 @@ use Rattle.model_format.specs.WellFormed.{Bytes, WellFormed}
 use Rattle.model_format.specs.Accepted.{accepted_well_formed}
 use Rattle.model_semantics.specs.declared.State.{State}
 use Rattle.model_semantics.specs.Tests as tests
-use Rattle.model_semantics.specs.Machine.{start_state, run_model, model_stages, machine_of as modelMachine}
+use Rattle.model_semantics.specs.Machine.{start_state, run_model, model_stages, machine_of as model_machine}
 use Rattle.model_semantics.specs.Machine as model-machine
 use Rattle.table_semantics.specs.declared.Variables.{Variables}
-use Rattle.table_semantics.specs.Machine.{start_variables, run_table, table_stages, machine_of as tableMachine}
+use Rattle.table_semantics.specs.Machine.{start_variables, run_table, table_stages, machine_of as table_machine}
 use Rattle.table_semantics.specs.Machine as table-machine
 use Rattle.table_format.specs.Table.{table_of}
 use Rattle.translation.specs.declared.Translation.{Translation}
 use Rattle.translation.specs.Rules.{rules_of}
 use Rattle.translation.specs.Translate.{table_from, table_bytes, translated, output_after}
-use Rattle.translation_sizes.specs.MadeTable.{translation_back}
+use Rattle.translation_sizes.proofs.MadeTable.{translation_back}
 use Rattle.simulation.specs.Compared.{Dispatched, none_yet, Alike, Lockstep, Demand3, Simulates}
 use Rattle.simulation.specs.Match.{Match}
 use Rattle.simulation.specs.Runs.{Agree, SameEnd, lockstep, same_run}
@@ -63,7 +63,7 @@ module _ (m : Model) (w : WellFormed m) where
       go true b = broken_after m w d s v h e b
       go false b = by_kind b (one_of e b)
 
-  pub agree : (d : Dispatched) (s : State) (v : Variables) (e : Event) → Match m.timing d s v.value → Agree m.timing (modelMachine m) (tableMachine (rules_of m)) d s v e
+  pub agree : (d : Dispatched) (s : State) (v : Variables) (e : Event) → Match m.timing d s v.value → Agree m.timing (model_machine m) (table_machine (rules_of m)) d s v e
   agree d s v e h = let x = step_after d s v h e in record { answer = x.answer; states = x.states }
 
   alike : (d : Dispatched) (s : State) (v : Variables) → Match m.timing d s v.value → Alike m.timing d s v
@@ -73,12 +73,12 @@ module _ (m : Model) (w : WellFormed m) where
   same_stages : (script table : List ℕ) → table_of table ≡ table_from m → Lockstep m.timing none_yet (model_stages m script) (table_stages table script)
   unfolding model_stages table_stages table_from
   same_stages script table e =
-      rw e (lockstep m.timing (modelMachine m) (tableMachine (rules_of m)) alike agree (parts Script script) none_yet (start_state m.timing) (start_variables (table_from m)) 0 (start_match m w))
+      rw e (lockstep m.timing (model_machine m) (table_machine (rules_of m)) alike agree (parts Script script) none_yet (start_state m.timing) (start_variables (table_from m)) 0 (start_match m w))
 
   same_end : (script table : List ℕ) → table_of table ≡ table_from m → SameEnd (run_model m script) (run_table table script)
   unfolding run_model run_table table_from
   same_end script table e =
-      rw e (same_run m.timing (modelMachine m) (tableMachine (rules_of m)) alike agree (parts Script script) none_yet (start_state m.timing) (start_variables (table_from m)) 0 0 (start_match m w))
+      rw e (same_run m.timing (model_machine m) (table_machine (rules_of m)) alike agree (parts Script script) none_yet (start_state m.timing) (start_variables (table_from m)) 0 0 (start_match m w))
 
   pub demand_3 : (script : List ℕ) → Demand3 m script (table_bytes m)
   demand_3 script =

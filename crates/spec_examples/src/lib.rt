@@ -1,1 +1,3 @@
 // The starred examples of document 01, proved over the definitions.
+
+#![tactic(auto)]

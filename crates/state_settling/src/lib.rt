@@ -1,6 +1,8 @@
 // A list of numbers as the state that it stands for has them. Any number stands for a byte by its remainder, and any but 0 for a mark, so
 // that lists which differ can stand for one state; settled, they are the same list. The narrow numbers are stored anew, the others stay.
 
+#![tactic(auto)]
+
 ghost use Rattle.std.specs.Prelude.{map, ◌≡◌, length};
 ghost use Rattle.model_state.specs.Words.{byte_in, state_in, state_words};
 ghost use Rattle.state_settling.specs.Words.{words_of_state};

@@ -181,8 +181,8 @@ sent_all m n e h = rw (← e) h
 -- ---- what transition k adds, by what is noted
 module _ (m : Model) (w : WellFormed m) (k : ℕ) (h : k < m.behavior.transitions) {x : Transition} (e : x ≡ transition_at m.behavior k) {l s : List ℕ} (n : Noted m.behavior k l)
     (v : Sent m.timing m.timing.connections s) where
-  pub transition_told : {p t earlier earlierAtoms sends atoms assignments : ℕ} {r : Counts} → p ≡ place_of x → t ≡ x.thread → earlier ≡ get_or l p 0 → earlierAtoms ≡ get_or l (places + p) 0 → sends ≡ get_or s t 0 →
-      atoms ≡ x.atoms → assignments ≡ x.assignments → r ≡ counts 1 (4 + atoms + earlier) (4 + 2 * atoms + earlierAtoms) (4 + assignments + sends) → r ≡ transition_counts m k
+  pub transition_told : {p t earlier earlier_atoms sends atoms assignments : ℕ} {r : Counts} → p ≡ place_of x → t ≡ x.thread → earlier ≡ get_or l p 0 → earlier_atoms ≡ get_or l (places + p) 0 → sends ≡ get_or s t 0 →
+      atoms ≡ x.atoms → assignments ≡ x.assignments → r ≡ counts 1 (4 + atoms + earlier) (4 + 2 * atoms + earlier_atoms) (4 + assignments + sends) → r ≡ transition_counts m k
   unfolding transition_counts sent_counts
   transition_told a b c d f i j q =
       q ∙ rw (c, d, f, i, j, a, b) (rw (← e, ← here m w k h e n, ← v.each x.thread (thread_there m w k h e n)) (same_counts (omega arith) (omega arith) (omega arith) (omega arith)))

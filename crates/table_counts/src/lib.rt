@@ -1,5 +1,7 @@
 // Records of a table, counted: sums of counts, and what the behaviour transitions of a model add. The model is a lent list of numbers.
 
+#![tactic(auto)]
+
 mod counts;
 mod transitions;
 

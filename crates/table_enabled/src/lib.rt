@@ -1,5 +1,7 @@
 // What is enabled of a table: the events that may come next, in the order kind, id, and whether a tick may pass.
 
+#![tactic(auto)]
+
 ghost use Rattle.std.specs.Prelude.{◌≡◌, false, ◌+◌, ◌<◌, ◌≤◌, length, take};
 ghost use Rattle.std.proofs.lemmas.List.Edits.{sets};
 ghost use Rattle.numbers.specs.Values.{natural, less_value};

@@ -1,5 +1,7 @@
 // What is wrong with a table: its records judged in the place where they stand, and the first that is refused.
 
+#![tactic(auto)]
+
 ghost use Rattle.std.specs.Prelude.{◌≡◌, cond, eqb, pos};
 ghost use Rattle.std.specs.Int.Signed.{le_z, lt_z};
 ghost use Rattle.records.specs.Events.{start_kind};

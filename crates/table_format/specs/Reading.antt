@@ -29,7 +29,7 @@ names_variable z = le_z (pos 0) z && is_variable (bits_of z)
 -- "Operands, checked likewise, have tag 0 constant, 1 variable, 2 chosen length (only in updates of START rules)"; the number behind
 -- the chosen length is free.
 unfoldable pub operand_fits : Bool → Operand → Bool
-operand_fits mayChoose o = cond (eqb o.tag constant_tag) true (cond (eqb o.tag variable_tag) (names_variable o.value.0) (mayChoose && eqb o.tag length_tag))
+operand_fits may_choose o = cond (eqb o.tag constant_tag) true (cond (eqb o.tag variable_tag) (names_variable o.value.0) (may_choose && eqb o.tag length_tag))
 
 -- "variables rising (else 4)", "Variable 0 is neither started nor updated."
 unfoldable pub initial_fits : ℕ → InitialValue → Bool

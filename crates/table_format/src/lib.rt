@@ -1,5 +1,7 @@
 // A table of rules as bytes: its variables, its records, and what a record holds.
 
+#![tactic(auto)]
+
 mod ops;
 mod variables;
 
@@ -23,14 +25,14 @@ pub use variables::{
 pub const LONGEST_TABLE: usize = 1000000;
 
 // Kind 20, a start: the value with which an environment variable begins.
-#[derive(Drop)]
+#[derive(Clone, Copy)]
 pub struct InitialValue {
     pub variable: u16,
     pub value: Value,
 }
 
 // Kind 21: the event and id that a rule is for, and the lengths that it allows.
-#[derive(Drop)]
+#[derive(Clone, Copy)]
 pub struct RuleHead {
     pub kind: u8,
     pub id: u8,
@@ -39,7 +41,7 @@ pub struct RuleHead {
 }
 
 // Kind 23: an atomic condition on a variable.
-#[derive(Drop)]
+#[derive(Clone, Copy)]
 pub struct Atom {
     pub op: u8,
     pub variable: u16,
@@ -47,7 +49,7 @@ pub struct Atom {
 }
 
 // Kind 24. `condition` is the variable that must have the value `wanted`, or 65,535 for none.
-#[derive(Drop)]
+#[derive(Clone, Copy)]
 pub struct Update {
     pub condition: u16,
     pub wanted: u8,
@@ -58,7 +60,7 @@ pub struct Update {
 }
 
 // One record of a table. `Cut`: its body runs past the end. `Unknown`: its kind is no table kind.
-#[derive(Drop)]
+#[derive(Clone, Copy)]
 pub enum Record {
     Initial(InitialValue),
     Head(RuleHead),
@@ -71,7 +73,7 @@ pub enum Record {
 
 // Where a reader stands. `place`: 0 before rules, 1 after a rule record, 2 in clauses, 3 in updates. `least`: the least variable that a
 // start may name. `kind`: the event kind of the rule.
-#[derive(Drop)]
+#[derive(Clone, Copy)]
 pub struct Context {
     pub place: u8,
     pub least: u32,

@@ -388,21 +388,21 @@ module _ (s d₀ : List ℕ) (room : ℕ) (d : List ℕ) (n p r : ℕ) (i : List
 -- one rule more
 pub record ListsOne (s : List ℕ) (p : ℕ) (d d' : List ℕ) (room n r r' : ℕ) : Type 0 where
   pub room_kept : length d' ≡ length d
-  pub one_more_lem : (d₀ : List ℕ) → Listing s d₀ room d n p r → Listing s d₀ room d' (n + 1) (p + 11) r'
+  pub one_more : (d₀ : List ℕ) → Listing s d₀ room d n p r → Listing s d₀ room d' (n + 1) (p + 11) r'
 
 module _ (s : List ℕ) (p : ℕ) (here : HeadAt s p) (d : List ℕ) (room n r : ℕ) where
   pub one_listed : n < room → (w g : ℕ) → w ≡ entry_at s p → g ≡ guard_at s (p + 11) →
       ListsOne s p d (set (set d (2 + 2 * n) w) (2 + 2 * n + 1) g) room n r r
   one_listed h w g ew eg = record {
     room_kept = length-set (set d (2 + 2 * n) w) (2 + 2 * n + 1) g ∙ length-set d (2 + 2 * n) w;
-    one_more_lem = λ d₀ i. listing_head s d₀ room d n p r i here h w g ew eg;
+    one_more = λ d₀ i. listing_head s d₀ room d n p r i here h w g ew eg;
   }
 
   pub one_full : n ≡ room → ListsOne s p d d room n r p
-  one_full h = record { room_kept = refl; one_more_lem = λ d₀ i. listing_full s d₀ room d n p r i here h }
+  one_full h = record { room_kept = refl; one_more = λ d₀ i. listing_full s d₀ room d n p r i here h }
 
   pub one_past : room ≤ n → (n ≡ room → ⊥) → ListsOne s p d d room n r r
-  one_past h e = record { room_kept = refl; one_more_lem = λ d₀ i. listing_past s d₀ room d n p r i here (omega arith) }
+  one_past h e = record { room_kept = refl; one_more = λ d₀ i. listing_past s d₀ room d n p r i here (omega arith) }
 
 pub both_kept : (d d' d'' : List ℕ) (i x j y : ℕ) → d' ≡ set d i x → d'' ≡ set d' j y → length d'' ≡ length d
 both_kept d d' d'' i x j y e f = ap length f ∙ length-set d' j y ∙ ap length e ∙ length-set d i x

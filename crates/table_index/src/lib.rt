@@ -1,5 +1,7 @@
 // The index of a table: a list of its rules beside it, by which events find their rules without a walk over the table.
 
+#![tactic(auto)]
+
 ghost use Rattle.std.specs.Prelude.{◌≡◌, min, get_or, set, length, ◌&&◌};
 ghost use Rattle.std.proofs.lemmas.List.Edits.{sets};
 ghost use Rattle.table_semantics.specs.Rules.{all_hold};

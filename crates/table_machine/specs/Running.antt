@@ -29,7 +29,9 @@ use Rattle.table_rules.specs.At.{rule_at}
 use Rattle.table_rules.specs.Bits.{values_zero, length_values}
 use Rattle.table_index.specs.Index.{listed, rules_in, listed_in, rules_by, step_by}
 use Rattle.table_index.specs.IndexLaws.{words_same, words_within}
-use Rattle.table_semantics.specs.MachineLaws.{choice, firing, fire_by_choice, none, one, several, one_tick}
+use Rattle.table_semantics.specs.Choices.{choice, firing, one_tick}
+use Rattle.table_semantics.specs.Choices.{none, one, several}
+use Rattle.table_semantics.proofs.MachineLaws.{fire_by_choice}
 use Rattle.table_search.specs.Enabled.{rules_found}
 
 -- f is what the walk over the table t has found of the rules l

@@ -1,5 +1,7 @@
 // A table's machine: one event, and the start.
 
+#![tactic(auto)]
+
 ghost use Rattle.std.specs.Prelude.{◌≡◌};
 ghost use Rattle.numbers.specs.Lists.{store};
 ghost use Rattle.numbers.specs.Values.{value};

@@ -1,5 +1,7 @@
 // The events of enabled rules, listed in the order kind, id: one rule more, and whether some rule stops a tick.
 
+#![tactic(auto)]
+
 ghost use Rattle.std.specs.Prelude.{◌≡◌, ◌+◌, ◌*◌, ◌<◌, ◌≤◌, length};
 ghost use Rattle.enabled.specs.Enabled.{length_in, offer_by};
 ghost use Rattle.enabled.specs.Told.{offer_size};
@@ -10,7 +12,7 @@ use records::{LEAVE, REQUEST, START};
 use table_format::RuleHead;
 
 // What a walk over rules has seen: how many are enabled for an event, and whether some enabled one stops a tick.
-#[derive(Drop)]
+#[derive(Clone, Copy)]
 pub struct Seen {
     pub count: usize,
     pub busy: bool,

@@ -1,5 +1,7 @@
-// A reader walks a table one record at a time. It holds the table's slice, so each function over it is proved by hand: it takes the
-// reader apart and leaves the work to a function on a slice and a place. A place past the table's end reads as the end.
+// A reader walks a table one record at a time. It holds the table's slice: each function over it takes the reader apart and leaves the
+// work to a function on a slice and a place. A place past the table's end reads as the end.
+
+#![tactic(auto)]
 
 ghost use Rattle.std.specs.Prelude.{◌≡◌};
 ghost use Rattle.table_format.specs.Format.{records};
@@ -8,21 +10,21 @@ ghost use Rattle.table_reader.specs.Reading.{part_at, found_at, place_after, is_
 use records::Notation;
 use table_format::Record;
 
-#[derive(Drop)]
+#[derive(Clone, Copy)]
 pub struct Reader<'a> {
     pub table: &'a [u8],
     pub at: usize,
 }
 
 // What stands at a place of a table.
-#[derive(Drop)]
+#[derive(Clone, Copy)]
 pub enum Found {
     One(Record),
     End,
 }
 
 // What stands at a place, and the place after it.
-#[derive(Drop)]
+#[derive(Clone, Copy)]
 pub struct Step {
     pub found: Found,
     pub next: usize,

@@ -18,7 +18,7 @@ use Rattle.table_format.specs.RecordsAt.{records_end}
 use Rattle.table_semantics.specs.Rules.{value_of, operand_value, holds_op, holds, clause_holds, all_hold}
 use Rattle.table_rules.specs.At.{bytes_at, clauses_at}
 use Rattle.table_rules.specs.Places.{clause_records, head_records, atom_records, head_cut, atom_cut, other_records, other_kind}
-use Rattle.table_semantics.specs.MachineLaws.{one}
+use Rattle.table_semantics.specs.Choices.{one}
 
 -- ---- clauses
 unfoldable pub reads_clock : Atom → Bool

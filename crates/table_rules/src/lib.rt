@@ -1,5 +1,7 @@
 // The variables as bits, and the rules on them: operands, atoms, clauses.
 
+#![tactic(auto)]
+
 ghost use Rattle.std.specs.Prelude.{◌≡◌};
 ghost use Rattle.numbers.specs.Lists.{store};
 ghost use Rattle.numbers.specs.Values.{value, signed};

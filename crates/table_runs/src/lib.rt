@@ -1,5 +1,7 @@
 // Runs of a table: up to its first refused event, and the loop that goes on after refusals.
 
+#![tactic(auto)]
+
 ghost use Rattle.std.specs.Prelude.{◌≡◌};
 ghost use Rattle.table_semantics.specs.Machine as machine;
 ghost use Rattle.table_semantics.specs.Runs.{variables_of, ended_of, tally_of};

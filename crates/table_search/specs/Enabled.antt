@@ -14,7 +14,7 @@ use Rattle.table_format.specs.RecordsAt.{records_at, records_end}
 use Rattle.table_semantics.specs.Rules.{all_hold, enabled_rules}
 use Rattle.table_search.specs.declared.Found.{Found}
 use Rattle.table_rules.specs.At.{clauses_at, rule_at, rules_from}
-use Rattle.table_semantics.specs.MachineLaws.{Choice, choice}
+use Rattle.table_semantics.specs.Choices.{Choice, choice}
 
 -- ---- the enabled rules of an event
 unfoldable pub is_asked : Event → RuleHead → Bool

@@ -15,7 +15,7 @@ use Rattle.table_rules.specs.At.{head_in, clauses_at, rule_at}
 use Rattle.table_index.specs.Index.{key_of, key_at, is_listed, listed}
 use Rattle.table_rules.specs.Places.{HeadAt, head_kind, head_id}
 use Rattle.table_search.specs.Enabled.{is_asked, found_one_more, found_rule, rules_found, FindsIn, find_rule}
-use Rattle.table_semantics.specs.MachineLaws.{choice}
+use Rattle.table_semantics.specs.Choices.{choice}
 use Rattle.table_index.specs.IndexLaws.{and_false}
 use Rattle.table_index.specs.Guards.{may_hold, untold, never}
 use Rattle.table_index.specs.Listed.{parts_of, guard_disables, rest_is_all, dropped, listed_over}

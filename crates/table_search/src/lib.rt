@@ -1,12 +1,14 @@
 // The enabled rules of an event.
 
+#![tactic(auto)]
+
 ghost use Rattle.std.specs.Prelude.{◌≡◌};
 ghost use Rattle.table_format.specs.Format.{record_of};
 ghost use Rattle.table_semantics.specs.Rules as rules;
 ghost use Rattle.table_semantics.specs.Runs.{values};
 ghost use Rattle.table_index.specs.Index.{rules_in};
 ghost use Rattle.table_search.specs.Enabled.{is_asked, found_one_more, rules_found, found_rule, found_after, Finds};
-ghost use Rattle.table_semantics.specs.MachineLaws.{choice};
+ghost use Rattle.table_semantics.specs.Choices.{choice};
 ghost use Rattle.table_search.specs.FindListed.{found_listed, FindsListed};
 
 use records::{Event, Notation, RULE_SIZE, TABLE_RULE};
@@ -14,7 +16,7 @@ use table_format::RuleHead;
 use table_index::KEYS;
 
 // Those of its kind and id: none, one or more (`count` 0, 1, 2). Of the last one its head, and the place after that.
-#[derive(Drop)]
+#[derive(Clone, Copy)]
 pub struct Found {
     pub count: usize,
     pub place: usize,

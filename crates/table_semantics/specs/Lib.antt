@@ -1,5 +1,4 @@
 pub mod Rules
 pub mod Machine
 pub mod Runs
-pub mod RuleLaws
-pub mod MachineLaws
+pub mod Choices

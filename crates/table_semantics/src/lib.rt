@@ -1,24 +1,26 @@
 // A table's state, the answer to an event, and what a run comes to. What they mean is in specs/.
 
+#![tactic(auto)]
+
 use numbers::Value;
 use records::{Cause, Refusal};
 use table_format::VARIABLES;
 
 // The environment variables by number.
-#[derive(Drop)]
+#[derive(Clone, Copy)]
 pub struct Variables {
     pub value: [Value; VARIABLES],
 }
 
 // The answer to an event, and the variables one event further, or as they were where it is refused.
-#[derive(Drop)]
+#[derive(Clone, Copy)]
 pub struct Stepped {
     pub answer: Cause,
     pub state: Variables,
 }
 
 // What a run came to: the events taken, the refusal that stopped it, and the variables.
-#[derive(Drop)]
+#[derive(Clone, Copy)]
 pub struct Ran {
     pub taken: usize,
     pub refusal: Refusal,
@@ -26,7 +28,7 @@ pub struct Ran {
 }
 
 // What a run that goes on after refusals came to: the events taken, the events refused, and the variables.
-#[derive(Drop)]
+#[derive(Clone, Copy)]
 pub struct Tallied {
     pub taken: usize,
     pub refused: usize,

@@ -12,8 +12,8 @@ use Rattle.translation_sizes.specs.declared.Counts.{Counts}
 use Rattle.translation_sizes.specs.Sizes.{size_of}
 use Rattle.translation_sizes.specs.Counts.{◌and◌, count_below, size_by}
 use Rattle.translation_sizes.specs.Items.{thread_counts, input_counts, connection_counts, switch_counts, transition_counts, item_counts, head_starts, thread_starts, connection_starts, input_starts, local_starts, item_starts}
-use Rattle.translation_sizes.specs.Longest.{bit_few, thread_few, connection_few, input_few, local_few}
-use Rattle.translation_sizes.specs.MadeTable.{size_total}
+use Rattle.translation_sizes.proofs.Longest.{bit_few, thread_few, connection_few, input_few, local_few}
+use Rattle.translation_sizes.proofs.MadeTable.{size_total}
 use Rattle.table_sizes.specs.Leaves.{within_two}
 use Rattle.table_counts.specs.Bounds.{AtMost, item_most, kind_most, most, Small, at_most, and_most, threads_most, inputs_most, connections_most, switches_most, transitions_most}
 

@@ -1,5 +1,7 @@
 // How long the table of a model is, and how many records it has, added up over the model's items: no table is made.
 
+#![tactic(auto)]
+
 mod items;
 mod starts;
 

@@ -15,7 +15,7 @@ use Rattle.table_format.specs.declared.Atom.{Atom}
 use Rattle.table_format.specs.Variables.{variables, now_var}
 use Rattle.table_semantics.specs.Rules.{value_of, operand_value, holds_op, holds, clause_holds, all_hold}
 use Rattle.table_semantics.specs.Machine.{now_in}
-use Rattle.table_semantics.specs.MachineLaws.{one_tick}
+use Rattle.table_semantics.specs.Choices.{one_tick}
 use Rattle.table_semantics.specs.Runs.{values}
 use Rattle.table_rules.specs.Bits.{length_values, value_within, value_past}
 use Rattle.table_ticks.specs.Ticking.{later, later_empty, first_same}

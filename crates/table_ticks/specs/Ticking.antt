@@ -22,7 +22,7 @@ use Rattle.table_format.specs.Format.{record_of, records, kind_of}
 use Rattle.table_format.specs.Table.{Rule, gather}
 use Rattle.table_format.specs.RecordsAt.{records_at, records_end}
 use Rattle.table_semantics.specs.Rules.{value_of, operand_value, holds, clause_holds, all_hold}
-use Rattle.table_semantics.specs.MachineLaws.{one_tick}
+use Rattle.table_semantics.specs.Choices.{one_tick}
 use Rattle.table_index.specs.IndexLaws.{and_false}
 use Rattle.table_semantics.specs.Machine.{is_busy, now_in}
 use Rattle.table_rules.specs.At.{clauses_at, rules_from}

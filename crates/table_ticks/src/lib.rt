@@ -1,5 +1,7 @@
 // TICK: how far the clock goes before some rule stops it.
 
+#![tactic(auto)]
+
 ghost use Rattle.std.specs.Prelude.{◌≡◌, not};
 ghost use Rattle.numbers.specs.Lists.{first_below};
 ghost use Rattle.numbers.specs.Values.{natural, plus, less_value};
@@ -12,7 +14,7 @@ ghost use Rattle.table_rules.specs.At.{clauses_at};
 ghost use Rattle.table_index.specs.Index.{rules_in};
 ghost use Rattle.table_ticks.specs.Stops.{rule_stops, stops_tick};
 ghost use Rattle.table_ticks.specs.Ticking.{later, quiet_in, quiet_from};
-ghost use Rattle.table_semantics.specs.MachineLaws.{one_tick};
+ghost use Rattle.table_semantics.specs.Choices.{one_tick};
 ghost use Rattle.table_ticks.specs.Copies.{Copied};
 ghost use Rattle.table_ticks.specs.QuietListed.{listed_stops, QuietListed};
 

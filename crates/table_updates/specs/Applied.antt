@@ -28,7 +28,7 @@ use Rattle.table_format.specs.Format.{record_of, records, update_of, kind_of}
 use Rattle.table_format.specs.Table.{gather}
 use Rattle.table_format.specs.RecordsAt.{records_end}
 use Rattle.table_semantics.specs.Rules.{applies, new_value, Write, writes, written_to, inconsistent, written}
-use Rattle.table_semantics.specs.RuleLaws.{writes_first}
+use Rattle.table_semantics.proofs.RuleLaws.{writes_first}
 use Rattle.table_semantics.specs.Runs.{values}
 use Rattle.table_rules.specs.Bits.{values_store, length_values, put_length}
 use Rattle.table_rules.specs.At.{bytes_at}

@@ -13,7 +13,7 @@ use Rattle.table_semantics.specs.Machine.{refuse, accept, allows_length, fire}
 use Rattle.table_semantics.specs.Runs.{values, variables_of, stepped_to}
 use Rattle.table_format.specs.Variables.{variables}
 use Rattle.table_rules.specs.At.{rule_at}
-use Rattle.table_semantics.specs.MachineLaws as laws
+use Rattle.table_semantics.proofs.MachineLaws as laws
 use Rattle.table_updates.specs.Applied.{writes_from, Fired, head_allows}
 
 -- ---- the one enabled rule: a is whether it allows the event's length, w what its updates have come to

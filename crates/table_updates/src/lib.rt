@@ -1,5 +1,7 @@
 // Firing a rule: its updates.
 
+#![tactic(auto)]
+
 ghost use Rattle.std.specs.Prelude.{◌≡◌, true, false, ◌&&◌, [], ◌∷◌, ◌<◌, eqb, get_or, set, length, replicate};
 ghost use Rattle.table_format.specs.Variables.{variables};
 ghost use Rattle.table_format.specs.Format.{update_of};
@@ -95,7 +97,7 @@ fn mark(m: &mut [bool], j: usize) -> bool
 }
 
 // What is gathered of the updates of a rule: how many writes are held, and 0, or 1 where a target is written twice, or 2 where there is no room.
-#[derive(Drop)]
+#[derive(Clone, Copy)]
 struct Gathered {
     answer: u8,
     held: usize,

@@ -1,5 +1,7 @@
 // A table's records, and the parts of its rules, written into a lent slice.
 
+#![tactic(auto)]
+
 mod encoding;
 mod rules;
 

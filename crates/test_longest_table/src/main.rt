@@ -1,19 +1,12 @@
 // The longest table there may be, 1,000,000 bytes written here: it is read and run. With one byte more it is refused whole.
 
+#![tactic(auto)]
+
 ghost use Rattle.std.specs.Prelude.{◌≡◌, length};
 
-use libc::STDOUT_FILENO;
 use records::{Operand, Refusal};
+use std::io;
 use table_format::{Atom, InitialValue, RuleHead, Update};
-
-fn print(text: &[u8]) {
-    io::write_all(STDOUT_FILENO, text);
-}
-
-fn print_number(n: u64) {
-    print(b" ");
-    io::print_decimal(STDOUT_FILENO, n);
-}
 
 // ---- the table: a start record, rules of 38 bytes, one of 61
 // Variable 1 has the number of the rule that comes next.
@@ -103,56 +96,48 @@ fn put_table(out: &mut [u8]) -> usize {
 }
 
 // ---- what it answers
-fn print_refusal(refusal: Refusal) {
+fn print_refusal(rt: &HostRuntime, refusal: Refusal) -> io::Result<()> {
     let cause = refusal.cause;
-    print_number(records::number_of(cause) as u64);
-    print_number(refusal.start as u64);
-    print_number(refusal.end as u64);
-    print(b"\n");
+    let number = records::number_of(cause);
+    let start = refusal.start;
+    let end = refusal.end;
+    println!(rt; " {number} {start} {end}")
 }
 
-fn print_reading(table: &[u8]) {
-    print(b"bytes");
-    print_number(table.len() as u64);
-    print(b" read");
-    print_refusal(table_faults::read_table(table));
+fn print_reading(rt: &HostRuntime, table: &[u8]) -> io::Result<()> {
+    let bytes = table.len();
+    print!(rt; "bytes {bytes} read")?;
+    print_refusal(rt, table_faults::read_table(table))
 }
 
-fn print_rules(table: &[u8]) {
-    print(b"rules");
-    print_number(table_reader::count_rules(table) as u64);
-    print(b"\n");
+fn print_rules(rt: &HostRuntime, table: &[u8]) -> io::Result<()> {
+    let rules = table_reader::count_rules(table);
+    println!(rt; "rules {rules}")
 }
 
-fn print_run(table: &[u8], script: &[u8]) {
+fn print_run(rt: &HostRuntime, table: &[u8], script: &[u8]) -> io::Result<()> {
     let ran = table_runs::run_table(table, script);
-    print(b"taken");
-    print_number(ran.taken as u64);
-    print(b" stopped");
+    let taken = ran.taken;
+    print!(rt; "taken {taken} stopped")?;
     let refusal = ran.refusal;
-    print_refusal(refusal);
+    print_refusal(rt, refusal)
 }
 
-fn print_run_on(table: &[u8], script: &[u8]) {
+fn print_run_on(rt: &HostRuntime, table: &[u8], script: &[u8]) -> io::Result<()> {
     let tally = table_runs::run_on(table, script);
-    print(b"taken");
-    print_number(tally.taken as u64);
-    print(b" refused");
-    print_number(tally.refused as u64);
+    let taken = tally.taken;
+    let refused = tally.refused;
     let variables = tally.state;
-    print(b" clock");
-    print_number(table_machine::clock_of(variables) as u64);
-    print(b" variable 1");
-    let next = variables.value[1];
-    print_number(numbers::bits(next) as u64);
-    print(b"\n");
+    let clock = table_machine::clock_of(variables);
+    let next = numbers::bits(variables.value[1]);
+    println!(rt; "taken {taken} refused {refused} clock {clock} variable 1 {next}")
 }
 
 // TICK 65,535; the rules 26,311 (twice, so once refused), 26,312 and 26,313; a TICK that rule 26,314 stops; that rule.
-fn print_runs(table: &[u8]) {
+fn print_runs(rt: &HostRuntime, table: &[u8]) -> io::Result<()> {
     let script = b"\x0b\xff\xff\x08\xc7\x08\xc7\x08\xc8\x08\xc9\x0b\x01\x00\x01\xca";
-    print_run(table, script);
-    print_run_on(table, script);
+    print_run(rt, table, script)?;
+    print_run_on(rt, table, script)
 }
 
 // Room for the longest table and one byte more.
@@ -164,23 +149,23 @@ fn longest_buffer() -> [u8; ROOM]
     [0; ROOM]
 }
 
-fn show_table(table: &[u8]) {
-    print_reading(table);
-    print_rules(table);
-    print_runs(table);
+fn show_table(rt: &HostRuntime, table: &[u8]) -> io::Result<()> {
+    print_reading(rt, table)?;
+    print_rules(rt, table)?;
+    print_runs(rt, table)
 }
 
 // The buffer as it is, one byte too long, and the n bytes of it that were written.
-fn show_both(buffer: &[u8], n: usize) {
+fn show_both(rt: &HostRuntime, buffer: &[u8], n: usize) -> io::Result<()> {
     if buffer.len() < n {
-        return;
+        return Ok(());
     }
-    print_reading(buffer);
-    show_table(&buffer[0..n]);
+    print_reading(rt, buffer)?;
+    show_table(rt, &buffer[0..n])
 }
 
-fn main() {
+fn main(rt: HostRuntime) -> io::Result<()> {
     let mut buffer = longest_buffer();
     let n = put_table(&mut buffer);
-    show_both(&buffer, n);
+    show_both(&rt, &buffer, n)
 }

@@ -1,6 +1,8 @@
 // The rules of COMPLETE for one thread, written into a lent slice: one for each transition of the thread, and one for where none is open.
 // The model is a lent list of numbers.
 
+#![tactic(auto)]
+
 mod updates;
 
 ghost use Rattle.std.specs.Prelude.{[], ◌∷◌, ◌<◌};

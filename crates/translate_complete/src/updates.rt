@@ -20,7 +20,7 @@ use translate_guards::{operand_of, variable_of};
 use translate_waits::is_from;
 
 // What a variable is set to: `op` of two operands.
-#[derive(Drop)]
+#[derive(Clone, Copy)]
 struct Expression {
     op: u8,
     first: Operand,

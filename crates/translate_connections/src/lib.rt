@@ -1,5 +1,7 @@
 // What a thread's rules do by its connections, written into a lent slice: the ports that DISPATCH and START take, and what DEADLINE sends.
 
+#![tactic(auto)]
+
 mod ports;
 mod sends;
 

@@ -1,6 +1,8 @@
 // What the rules of COMPLETE say of a thread's transitions: their guards as clauses, written into a lent slice. The model is a lent list of
 // numbers.
 
+#![tactic(auto)]
+
 mod guards;
 mod parts;
 

@@ -1,5 +1,7 @@
 // The rules of REQUEST, ENTER and LEAVE of one mode transition, written into a lent slice.
 
+#![tactic(auto)]
+
 ghost use Rattle.std.specs.Prelude.{◌≡◌, [], ◌∷◌, ◌<◌};
 ghost use Rattle.records.specs.Events.{request_kind, enter_kind, leave_kind};
 ghost use Rattle.model_format.specs.WellFormed.{GoodTiming};

@@ -1,5 +1,7 @@
 // What a variable of the table stands for in a state of the model, block by block. Model and state are lent lists of numbers.
 
+#![tactic(auto)]
+
 ghost use Rattle.std.specs.Prelude.{◌≡◌, ◌-◌};
 ghost use Rattle.numbers.specs.Values.{bits_of, natural};
 ghost use Rattle.model_state.specs.Words.{state_in};

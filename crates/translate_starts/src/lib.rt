@@ -1,5 +1,7 @@
 // The start records of a table, written into a lent slice. Model and state are lent lists of numbers.
 
+#![tactic(auto)]
+
 ghost use Rattle.model_state.specs.Words.{state_in};
 ghost use Rattle.model_words.specs.Words.{timing_in, model_in};
 ghost use Rattle.table_format.specs.Variables.{variables};

@@ -1,5 +1,7 @@
 // The rules of one thread for every event but COMPLETE, written into a lent slice.
 
+#![tactic(auto)]
+
 mod parts;
 
 ghost use Rattle.std.specs.Prelude.{cond, [], ◌∷◌};

@@ -1,6 +1,8 @@
 // What a thread waits for, written into a lent slice: the clauses of DISPATCH and START for its connections, and which threads a connection
 // joins.
 
+#![tactic(auto)]
+
 mod connections;
 mod waits;
 

@@ -15,8 +15,8 @@ use Rattle.table_format.specs.WellFormed.{GoodAtom, GoodUpdate, GoodRule}
 use Rattle.translation.specs.Parts.{constant, variable, chosen_length, Expression, copied, sum_of, update_when, update, set_to, Body, stamped, Group, rules_of_groups}
 
 -- ---- operands: of updates of START rules where the chosen length may stand
-pub record GoodOperand (mayChoose : Bool) (o : Operand) : Type 0 where
-  pub fits : operand_fits mayChoose o ≡ true
+pub record GoodOperand (may_choose : Bool) (o : Operand) : Type 0 where
+  pub fits : operand_fits may_choose o ≡ true
   pub value : SFits w32 o.value.0
 
 pub constant_good : (b : Bool) (n : ℕ) → n < 2 ^ 31 → GoodOperand b (constant n)

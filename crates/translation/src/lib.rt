@@ -1,9 +1,11 @@
 // The table of a model: which rules it has, and their bytes.
 
+#![tactic(auto)]
+
 use records::Refusal;
 
 // What translating gives: the refusal, or how many bytes of the output the table takes.
-#[derive(Drop)]
+#[derive(Clone, Copy)]
 pub struct Translation {
     pub refusal: Refusal,
     pub bytes: usize,

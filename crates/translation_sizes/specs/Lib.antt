@@ -4,12 +4,7 @@ pub mod SumLaws
 pub mod Foretold
 pub mod Counts
 pub mod CountLaws
-pub mod TableCounts
 pub mod Items
-pub mod GroupCounts
 pub mod Ports
 pub mod Starts
-pub mod Total
-pub mod Longest
-pub mod MadeTable
 pub mod Foretelling

@@ -21,7 +21,7 @@ use Rattle.translation.specs.declared.Translation.{Translation}
 use Rattle.translation.specs.Rules.{rules_of}
 use Rattle.translation.specs.Translate.{initial_of, table_from, table_bytes, translated, output_after}
 use Rattle.simulation.specs.Simulation.{written_is, simulates}
-use Rattle.enabled_alike.specs.SameOffers.{offers}
+use Rattle.enabled_alike.proofs.SameOffers.{offers}
 use Rattle.translator.specs.Translates.{Translates}
 
 -- the start records, then the rules

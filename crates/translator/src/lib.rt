@@ -1,6 +1,8 @@
 // The translator: from the bytes of a model to the bytes of its table. In between the model is a list of numbers, which is lent to what
 // lays down its rules.
 
+#![tactic(auto)]
+
 ghost use Rattle.std.specs.Prelude.{◌≡◌, ◌<◌, ◌≤◌, get_or, length};
 ghost use Rattle.model_format.specs.Reading.{read_model};
 ghost use Rattle.model_format.specs.WellFormed.{GoodTiming, WellFormed};

@@ -1,0 +1,13 @@
+use Rattle.table_format.specs.Variables.{variables}
+use Rattle.futonkestrel_lending.specs.Laws.{first_numbers}
+use Rattle.futonkestrel_lending.specs.Lending.{numbers_of}
+use lib.Seq.{sets}
+use Prim.Native.Nat.{◌-◌, ◌≤◌}
+use mathlib.Core.Path.{◌≡◌}
+use Rattle.futonkestrel_lending.proofs.put_variables.Given as goal
+
+abbrev pub invariant-loop-j : goal.invariant-loop-j
+invariant-loop-j l = (l.j ≤ variables) × (l.lent ≡ sets l.initial.lent 0 (first_numbers (numbers_of l.variables) l.j))
+
+abbrev pub decreases-loop-j : goal.decreases-loop-j
+decreases-loop-j l = variables - l.j

@@ -1,0 +1,6 @@
+use Rattle.model_format.specs.Format as format
+use Rattle.model_format.proofs.format.assignment_of.Goals as goal
+
+pub returns : goal.returns
+unfolding format.assignment_of
+returns c = rw (c.operand_at-second.ensures, c.operand_at-first.ensures, c.byte_at-op.ensures, c.u16_of_u8-number.ensures.0, c.byte_at.ensures, c.byte_at-tag.ensures)

@@ -1,0 +1,6 @@
+use Rattle.model_format.specs.Format as format
+use Rattle.model_format.proofs.format.head_of.Goals as goal
+
+pub returns : goal.returns
+unfolding format.head_of
+returns c = rw (c.byte_at-initial.ensures, c.byte_at-modes.ensures)

@@ -1,0 +1,6 @@
+use Rattle.model_format.specs.Format as format
+use Rattle.model_format.proofs.format.transition_of.Goals as goal
+
+pub returns : goal.returns
+unfolding format.transition_of
+returns c = rw (c.byte_at-to.ensures, c.byte_at-from.ensures, c.byte_at-thread.ensures)

@@ -1,0 +1,7 @@
+use Rattle.model_state.specs.Words.{byte_in}
+use mathlib.Core.Path.{refl}
+use Rattle.model_state.proofs.reading.byte_of.Goals as goal
+
+pub returns : goal.returns
+unfolding byte_in
+returns c = refl

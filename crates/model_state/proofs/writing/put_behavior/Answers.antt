@@ -1,0 +1,8 @@
+use Rattle.model_state.specs.StateLaws.{put_behavior, skip_behavior, byte_back}
+use Rattle.model_state.proofs.writing.put_behavior.Goals as goal
+
+pub returns-then-thread-lt-MAX_THREADS : goal.returns-then-thread-lt-MAX_THREADS
+returns-then-thread-lt-MAX_THREADS c = put_behavior _ _ _ _ _ c.if-thread-lt-MAX_THREADS.true c.put_word.ensures (byte_back _ _ c.u32_of_u8.ensures.0 c.u32_of_u8.ensures.1)
+
+pub returns-else-thread-lt-MAX_THREADS : goal.returns-else-thread-lt-MAX_THREADS
+returns-else-thread-lt-MAX_THREADS c = skip_behavior _ _ _ c.if-thread-lt-MAX_THREADS.false

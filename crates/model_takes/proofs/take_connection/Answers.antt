@@ -1,0 +1,13 @@
+use mathlib.Core.Path.{refl, sym, ◌∙◌}
+use Rattle.model_takes.specs.Rooms.{connection_room_lem}
+use Rattle.model_takes.specs.Taken.{taken_not, taken_as}
+use Rattle.model_takes.proofs.take_connection.Goals as goal
+
+pub returns-then-not-is_none : goal.returns-then-not-is_none
+returns-then-not-is_none c = (c.cause_of_connection-cause.ensures, taken_not _ _ _ (sym c.is_none.ensures ∙ c.if-not-is_none.true))
+
+pub add_connection-requires : goal.add_connection-requires
+add_connection-requires c = (c.requires, connection_room_lem _ _ _ _ c.cause_of_connection-cause.ensures (sym c.is_none.ensures ∙ c.if-not-is_none.false) _ refl)
+
+pub returns : goal.returns
+returns c = (c.cause_of_connection-cause.ensures, taken_as _ _ _ _ _ (sym c.is_none.ensures ∙ c.if-not-is_none.false) refl c.add_connection.ensures)

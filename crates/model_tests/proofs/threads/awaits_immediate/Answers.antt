@@ -1,0 +1,20 @@
+use native.Mathlib.Omega.{arith}
+use Prim.Native.Nat.{◌-◌}
+use mathlib.Core.Bool.{false}
+use borrow.Author.Count.{below_more}
+use mathlib.Core.Path.{sym, ◌∙◌}
+use Rattle.model_tests.specs.Jobs.{holds_start}
+use Rattle.model_tests.specs.JobLaws.{immediate_some, immediate_none}
+use Rattle.model_tests.proofs.threads.awaits_immediate.Goals as goal
+
+pub loop-c-init : goal.loop-c-init
+loop-c-init c = (omega arith, λ k l. absurd (omega arith))
+
+pub returns-then-holds_start : goal.returns-then-holds_start
+returns-then-holds_start c = immediate_some _ _ _ _ _ (rw c.connections.ensures at c.within-count.ensures) _ c.loop-c-test.true c.holds_start.ensures c.if-holds_start.true
+
+pub loop-c-preserved : goal.loop-c-preserved
+loop-c-preserved c = (omega arith, below_more _ _ c.loop-c.invariant.1 (sym c.holds_start.ensures ∙ c.if-holds_start.false))
+
+pub returns : goal.returns
+returns c = immediate_none _ _ _ _ _ (rw c.connections.ensures at c.within-count.ensures) c.loop-c-test.false c.loop-c.invariant.1

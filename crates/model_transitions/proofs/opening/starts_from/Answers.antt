@@ -1,0 +1,6 @@
+use Rattle.model_transitions.specs.OpenLaws.{starts_from}
+use Rattle.model_transitions.proofs.opening.starts_from.Goals as goal
+
+pub returns : goal.returns
+unfolding starts_from
+returns c = rw c.usize_of_u8-thread.ensures.0

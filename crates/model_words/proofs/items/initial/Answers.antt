@@ -1,0 +1,6 @@
+use Rattle.model_words.specs.Words as words
+use Rattle.model_words.proofs.items.initial.Goals as goal
+
+pub returns : goal.returns
+unfolding words.timing_in
+returns c = c.byte_in.ensures

@@ -1,0 +1,7 @@
+use mathlib.Core.Path.{refl}
+use Rattle.table_search.specs.Enabled.{is_asked}
+use Rattle.table_search.proofs.is_asked.Goals as goal
+
+pub returns : goal.returns
+unfolding is_asked
+returns c = refl

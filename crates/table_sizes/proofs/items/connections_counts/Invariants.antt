@@ -1,0 +1,11 @@
+use Prim.Native.Nat.{◌-◌}
+use Rattle.model_words.specs.Words.{timing_in}
+use Rattle.translation_sizes.specs.Items.{connection_counts}
+use Rattle.table_counts.specs.Loops.{Counting}
+use Rattle.table_sizes.proofs.items.connections_counts.Given as goal
+
+abbrev pub invariant-loop-c : goal.invariant-loop-c
+invariant-loop-c l = Counting (connection_counts (timing_in l.model)) l.n l.c l.sum
+
+abbrev pub decreases-loop-c : goal.decreases-loop-c
+decreases-loop-c l = l.n - l.c

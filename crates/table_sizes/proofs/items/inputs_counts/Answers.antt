@@ -1,0 +1,5 @@
+use Rattle.table_sizes.specs.Leaves.{inputs_told}
+use Rattle.table_sizes.proofs.items.inputs_counts.Goals as goal
+
+pub returns : goal.returns
+returns c = inputs_told _ _ c.inputs-n.ensures c.count.ensures

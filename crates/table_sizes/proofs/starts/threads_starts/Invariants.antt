@@ -1,0 +1,11 @@
+use Prim.Native.Nat.{◌-◌}
+use Rattle.model_words.specs.Words.{timing_in}
+use Rattle.translation_sizes.specs.Items.{thread_starts}
+use Rattle.table_counts.specs.Loops.{Summing}
+use Rattle.table_sizes.proofs.starts.threads_starts.Given as goal
+
+abbrev pub invariant-loop-t : goal.invariant-loop-t
+invariant-loop-t l = Summing (thread_starts (timing_in l.model)) l.n l.t l.sum
+
+abbrev pub decreases-loop-t : goal.decreases-loop-t
+decreases-loop-t l = l.n - l.t

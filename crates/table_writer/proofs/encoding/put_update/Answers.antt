@@ -1,0 +1,18 @@
+use Rattle.table_format.specs.Format.{record_to}
+use Rattle.table_writer.specs.Written.{and_then}
+use Rattle.table_writer.specs.Wrote.{farthest}
+use lib.ListN.{length}
+use Prim.Native.Nat.{◌≤◌}
+use borrow.Author.Rules.{rules}
+use Rattle.table_writer.proofs.encoding.put_update.Goals as goal
+
+pub returns : goal.returns
+unfolding record_to
+returns c = let h : length c.args.output.now ≤ farthest = search rules in
+    and_then _ _ h (and_then _ _ h (and_then _ _ h (and_then _ _ h (and_then _ _ h (and_then _ _ h c.put_byte-at.ensures
+    c.put_u16-at.ensures)
+    c.put_byte-at-2.ensures)
+    c.put_u16-at-2.ensures)
+    c.put_byte-at-3.ensures)
+    c.put_operand-at.ensures)
+    c.put_operand.ensures
