@@ -13,7 +13,7 @@ fn main() {
     println!("cargo:rustc-link-lib=static=futonkestrel");
 }
 
-/// Where the build of the verified crates leaves the archive.
+/// Where tools/library leaves the archive.
 fn built_here() -> PathBuf {
     let package = env::var_os("CARGO_MANIFEST_DIR").expect("cargo names the package's folder");
     Path::new(&package).join("../target/staticlib")

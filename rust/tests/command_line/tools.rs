@@ -118,6 +118,17 @@ pub struct Folder {
     path: PathBuf,
 }
 
+/// `rt ci` refuses a link wherever it lies in the checkout, so none outlives its test.
+impl Drop for Folder {
+    fn drop(&mut self) {
+        for entry in fs::read_dir(&self.path).into_iter().flatten().flatten() {
+            if entry.file_type().is_ok_and(|kind| kind.is_symlink()) {
+                let _ = fs::remove_file(entry.path());
+            }
+        }
+    }
+}
+
 impl Folder {
     pub fn new(name: &str) -> Folder {
         let path = Path::new(env!("CARGO_TARGET_TMPDIR")).join(format!("command-line-{name}"));
