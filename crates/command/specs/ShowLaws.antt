@@ -18,6 +18,6 @@ module _ {listing : List ℕ → List ℕ → List ℕ} {model script : List ℕ
   shows_listing n e w = rw e (record { models = a; scripts = b; listed = λ p. w; unread = λ p. absurd (true≢false p) })
 
 -- of the four numbers that are told, the first is the length of the listing
-pub length_told : {w : Notation} {text : List ℕ} {refused : Refusal} {model script out part outAfter toldAfter : List ℕ} →
-    HandsBack w text refused model script out (replicate 4 0) part outAfter toldAfter → Wrote out 0 text outAfter (get_or toldAfter 0 0)
+pub length_told : {w : Notation} {text : List ℕ} {refused : Refusal} {model script out part out_after told_after : List ℕ} →
+    HandsBack w text refused model script out (replicate 4 0) part out_after told_after → Wrote out 0 text out_after (get_or told_after 0 0)
 length_told h = rw h.tells h.wrote

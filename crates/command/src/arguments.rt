@@ -1,5 +1,6 @@
 // The arguments of a program.
 
+ghost use Rattle.std.specs.Prelude.{◌≡◌, IfOk};
 ghost use Rattle.command.specs.Counts.{IsPrefixLen};
 
 use crate::buffer;
@@ -75,7 +76,9 @@ pub fn is_own_model(rt: &HostRuntime) -> bool {
 }
 
 // The path as text, since no other names a file here.
-pub fn text_of(path: &[u8]) -> io::Result<&str> {
+pub fn text_of(path: &[u8]) -> io::Result<&str>
+    ensures { IfOk result (λ text. text.now ≡ path.now) }
+{
     match str::from_utf8(path) {
         Ok(text) => Ok(text),
         Err(_) => Err(io::Error::from(io::ErrorKind::InvalidFilename)),

@@ -25,8 +25,8 @@ module _ {model table out : List ℕ} (r : Made) (m : ℕ) (a : IsPrefixLen m mo
       unread = λ p. absurd (true≢false p);
     })
 
-    pub makes_refusal : b ≡ false → {outAfter : List ℕ} (p : ℕ) → Wrote out 0 (refused_listing t.refusal.cause) outAfter p →
-        r ≡ record { model = m; good = true; bytes = t.bytes; printed = p } → Makes model table out r after outAfter
+    pub makes_refusal : b ≡ false → {out_after : List ℕ} (p : ℕ) → Wrote out 0 (refused_listing t.refusal.cause) out_after p →
+        r ≡ record { model = m; good = true; bytes = t.bytes; printed = p } → Makes model table out r after out_after
     makes_refusal f p v e = rw e (record {
       models = a;
       translates = λ q. (w.output, ap (λ (x : Translation). x.bytes) w.told);

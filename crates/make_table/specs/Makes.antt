@@ -13,8 +13,8 @@ made_text model room = let c = (translated model room).refusal.cause in cond (is
 
 -- The table of the bytes that were read lies at the start of `table`, which is else untouched; `out` begins with what is printed, and is
 -- untouched behind it. Where the file could not be read, nothing is made or printed and both are untouched.
-pub record Makes (model table out : List ℕ) (r : Made) (tableAfter outAfter : List ℕ) : Type 0 where
+pub record Makes (model table out : List ℕ) (r : Made) (table_after out_after : List ℕ) : Type 0 where
   pub models : IsPrefixLen r.model model
-  pub translates : r.good ≡ true → (tableAfter ≡ output_after (take r.model model) table) × (r.bytes ≡ (translated (take r.model model) (length table)).bytes)
-  pub prints : r.good ≡ true → Wrote out 0 (made_text (take r.model model) (length table)) outAfter r.printed
-  pub unread : r.good ≡ false → (tableAfter ≡ table) × (outAfter ≡ out) × (r.bytes ≡ 0) × (r.printed ≡ 0)
+  pub translates : r.good ≡ true → (table_after ≡ output_after (take r.model model) table) × (r.bytes ≡ (translated (take r.model model) (length table)).bytes)
+  pub prints : r.good ≡ true → Wrote out 0 (made_text (take r.model model) (length table)) out_after r.printed
+  pub unread : r.good ≡ false → (table_after ≡ table) × (out_after ≡ out) × (r.bytes ≡ 0) × (r.printed ≡ 0)
