@@ -1,6 +1,7 @@
 -- Laws of a view after an answer, in the forms in which the code has it.
-use Rattle.std.specs.Prelude.{◌≡◌, Bool, true, false, List, ℕ}
-use Rattle.std.proofs.Common.{◌∙◌, ap}
+use Rattle.std.specs.Prelude.{◌≡◌, Bool, true, false, cond, List, ℕ, ◌+◌, ◌<◌, ◌≤◌, min, ltb}
+use Rattle.std.proofs.Common.{◌∙◌, ap, arith, lt-ltb, le-ltb}
+use Rattle.std.proofs.Math.Decide.{dec_lt}
 use Rattle.records.specs.declared.Event.{Event}
 use Rattle.records.specs.Refusals.{is_none}
 use Rattle.model_semantics.specs.declared.Clock.{Clock}
@@ -10,7 +11,16 @@ use Rattle.model_by_value.specs.declared.ModelWords.{ModelWords}
 use Rattle.model_by_value.specs.declared.StateWords.{StateWords}
 use Rattle.model_by_value.specs.declared.Answered.{Answered}
 use Rattle.checking_loop.specs.declared.View.{View}
-use Rattle.checking_loop.specs.View.{next_count, view_of, view_after, step_in, told_by, Steps, Turns}
+use Rattle.checking_loop.specs.View.{last_count, next_count, view_of, view_after, step_in, told_by, Steps, Turns}
+
+-- a sum that stops at the last number of 64 bits
+pub count_saturated : (n r : ℕ) → n ≤ last_count → r ≡ min (n + 1) last_count → r ≡ next_count n
+unfolding next_count
+count_saturated n r h e = go (dec_lt n last_count)
+  where
+    go : Dec (n < last_count) → r ≡ cond (ltb n last_count) (n + 1) n
+    go (yes l) = rw (lt-ltb n last_count l) (omega arith)
+    go (no l) = rw (le-ltb n last_count (omega arith)) (omega arith)
 
 -- a view by the parts of a clock
 pub view_by : (l : List ℕ) (k : Clock) (n : ℕ) → k ≡ (state_in l).clock → record { clock = k.now; mode = k.mode; phase = k.phase; taken = n } ≡ view_of (state_in l) n

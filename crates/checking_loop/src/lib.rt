@@ -31,11 +31,9 @@ pub struct Turn {
 fn view_with(state: StateWords, count: u64) -> View
     ensures { result ≡ view_of (state_in state.word) count }
 {
-    let list = state.word;
-    let clock = clock_of(&list);
-    let now = clock.now;
+    let clock = clock_of(&state.word);
     View {
-        clock: now,
+        clock: clock.now,
         mode: clock.mode,
         phase: clock.phase,
         taken: count,
@@ -49,27 +47,21 @@ pub fn view_of(state: StateWords) -> View
     view_with(state, 0)
 }
 
-// The last number that 64 bits hold.
-const LAST_COUNT: u64 = 18446744073709551615;
-
-// One event more, and no more than they hold.
+// One event more, and no more than 64 bits hold.
 fn next_count(count: u64) -> u64
     ensures { result ≡ next_count count }
 {
-    if count < LAST_COUNT { count + 1 } else { count }
+    count.saturating_add(1)
 }
 
 // The view after an answer: of the state after it and one event more where the event is taken, else as it was.
 pub fn view_after(view: View, answered: Answered) -> View
     ensures { result ≡ view_after view (told_by answered) }
 {
-    let cause = answered.answer;
-    if !records::is_none(cause) {
+    if !records::is_none(answered.answer) {
         return view;
     }
-    let state = answered.state;
-    let count = next_count(view.taken);
-    view_with(state, count)
+    view_with(answered.state, next_count(view.taken))
 }
 
 // One event. The view is lent, and comes back one event further.
@@ -87,8 +79,5 @@ pub fn take_turn(given: View, model: ModelWords, state: StateWords, event: Event
 {
     let mut view = given;
     let answered = advance(&mut view, model, state, event);
-    Turn {
-        view: view,
-        answered: answered,
-    }
+    Turn { view, answered }
 }

@@ -18,49 +18,22 @@ fn is_given(rt: &HostRuntime, argument: usize) -> bool {
 pub fn put_argument(rt: &HostRuntime, argument: usize, path: &mut [u8]) -> usize
     ensures { IsPrefixLen result path.new }
 {
-    match rt.arg(argument, path) {
-        Ok(length) => length,
-        Err(_) => 0,
-    }
+    rt.arg(argument, path).unwrap_or(0)
 }
 
 fn is_option(rt: &HostRuntime, argument: usize) -> bool {
     let mut path = buffer();
     let length = put_argument(rt, argument, &mut path);
-    let first = numbers::byte_at(&path[..length], 0);
-    let second = numbers::byte_at(&path[..length], 1);
-    (first == b'-') & (second == b'-')
+    path[..length].starts_with(b"--")
 }
 
 // At most two arguments, none of which begins with two dashes; else the program tells how it is called, and does nothing.
 pub fn is_called_well(rt: &HostRuntime, usage: &[u8]) -> bool {
-    if is_given(rt, 3) {
-        say(rt, usage);
-        return false;
-    }
-    if is_option(rt, 1) | is_option(rt, 2) {
+    if is_given(rt, 3) || is_option(rt, 1) || is_option(rt, 2) {
         say(rt, usage);
         return false;
     }
     true
-}
-
-pub fn begins_with(path: &[u8], start: &[u8]) -> bool {
-    let mut i = 0;
-    while i < start.len() {
-        if numbers::byte_at(path, i) != numbers::byte_at(start, i) {
-            return false;
-        }
-        i += 1;
-    }
-    true
-}
-
-fn is_same(path: &[u8], other: &[u8]) -> bool {
-    if path.len() != other.len() {
-        return false;
-    }
-    begins_with(path, other)
 }
 
 // Whether the table would be written over the model that it is made from.
@@ -68,11 +41,11 @@ pub fn is_own_model(rt: &HostRuntime) -> bool {
     let mut model = buffer();
     let model_length = put_argument(rt, 1, &mut model);
     if !is_given(rt, 2) {
-        return is_same(&model[..model_length], b"table.bin");
+        return &model[..model_length] == b"table.bin".as_slice();
     }
     let mut table = buffer();
     let table_length = put_argument(rt, 2, &mut table);
-    is_same(&model[..model_length], &table[..table_length])
+    &model[..model_length] == &table[..table_length]
 }
 
 // The path as text, since no other names a file here.
@@ -87,8 +60,5 @@ pub fn text_of(path: &[u8]) -> io::Result<&str>
 
 // The text at the start of a buffer, which has only zeros behind it.
 pub fn text_before_zeros(buffer: &[u8]) -> &str {
-    match str::from_utf8(buffer) {
-        Ok(text) => text.trim_end_matches('\0'),
-        Err(_) => "",
-    }
+    str::from_utf8(buffer).unwrap_or("").trim_end_matches('\0')
 }

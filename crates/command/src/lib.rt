@@ -4,12 +4,14 @@
 
 mod arguments;
 mod read;
+mod run;
 mod say;
 mod write;
 
 ghost use Rattle.std.specs.Prelude.{◌≡◌, length};
 
-pub use read::{Input, Inputs, read_full, read_inputs, read_model};
+pub use read::{Inputs, read_full, read_inputs, read_model};
+pub use run::{run_program, show_listing};
 pub use say::tell_refused;
 pub use write::{print_start, write_argument};
 
@@ -17,6 +19,7 @@ pub use write::{print_start, write_argument};
 pub const TOLD: usize = 4;
 
 // What a program came to: how many bytes of its files were read, whether both could be, and how many bytes it printed.
+// Kept: `Shows`, which the page of promises names with `good`, speaks of this struct.
 #[derive(Clone, Copy)]
 pub struct Shown {
     pub model: usize,
@@ -29,13 +32,15 @@ pub fn outcome(model: usize, script: usize, good: bool, printed: usize) -> Shown
     ensures { result ≡ record { model = model; script = script; good = good; printed = printed } }
 {
     Shown {
-        model: model,
-        script: script,
-        good: good,
-        printed: printed,
+        model,
+        script,
+        good,
+        printed,
     }
 }
 
+// ---- rooms
+// Nothing here is allocated: memory is fixed. So what is read and printed lies in rooms of these sizes, with its length told beside it.
 // The longest name that a file may have.
 const LONGEST_NAME: usize = 4096;
 

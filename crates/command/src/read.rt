@@ -1,46 +1,22 @@
 // Files that are read, as far as there is room.
 
-ghost use Rattle.std.specs.Prelude.{◌≡◌};
+ghost use Rattle.std.specs.Prelude.{IfSome};
 ghost use Rattle.command.specs.Counts.{IsPrefixLen};
 
 use crate::arguments::{is_called_well, is_own_model, text_of};
 use crate::buffer;
-use crate::say::{fail, say, say_name, say_number, tell_too_long};
+use crate::say::{fail, say, say_name, tell_too_long};
 use std::env::FillError;
 use std::fs::File;
 use std::io;
 use std::io::Read;
 use std::rt::Env;
 
-// How many bytes of a file were read. Where it could not be opened or read, the reason has been told.
-#[derive(Clone, Copy)]
-pub struct Input {
-    pub length: usize,
-    pub good: bool,
-}
-
-// How many bytes of both files were read, and whether both could be.
+// How many bytes of both files were read.
 #[derive(Clone, Copy)]
 pub struct Inputs {
     pub model: usize,
     pub script: usize,
-    pub good: bool,
-}
-
-fn failed(rt: &HostRuntime, what: &[u8], error: io::Error) -> Input
-    ensures { result.length ≡ 0 }
-{
-    fail(rt, what, error);
-    unread()
-}
-
-fn unread() -> Input
-    ensures { result.length ≡ 0 }
-{
-    Input {
-        length: 0,
-        good: false,
-    }
 }
 
 // Reads until the buffer is full, the file ends or a read fails.
@@ -70,25 +46,23 @@ fn tell_more(rt: &HostRuntime, path: &[u8], length: usize, more: usize) {
         return;
     }
     say(rt, path);
-    say(rt, b": only the first ");
-    say_number(rt, length);
-    say(rt, b" bytes were read, there are more\n");
+    let _ = eprint!(rt; ": only the first {length} bytes were read, there are more\n");
 }
 
 // A short count may be the end of the file or a failure: one more read tells which.
-fn read_open(rt: &HostRuntime, mut file: File, path: &[u8], buffer: &mut [u8]) -> Input
-    ensures { IsPrefixLen result.length buffer.new }
+fn read_open(rt: &HostRuntime, mut file: File, path: &[u8], buffer: &mut [u8]) -> Option<usize>
+    ensures { IfSome result (λ n. IsPrefixLen n buffer.new) }
 {
     let length = read_full(&mut file, buffer);
     match read_more(&mut file) {
         Ok(more) => {
             tell_more(rt, path, length, more);
-            Input {
-                length: length,
-                good: true,
-            }
+            Some(length)
         }
-        Err(error) => failed(rt, path, error),
+        Err(error) => {
+            fail(rt, path, error);
+            None
+        }
     }
 }
 
@@ -96,19 +70,22 @@ fn open(rt: &HostRuntime, path: &[u8]) -> io::Result<File> {
     File::open(rt, text_of(path)?)
 }
 
-// The start of a file, as much as the buffer has room for.
-fn read_file(rt: &HostRuntime, path: &[u8], buffer: &mut [u8]) -> Input
-    ensures { IsPrefixLen result.length buffer.new }
+// The start of a file, as much as the buffer has room for: how many bytes. Where it cannot be opened or read, the reason is told.
+fn read_file(rt: &HostRuntime, path: &[u8], buffer: &mut [u8]) -> Option<usize>
+    ensures { IfSome result (λ n. IsPrefixLen n buffer.new) }
 {
     match open(rt, path) {
         Ok(file) => read_open(rt, file, path, buffer),
-        Err(error) => failed(rt, path, error),
+        Err(error) => {
+            fail(rt, path, error);
+            None
+        }
     }
 }
 
 // The file that an argument names, or the one of the given name where there is no such argument.
-fn read_argument(rt: &HostRuntime, argument: usize, name: &[u8], room: &mut [u8]) -> Input
-    ensures { IsPrefixLen result.length room.new }
+fn read_argument(rt: &HostRuntime, argument: usize, name: &[u8], room: &mut [u8]) -> Option<usize>
+    ensures { IfSome result (λ n. IsPrefixLen n room.new) }
 {
     let mut path = buffer();
     match rt.arg(argument, &mut path) {
@@ -116,7 +93,7 @@ fn read_argument(rt: &HostRuntime, argument: usize, name: &[u8], room: &mut [u8]
         Err(FillError::NotPresent) => read_file(rt, name, room),
         Err(FillError::TooLong) => {
             tell_too_long(rt);
-            unread()
+            None
         }
     }
 }
@@ -128,38 +105,31 @@ pub fn read_inputs(
     name: &[u8],
     model: &mut [u8],
     script: &mut [u8],
-) -> Inputs
-    ensures { (IsPrefixLen result.model model.new) × (IsPrefixLen result.script script.new) }
+) -> Option<Inputs>
+    ensures { IfSome result (λ r. (IsPrefixLen r.model model.new) × (IsPrefixLen r.script script.new)) }
 {
     if !is_called_well(rt, usage) {
-        return Inputs {
-            model: 0,
-            script: 0,
-            good: false,
-        };
+        return None;
     }
     let first = read_argument(rt, 1, name, model);
     let second = read_argument(rt, 2, b"script.bin", script);
-    let first_good = first.good;
-    let second_good = second.good;
-    Inputs {
-        model: first.length,
-        script: second.length,
-        good: first_good & second_good,
-    }
+    Some(Inputs {
+        model: first?,
+        script: second?,
+    })
 }
 
 // The model that `make_table` reads: its first argument.
-pub fn read_model(rt: &HostRuntime, usage: &[u8], buffer: &mut [u8]) -> Input
-    ensures { IsPrefixLen result.length buffer.new }
+pub fn read_model(rt: &HostRuntime, usage: &[u8], buffer: &mut [u8]) -> Option<usize>
+    ensures { IfSome result (λ n. IsPrefixLen n buffer.new) }
 {
     if !is_called_well(rt, usage) {
-        return unread();
+        return None;
     }
     if is_own_model(rt) {
         say_name(rt, 1, b"model.bin");
         say(rt, b": the table would be written over its model\n");
-        return unread();
+        return None;
     }
     read_argument(rt, 1, b"model.bin", buffer)
 }

@@ -17,10 +17,6 @@ pub fn say(rt: &HostRuntime, text: &[u8]) {
     let _ = Print::write_all(&rt.stderr(), text);
 }
 
-pub fn say_number(rt: &HostRuntime, number: usize) {
-    let _ = eprint!(rt; "{number}");
-}
-
 // The name that an argument gives, or the given one where there is no such argument.
 pub fn say_name(rt: &HostRuntime, argument: usize, name: &[u8]) {
     let mut path = buffer();
@@ -40,10 +36,9 @@ fn say_reason(rt: &HostRuntime, error: io::Error) {
     let mut rest = &mut reason[..];
     let _ = write!(rest, "{error}");
     let text = text_before_zeros(&reason);
-    let words = match text.split_once(" (os error ") {
-        Some((words, _)) => words,
-        None => text,
-    };
+    let words = text
+        .split_once(" (os error ")
+        .map_or(text, |(words, _)| words);
     say(rt, words.as_bytes());
 }
 
@@ -60,20 +55,13 @@ pub fn tell_too_long(rt: &HostRuntime) {
     say(rt, b"argument: File name too long\n");
 }
 
-fn say_byte(rt: &HostRuntime, byte: u8) {
-    let _ = eprint!(rt; " {byte:02x}");
-}
-
 // The bytes of a record; of a long one the first, and two dots.
 fn say_bytes(rt: &HostRuntime, part: &[u8]) {
-    let mut i = 0;
-    while i < part.len() {
-        if i == MOST_TOLD {
-            say(rt, b" ..");
-            return;
-        }
-        say_byte(rt, numbers::byte_at(part, i));
-        i += 1;
+    for byte in part.iter().take(MOST_TOLD) {
+        let _ = eprint!(rt; " {byte:02x}");
+    }
+    if MOST_TOLD < part.len() {
+        say(rt, b" ..");
     }
 }
 
@@ -89,13 +77,7 @@ pub fn tell_refused(
     if number == 0 {
         return;
     }
-    say(rt, b"refused ");
-    say_number(rt, number);
-    say(rt, b" ");
-    say_number(rt, start);
-    say(rt, b" ");
-    say_number(rt, end);
-    say(rt, b" ");
+    let _ = eprint!(rt; "refused {number} {start} {end} ");
     say_holder(rt, name, number);
     say(rt, b":");
     say_bytes(rt, part);

@@ -1,6 +1,6 @@
 // What is printed, and the files that are written: all of a table, or what was there.
 
-use crate::arguments::{begins_with, text_before_zeros, text_of};
+use crate::arguments::{text_before_zeros, text_of};
 use crate::buffer;
 use crate::say::{fail, say, tell_too_long};
 use std::env::FillError;
@@ -64,7 +64,7 @@ fn write_beside(rt: &HostRuntime, path: &str, bytes: &[u8]) -> io::Result<()> {
 // /dev or /proc, or cannot be synced.
 fn write_file(rt: &HostRuntime, path: &[u8], bytes: &[u8]) -> io::Result<()> {
     let name = text_of(path)?;
-    if begins_with(path, b"/dev/") | begins_with(path, b"/proc/") {
+    if path.starts_with(b"/dev/") || path.starts_with(b"/proc/") {
         return write_straight(File::create(rt, name)?, bytes);
     }
     match OpenOptions::new().append(true).open(rt, name) {

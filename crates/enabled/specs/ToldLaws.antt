@@ -1,9 +1,7 @@
 -- Laws of what is told of the enabled events, and of their numbers.
 use Rattle.std.specs.Prelude.{◌≡◌, refl, Bool, List, [], ◌∷◌, ◌++◌, ℕ, ◌*◌, ◌<◌, ◌≤◌}
-use Rattle.std.proofs.Common.{arith}
-use Rattle.std.proofs.Math.ListN.{length}
+use Rattle.std.proofs.Common.{arith, length, lt-ltb, le-ltb}
 use Rattle.std.proofs.lemmas.List.Edits.{sets}
-use borrow.Author.Tests.{lt-ltb, le-ltb}
 use Rattle.records.specs.declared.Cause.TheVariants.{None, ShortOutput}
 use Rattle.enabled.specs.declared.Enabled.{Enabled}
 use Rattle.enabled.specs.Enabled.{Offer, numbers_of}

@@ -6,6 +6,7 @@
 use records::Cause;
 
 // Whether there was room for the numbers of all events, how many events there are, and whether a tick may pass.
+// Kept as one struct: the definition `told_of` gives it, with the count also where there was no room.
 #[derive(Clone, Copy)]
 pub struct Enabled {
     pub answer: Cause,

@@ -20,9 +20,8 @@ pub fn model_enabled(words: &[u32], state: &[u32], output: &mut [u32], told: &mu
     ensures { (lending.TellsEnabled (told_from state_words state.now (model_offers (timing_in words.now) (state_in state.now)) (model_may_tick (timing_in words.now) (state_in state.now)) (length output.old)) told.old result told.new) × (output.new ≡ list_from state_words state.now (model_offers (timing_in words.now) (state_in state.now)) output.old) }
 {
     if state.len() < STATE_WORDS {
-        let short = Cause::ShortOutput;
         let nothing = Enabled {
-            answer: short,
+            answer: Cause::ShortOutput,
             count: 0,
             tick: false,
         };

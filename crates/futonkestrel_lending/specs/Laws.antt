@@ -3,6 +3,7 @@ use Rattle.std.specs.Prelude.{◌≡◌, refl, List, [], ◌∷◌, ◌++◌, �
 use Rattle.std.proofs.Common.{sym, ◌∙◌, ap, arith, add-one, length-take-le, Fits, lt-ltb}
 use Rattle.std.proofs.lemmas.List.Edits.{sets, sets-eq}
 use Rattle.std.proofs.Math.Seq.{length-sets}
+use Rattle.std.proofs.Math.ListN.{length-set}
 use Rattle.std.specs.Int.{w32}
 use mir.ValLaws.{of_z-to_z}
 use Rattle.numbers.specs.declared.Value.{Value}
@@ -14,7 +15,7 @@ use Rattle.table_semantics.specs.declared.Variables.{Variables}
 use Rattle.table_semantics.specs.Runs.{variables_of}
 use Rattle.table_rules.specs.Bits.{value_within}
 use Rattle.table_writer.specs.Written.{sets_append}
-use Rattle.futonkestrel_lending.specs.Lending.{lent_as, numbers_of}
+use Rattle.futonkestrel_lending.specs.Lending.{lent_as, LendsAll, numbers_of}
 
 -- ---- writing: the numbers of the first j variables are in the slice
 abbrev pub first_numbers : (ℕ → ℕ) → ℕ → List ℕ
@@ -33,6 +34,24 @@ one_number_more d₀ {d} f j x h q g =
     let l = sets_append d₀ (first_numbers f j) (f j ∷ []) 0 in
     let n : 0 + length (first_numbers f j) ≡ j = let z = length_list_below j f in omega arith in
     rw (list_next j f, l, n, ← h, ← q) g
+
+-- d₀ has become d, with the first j numbers in it
+pub record Lending (gives : ℕ → ℕ → Type 0) (d₀ d : List ℕ) (j : ℕ) : Type 0 where
+  pub same : length d ≡ length d₀
+  pub first : (f : ℕ → ℕ) → ((k n : ℕ) → k < variables → gives k n → n ≡ f k) → d ≡ sets d₀ 0 (first_numbers f j)
+
+pub lending_begins : (gives : ℕ → ℕ → Type 0) (d : List ℕ) → Lending gives d d 0
+lending_begins gives d = record { same = refl; first = λ f h. no_number_yet d f }
+
+module _ {gives : ℕ → ℕ → Type 0} {d₀ d : List ℕ} {j : ℕ} (l : Lending gives d₀ d j) where
+  pub lending_on : {e : List ℕ} {x : ℕ} → j < variables → gives j x → e ≡ set d j x → Lending gives d₀ e (j + 1)
+  lending_on {x = x} h g q = record {
+    same = ap length q ∙ length-set d j x ∙ l.same;
+    first = λ f k. one_number_more d₀ f j x (l.first f k) (k j x h g) q;
+  }
+
+  pub lending_ends : j ≡ variables → LendsAll gives d₀ d
+  lending_ends e = λ f k. rw e at (l.first f k)
 
 pub within : (s : Variables) (j : ℕ) → j < variables → (n : ℕ) → n ≡ bits_of (get_or s.value j (natural 0)).0 → n ≡ numbers_of s j
 within s j h n e = rw (numbers_of, lt-ltb j variables h) e

@@ -1,6 +1,6 @@
 -- What callers of other languages lend and are told: variables as numbers in a slice, the places of a refusal, the count and the clock of
 -- a run.
-use Rattle.std.specs.Prelude.{◌≡◌, Bool, cond, ◌&&◌, not, List, [], ◌∷◌, ℕ, length, take, ltb}
+use Rattle.std.specs.Prelude.{◌≡◌, Bool, cond, ◌&&◌, not, List, [], ◌∷◌, ℕ, ◌<◌, length, take, ltb}
 use Rattle.std.proofs.lemmas.List.Edits.{sets}
 use Rattle.numbers.specs.Lists.{list_below}
 use Rattle.numbers.specs.Values.{bits_of}
@@ -37,6 +37,10 @@ variables_in d = variables_of (take variables d)
 -- the slice with the numbers f 0, f 1, .. of the variables at its start
 abbrev pub lent_as : List ℕ → (ℕ → ℕ) → List ℕ
 lent_as d f = sets d 0 (list_below variables f)
+
+-- d with the number of each variable at its start, where `gives j n` says that n may be the number of variable j: whatever f is that each is
+abbrev pub LendsAll : (ℕ → ℕ → Type 0) → List ℕ → List ℕ → Type 0
+LendsAll gives d e = (f : ℕ → ℕ) → ((j n : ℕ) → j < variables → gives j n → n ≡ f j) → e ≡ lent_as d f
 
 abbrev pub numbers_of : Variables → ℕ → ℕ
 numbers_of s j = bits_of (value_of s.value j).0

@@ -8,27 +8,17 @@ ghost use Rattle.model_state.specs.Words.{state_in};
 ghost use Rattle.listing.specs.Outcomes.{model_outcome};
 ghost use Rattle.futonkestrel_lending.specs.Lending as lending;
 
+use futonkestrel_lending::{put_numbers, tell_run};
 use model_state::STATE_WORDS;
 use model_words::MODEL_WORDS;
+use numbers::bits;
 use records::Cause;
 use table_format::VARIABLES;
-
-fn number_shown(m: &[u32], s: &[u32], j: u16) -> u32
-    ensures { result ≡ lending.numbers_shown (timing_in m.now) (state_in s.now) j }
-{
-    let value = translate_shown::shown(m, s, j);
-    numbers::bits(value)
-}
 
 fn put_shown(lent: &mut [u32], m: &[u32], s: &[u32])
     ensures { lent.new ≡ lending.lent_as lent.old (lending.numbers_shown (timing_in m.now) (state_in s.now)) }
 {
-    let mut j: usize = 0;
-    while j < VARIABLES {
-        let n = number_shown(m, s, j as u16);
-        numbers::put_word(lent, j, n);
-        j += 1;
-    }
+    put_numbers(lent, |j| bits(translate_shown::shown(m, s, j as u16)));
 }
 
 // One event of a model, after a script that goes on after refusals, with the variables of the state that it leaves.
@@ -36,8 +26,7 @@ pub fn model_after(model: &[u8], script: &[u8], event: &[u8], lent: &mut [u32]) 
     ensures { (result ≡ lending.after_answer model.now script.now event.now lent.old) × (lent.new ≡ lending.after_lent model.now script.now event.now lent.old) }
 {
     let mut words = [0u32; MODEL_WORDS];
-    let refusal = model_reader::read_model_into(model, &mut words);
-    let cause = refusal.cause;
+    let cause = model_reader::read_model_into(model, &mut words).cause;
     if !records::is_none(cause) {
         return cause;
     }
@@ -57,13 +46,11 @@ pub fn run_model(model: &[u8], script: &[u8], told: &mut [usize]) -> u32
 {
     let mut words = [0u32; MODEL_WORDS];
     let refusal = model_reader::read_model_into(model, &mut words);
-    let cause = refusal.cause;
-    if !records::is_none(cause) {
-        return futonkestrel_lending::tell_run(told, refusal, 0, 0);
+    if !records::is_none(refusal.cause) {
+        return tell_run(told, refusal, 0, 0);
     }
     let mut state = [0u32; STATE_WORDS];
     let ran = model_runs::run_in(&words, &mut state, script);
-    let stopped = ran.refusal;
     let clock = model_state::now_of(&state);
-    futonkestrel_lending::tell_run(told, stopped, ran.taken, clock.0)
+    tell_run(told, ran.refusal, ran.taken, clock.0)
 }

@@ -43,7 +43,6 @@ pub fn model_read(model: &[u8], words: &mut [u32], told: &mut [usize]) -> u32
         let short = records::in_model(Cause::ShortOutput, end, end);
         return tell_refusal(told, short);
     }
-    let room = MODEL_WORDS;
-    read_settled(model, &mut words[..room]);
+    read_settled(model, &mut words[..MODEL_WORDS]);
     tell_refusal(told, refusal)
 }

@@ -6,10 +6,10 @@
 ghost use Rattle.futonkestrel_starts.specs.Starts.{TellsStart, TellsStartIn};
 
 use futonkestrel_lending::{number, tell_refusal};
-use listing_writer::tell;
 use model_state::STATE_WORDS;
 use model_tests::start_fault;
 use model_words::MODEL_WORDS;
+use numbers::put_item;
 use records::Cause;
 
 // In the state that the script leaves, going on after refusals. Of a refused model no step is told.
@@ -19,14 +19,13 @@ pub fn start_test(model: &[u8], script: &[u8], thread: u32, length: u32, told: &
     let mut words = [0u32; MODEL_WORDS];
     let refusal = model_reader::read_model_into(model, &mut words);
     let result = tell_refusal(told, refusal);
-    let cause = refusal.cause;
-    if !records::is_none(cause) {
+    if !records::is_none(refusal.cause) {
         return result;
     }
     let mut state = [0u32; STATE_WORDS];
     model_runs::run_on_in(&words, &mut state, script);
     let step = start_fault(&words, &state, thread as usize, length);
-    tell(told, 2, step as usize);
+    put_item(told, 2, step as usize);
     result
 }
 
@@ -44,6 +43,6 @@ pub fn model_start_test(
         return number(Cause::ShortOutput);
     }
     let step = start_fault(words, state, thread as usize, length);
-    tell(told, 0, step as usize);
+    put_item(told, 0, step as usize);
     number(Cause::None)
 }

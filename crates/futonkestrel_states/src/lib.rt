@@ -39,8 +39,7 @@ pub fn model_start(model: &[u32], state: &mut [u32]) -> Cause
     if state.len() < STATE_WORDS {
         return Cause::ShortOutput;
     }
-    let room = STATE_WORDS;
-    start_settled(model, &mut state[..room]);
+    start_settled(model, &mut state[..STATE_WORDS]);
     Cause::None
 }
 
@@ -52,7 +51,6 @@ fn step_settled(model: &[u32], state: &mut [u32], event: Event) -> Cause
     let answer = step(model, state, event);
     if records::is_none(answer) {
         settle_state(state);
-        return answer;
     }
     answer
 }
@@ -63,6 +61,6 @@ pub fn model_step(model: &[u32], state: &mut [u32], event: &[u8]) -> Cause
     if state.len() < STATE_WORDS {
         return Cause::ShortOutput;
     }
-    let room = STATE_WORDS;
-    step_settled(model, &mut state[..room], records::event_of(event))
+    let event = records::event_of(event);
+    step_settled(model, &mut state[..STATE_WORDS], event)
 }

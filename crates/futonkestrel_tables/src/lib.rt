@@ -8,6 +8,7 @@ ghost use Rattle.table_index.specs.Index.{index_of, index_size};
 ghost use Rattle.listing.specs.Outcomes.{table_outcome};
 ghost use Rattle.futonkestrel_lending.specs.Lending as lending;
 
+use futonkestrel_lending::{put_variables, tell_run};
 use records::Cause;
 use table_format::VARIABLES;
 
@@ -15,15 +16,14 @@ use table_format::VARIABLES;
 pub fn table_start(table: &[u8], lent: &mut [u32]) -> Cause
     ensures { (result ≡ lending.start_answer table.now lent.old) × (lent.new ≡ lending.start_lent table.now lent.old) }
 {
-    let refusal = table_faults::read_table(table);
-    let cause = refusal.cause;
+    let cause = table_faults::read_table(table).cause;
     if !records::is_none(cause) {
         return cause;
     }
     if lent.len() < VARIABLES {
         return Cause::ShortOutput;
     }
-    futonkestrel_lending::put_variables(lent, table_machine::start_variables(table));
+    put_variables(lent, table_machine::start_variables(table));
     cause
 }
 
@@ -50,12 +50,10 @@ pub fn run_table(table: &[u8], script: &[u8], told: &mut [usize]) -> u32
     ensures { lending.TellsOutcome (table_outcome table.now script.now) told.old result told.new }
 {
     let refusal = table_faults::read_table(table);
-    let cause = refusal.cause;
-    if !records::is_none(cause) {
-        return futonkestrel_lending::tell_run(told, refusal, 0, 0);
+    if !records::is_none(refusal.cause) {
+        return tell_run(told, refusal, 0, 0);
     }
     let ran = table_runs::run_table(table, script);
-    let stopped = ran.refusal;
     let clock = table_machine::clock_of(ran.state);
-    futonkestrel_lending::tell_run(told, stopped, ran.taken, clock)
+    tell_run(told, ran.refusal, ran.taken, clock)
 }

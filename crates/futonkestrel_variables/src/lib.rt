@@ -2,12 +2,13 @@
 
 #![tactic(auto)]
 
-ghost use Rattle.std.specs.Prelude.{◌≡◌, ◌-◌};
+ghost use Rattle.std.specs.Prelude.{◌≡◌};
 ghost use Rattle.model_state.specs.Words.{state_in};
 ghost use Rattle.model_words.specs.Words.{timing_in};
 ghost use Rattle.futonkestrel_lending.specs.Lending as lending;
 ghost use Rattle.futonkestrel_variables.specs.Shown as shown;
 
+use futonkestrel_lending::put_numbers;
 use model_semantics::EXECUTION;
 use model_state::{code_of, dispatch_time, has_job, length_of, now_of, spent_of};
 use model_words::{thread_at, threads};
@@ -26,14 +27,7 @@ fn due_number(model: &[u32], state: &[u32], t: usize) -> u32
     let thread = thread_at(model, t);
     let deadline = thread.deadline;
     let dispatched = dispatch_time(state, t);
-    std::num::wrapping_add_u32(dispatched.0, deadline.0)
-}
-
-// What is left of a job; of a job that has gone on for longer, nothing.
-fn left(length: u32, spent: u32) -> u32
-    ensures { result ≡ length - spent }
-{
-    if length < spent { 0 } else { length - spent }
+    dispatched.0.wrapping_add(deadline.0)
 }
 
 fn end_number(model: &[u32], state: &[u32], t: usize) -> u32
@@ -48,14 +42,14 @@ fn end_number(model: &[u32], state: &[u32], t: usize) -> u32
     let clock = now_of(state);
     let length = length_of(state, t);
     let spent = spent_of(state, t);
-    std::num::wrapping_add_u32(clock.0, left(length.0, spent.0))
+    // Of a job that has gone on for longer, nothing is left.
+    clock.0.wrapping_add(length.0.saturating_sub(spent.0))
 }
 
 fn number_shown(model: &[u32], state: &[u32], j: u16) -> u32
     ensures { result ≡ lending.numbers_shown (timing_in model.now) (state_in state.now) j }
 {
-    let value = translate_shown::shown(model, state, j);
-    numbers::bits(value)
+    numbers::bits(translate_shown::shown(model, state, j))
 }
 
 fn number_with_times(model: &[u32], state: &[u32], j: u16) -> u32
@@ -76,12 +70,7 @@ fn number_with_times(model: &[u32], state: &[u32], j: u16) -> u32
 fn put_with_times(variables: &mut [u32], model: &[u32], state: &[u32])
     ensures { variables.new ≡ lending.lent_as variables.old (shown.shown_with_times (timing_in model.now) (state_in state.now)) }
 {
-    let mut j: usize = 0;
-    while j < VARIABLES {
-        let n = number_with_times(model, state, j as u16);
-        numbers::put_word(variables, j, n);
-        j += 1;
-    }
+    put_numbers(variables, |j| number_with_times(model, state, j as u16));
 }
 
 pub fn model_variables(model: &[u32], state: &[u32], variables: &mut [u32]) -> Cause

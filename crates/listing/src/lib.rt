@@ -30,7 +30,7 @@ fn empty_line() -> Line
     let bytes = [0; LINE_ROOM];
     Line {
         start: LINE_ROOM,
-        bytes: bytes,
+        bytes,
     }
 }
 
@@ -41,10 +41,7 @@ fn with_byte(line: Line, byte: u8) -> Line
     let at = line.start - 1;
     let mut bytes = line.bytes;
     bytes[at] = byte;
-    Line {
-        start: at,
-        bytes: bytes,
-    }
+    Line { start: at, bytes }
 }
 
 fn digit(n: u64) -> u8
@@ -60,14 +57,12 @@ fn with_decimal(line: Line, n: u64) -> Line
 {
     let mut out = line;
     let mut rest = n;
-    let mut left: usize = MOST_DIGITS;
-    while 0 < left {
+    for _ in 0..MOST_DIGITS {
         out = with_byte(out, digit(rest));
         if rest < 10 {
             return out;
         }
         rest /= 10;
-        left -= 1;
     }
     out
 }

@@ -14,6 +14,7 @@ ghost use Rattle.listing_writer.specs.Prints.{Prints, HandsBack};
 use listing_writer::{Printed, put_end, put_event};
 use model_state::STATE_WORDS;
 use model_words::MODEL_WORDS;
+use records::Events;
 
 // The run, event by event, up to the first that is refused.
 fn run_listing(m: &[u32], script: &[u8], out: &mut [u8]) -> Printed
@@ -23,25 +24,20 @@ fn run_listing(m: &[u32], script: &[u8], out: &mut [u8]) -> Printed
     model_start::start_in(m, &mut state);
     let mut clock = model_state::now_of(&state);
     let mut taken: u64 = 0;
-    let mut at = 0;
     let mut place = 0;
-    while at < script.len() {
-        let listed = records::event_at(script, at);
+    for (at, listed) in Events::new(script) {
         let event = listed.event;
-        let end = listed.end;
         let answer = model_machine::step(m, &mut state, event);
         if !records::is_none(answer) {
-            let refusal = records::in_script(answer, at, end);
+            let refusal = records::in_script(answer, at, listed.end);
             return put_end(out, place, taken, refusal, clock.0);
         }
         taken += 1;
         let next = model_state::now_of(&state);
         place = put_event(out, place, taken, next.0, event);
         clock = next;
-        at = end;
     }
-    let refusal = records::no_refusal();
-    put_end(out, place, taken, refusal, clock.0)
+    put_end(out, place, taken, records::no_refusal(), clock.0)
 }
 
 // What `steps` prints: the run of the model that the bytes hold, or the last line alone where the model is refused.
@@ -50,8 +46,7 @@ pub fn steps_listing(model: &[u8], script: &[u8], out: &mut [u8]) -> Printed
 {
     let mut words = [0u32; MODEL_WORDS];
     let refusal = model_reader::read_model_into(model, &mut words);
-    let cause = refusal.cause;
-    if records::is_none(cause) {
+    if records::is_none(refusal.cause) {
         return run_listing(&words, script, out);
     }
     put_end(out, 0, 0, refusal, 0)
@@ -69,6 +64,5 @@ pub fn steps_part<'a>(
 {
     let printed = steps_listing(model, script, out);
     listing_writer::tell_printed(told, printed);
-    let refusal = printed.refusal;
-    records::part_of(model, script, refusal)
+    records::part_of(model, script, printed.refusal)
 }

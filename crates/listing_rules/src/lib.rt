@@ -27,8 +27,7 @@ fn rules_listing(model: &[u8], script: &[u8], out: &mut [u8]) -> Printed
     let mut table = table_room();
     let translation = translator::translate(model, &mut table);
     let refusal = translation.refusal;
-    let cause = refusal.cause;
-    if records::is_none(cause) {
+    if records::is_none(refusal.cause) {
         let bytes = translation.bytes;
         return listing_table::table_listing(&table[..bytes], script, out);
     }
@@ -47,6 +46,5 @@ pub fn rules_part<'a>(
 {
     let printed = rules_listing(model, script, out);
     listing_writer::tell_printed(told, printed);
-    let refusal = printed.refusal;
-    records::part_of(model, script, refusal)
+    records::part_of(model, script, printed.refusal)
 }

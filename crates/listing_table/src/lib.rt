@@ -11,6 +11,7 @@ ghost use Rattle.listing.specs.Outcomes.{table_outcome};
 ghost use Rattle.listing_writer.specs.Prints.{Prints, HandsBack};
 
 use listing_writer::{Printed, put_end, put_event};
+use records::Events;
 use table_machine::INDEX;
 
 // The run, event by event, up to the first that is refused.
@@ -21,23 +22,19 @@ fn run_listing(table: &[u8], script: &[u8], out: &mut [u8]) -> Printed
     table_index::list_rules(table, &mut index);
     let mut bits = table_rules::all_bits(table_machine::start_variables(table));
     let mut taken: u64 = 0;
-    let mut at = 0;
     let mut place = 0;
-    while at < script.len() {
-        let listed = records::event_at(script, at);
+    for (at, listed) in Events::new(script) {
         let event = listed.event;
-        let end = listed.end;
         let answer = table_machine::step_on(table, &index, &mut bits, event);
         if !records::is_none(answer) {
-            let refusal = records::in_script(answer, at, end);
+            let refusal = records::in_script(answer, at, listed.end);
             return put_end(out, place, taken, refusal, table_machine::clock_in(&bits));
         }
         taken += 1;
         place = put_event(out, place, taken, table_machine::clock_in(&bits), event);
-        at = end;
     }
-    let refusal = records::no_refusal();
-    put_end(out, place, taken, refusal, table_machine::clock_in(&bits))
+    let clock = table_machine::clock_in(&bits);
+    put_end(out, place, taken, records::no_refusal(), clock)
 }
 
 // What `run_table` prints: the run of the table that the bytes hold, or the last line alone where the table is refused.
@@ -45,8 +42,7 @@ pub fn table_listing(table: &[u8], script: &[u8], out: &mut [u8]) -> Printed
     ensures { Prints (table_listing table.now script.now) (table_outcome table.now script.now).refusal out.old result out.new }
 {
     let refusal = table_faults::read_table(table);
-    let cause = refusal.cause;
-    if records::is_none(cause) {
+    if records::is_none(refusal.cause) {
         return run_listing(table, script, out);
     }
     put_end(out, 0, 0, refusal, 0)
@@ -64,6 +60,5 @@ pub fn table_part<'a>(
 {
     let printed = table_listing(table, script, out);
     listing_writer::tell_printed(told, printed);
-    let refusal = printed.refusal;
-    records::part_of(table, script, refusal)
+    records::part_of(table, script, printed.refusal)
 }

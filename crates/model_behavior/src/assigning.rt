@@ -9,7 +9,7 @@ use model_format::{Assignment, MAX_EACH, OUTPUT_TAG};
 use model_state::{put_local, put_output};
 use model_transitions::assigned_value;
 use model_words::assignment_at;
-use numbers::{Value, bits, put_word, usize_of_u8, usize_of_u16, value_of, word_at};
+use numbers::{Value, bits, item_or, value_of};
 
 // Room for as many assignments as a byte counts.
 const MAX_COUNT: usize = 256;
@@ -19,12 +19,8 @@ fn new_values(model: &[u32], state: &[u32], k: usize, n: usize, values: &mut [u3
     requires { n ≤ length values.old }
     ensures { laws.NewValues (behavior_in model.now) (state_in state.now).ports k n values.new }
 {
-    let mut j: usize = 0;
-    while j < n {
-        let assignment = assignment_at(model, k, j);
-        let value = assigned_value(state, assignment);
-        put_word(values, j, bits(value));
-        j += 1;
+    for j in 0..n {
+        values[j] = bits(assigned_value(state, assignment_at(model, k, j)));
     }
 }
 
@@ -32,9 +28,8 @@ fn new_values(model: &[u32], state: &[u32], k: usize, n: usize, values: &mut [u3
 fn store_one(state: &mut [u32], assignment: Assignment, value: Value)
     ensures { state_in state.new ≡ laws.store_one (state_in state.old) assignment value }
 {
-    let i = usize_of_u16(assignment.number);
-    let tag = assignment.tag;
-    if tag == OUTPUT_TAG {
+    let i = usize::from(assignment.number);
+    if assignment.tag == OUTPUT_TAG {
         put_output(state, i, value);
         return;
     }
@@ -45,12 +40,9 @@ fn store_values(model: &[u32], state: &mut [u32], k: usize, n: usize, values: &[
     requires { laws.NewValues (behavior_in model.now) (state_in state.old).ports k n values.now }
     ensures { state_in state.new ≡ laws.assigned (behavior_in model.now) (state_in state.old) k n }
 {
-    let mut j: usize = 0;
-    while j < n {
-        let assignment = assignment_at(model, k, j);
-        let value = value_of(word_at(values, j));
-        store_one(state, assignment, value);
-        j += 1;
+    for j in 0..n {
+        let value = value_of(item_or(values, j, 0));
+        store_one(state, assignment_at(model, k, j), value);
     }
 }
 
@@ -67,7 +59,7 @@ fn assign_by(model: &[u32], state: &mut [u32], k: usize, n: usize, values: &mut 
 pub fn assign(model: &[u32], state: &mut [u32], k: usize, count: u8)
     ensures { state_in state.new ≡ laws.assigned (behavior_in model.now) (state_in state.old) k count }
 {
-    let n = usize_of_u8(count);
+    let n = usize::from(count);
     if n <= MAX_EACH {
         let mut few = [0; MAX_EACH];
         assign_by(model, state, k, n, &mut few);

@@ -26,6 +26,7 @@ pub struct StateWords {
 }
 
 // The answer to an event, and the state one event further, or as it was where the event is refused.
+// Kept as one struct: a refused event leaves a state too.
 #[derive(Clone, Copy)]
 pub struct Answered {
     pub answer: Cause,
@@ -35,21 +36,18 @@ pub struct Answered {
 pub fn start(model: ModelWords) -> StateWords
     ensures { state_in result.word ≡ machine.start_state (timing_in model.word) }
 {
-    let m = model.word;
-    let mut s: [u32; STATE_WORDS] = [0; STATE_WORDS];
-    start_in(&m, &mut s);
-    StateWords { word: s }
+    let mut word = [0; STATE_WORDS];
+    start_in(&model.word, &mut word);
+    StateWords { word }
 }
 
 pub fn step(model: ModelWords, state: StateWords, e: Event) -> Answered
     ensures { Answers result.answer state.word result.state.word (machine.step (model_in model.word) (state_in state.word) e) }
 {
-    let m = model.word;
-    let mut s = state.word;
-    let c = step_in(&m, &mut s, e);
-    let after = StateWords { word: s };
+    let mut word = state.word;
+    let answer = step_in(&model.word, &mut word, e);
     Answered {
-        answer: c,
-        state: after,
+        answer,
+        state: StateWords { word },
     }
 }

@@ -1,7 +1,7 @@
 -- An atom or an assignment that fits has no fault.
 use Rattle.std.specs.Prelude.{◌≡◌, Bool, true, false, ◌&&◌, not, ℕ, ◌<◌, ◌≤◌, eqb}
-use Rattle.std.proofs.Common.{sym, ◌∙◌, arith}
-use borrow.Author.Tests.{lt-ltb, le-ltb, lt-leb, ne_eqb, not-true, not-false}
+use Rattle.std.proofs.Common.{sym, ◌∙◌, arith, lt-ltb, le-ltb, ne_eqb}
+use borrow.Author.Tests.{lt-leb, not-true, not-false}
 use Rattle.records.specs.declared.Operand.{Operand}
 use Rattle.records.specs.declared.Cause.TheVariants.{None}
 use Rattle.model_format.specs.declared.Assignment.{Assignment}

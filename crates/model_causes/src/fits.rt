@@ -17,7 +17,6 @@ use model_format::{
     ASSIGNMENT_RANK, ATOM_RANK, Assignment, Atom, INPUT_TAG, LOCAL_TAG, OUTPUT_TAG, Transition,
 };
 use model_words::{input_owner, inputs, local_at, locals, output_owner, outputs};
-use numbers::usize_of_u16;
 use records::Operand;
 
 // The item that a tag and a number name is there, and the thread owns it.
@@ -25,25 +24,9 @@ fn item_fits(model: &[u32], thread: u8, tag: u8, number: usize) -> bool
     ensures { result ≡ fits.item_fits (words.timing_in model.now) thread tag number }
 {
     match tag {
-        INPUT_TAG => {
-            if inputs(model) <= number {
-                return false;
-            }
-            input_owner(model, number) == thread
-        }
-        LOCAL_TAG => {
-            if locals(model) <= number {
-                return false;
-            }
-            let local = local_at(model, number);
-            local.owner == thread
-        }
-        OUTPUT_TAG => {
-            if outputs(model) <= number {
-                return false;
-            }
-            output_owner(model, number) == thread
-        }
+        INPUT_TAG => number < inputs(model) && input_owner(model, number) == thread,
+        LOCAL_TAG => number < locals(model) && local_at(model, number).owner == thread,
+        OUTPUT_TAG => number < outputs(model) && output_owner(model, number) == thread,
         _ => true,
     }
 }
@@ -51,10 +34,7 @@ fn item_fits(model: &[u32], thread: u8, tag: u8, number: usize) -> bool
 fn operand_fits(model: &[u32], thread: u8, operand: Operand) -> bool
     ensures { result ≡ fits.operand_fits (words.timing_in model.now) thread operand }
 {
-    if !operand_tag(operand) {
-        return false;
-    }
-    item_fits(model, thread, operand.tag, number_in(operand))
+    operand_tag(operand) && item_fits(model, thread, operand.tag, number_in(operand))
 }
 
 // `transition` is the transition that the atom belongs to.
@@ -74,12 +54,7 @@ pub fn atom_fits(model: &[u32], last: u8, transition: Transition, atom: Atom) ->
     if !left_tag(atom) {
         return false;
     }
-    if !item_fits(
-        model,
-        transition.thread,
-        atom.tag,
-        usize_of_u16(atom.number),
-    ) {
+    if !item_fits(model, transition.thread, atom.tag, usize::from(atom.number)) {
         return false;
     }
     operand_fits(model, transition.thread, atom.right)
@@ -112,7 +87,7 @@ pub fn assignment_fits(
         model,
         transition.thread,
         assignment.tag,
-        usize_of_u16(assignment.number),
+        usize::from(assignment.number),
     ) {
         return false;
     }

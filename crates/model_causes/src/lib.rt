@@ -27,23 +27,19 @@ use model_words::{
     local_at, locals, modes, output_owner, outputs, switches, thread_at, threads, transition_at,
     transitions,
 };
-use numbers::{usize_of_u8, usize_of_u16};
 use records::{Cause, Operand};
 
 // ---- what the items tell
+fn goes_to(model: &[u32], port: u16, connection: usize) -> bool
+    ensures { result ≡ laws.connects_to (words.timing_in model.now) port connection }
+{
+    connection_at(model, connection).target == port
+}
+
 fn is_connected(model: &[u32], port: u16) -> bool
     ensures { result ≡ reading.is_connected (words.timing_in model.now) port }
 {
-    let count = connections(model);
-    let mut c: usize = 0;
-    while c < count {
-        let connection = connection_at(model, c);
-        if connection.target == port {
-            return true;
-        }
-        c += 1;
-    }
-    false
+    (0..connections(model)).any(|connection| goes_to(model, port, connection))
 }
 
 // The hyperperiods that a mode transition gets.
@@ -53,17 +49,15 @@ pub fn periods_of(model: &[u32], switch: ModeTransition) -> Found
     let count = threads(model);
     let mut h1: u64 = 1;
     let mut h2: u64 = 1;
-    let mut t: usize = 0;
-    while t < count {
+    for t in 0..count {
         let thread = thread_at(model, t);
         h1 = with_period(thread, switch.from, switch.from, h1);
         h2 = with_period(thread, switch.from, switch.to, h2);
-        t += 1;
     }
     Found {
         connected: false,
-        h1: h1,
-        h2: h2,
+        h1,
+        h2,
     }
 }
 
@@ -73,10 +67,7 @@ fn is_owned_by(model: &[u32], thread: u8, tag: u8, number: usize) -> bool
 {
     match tag {
         INPUT_TAG => input_owner(model, number) == thread,
-        LOCAL_TAG => {
-            let local = local_at(model, number);
-            local.owner == thread
-        }
+        LOCAL_TAG => local_at(model, number).owner == thread,
         OUTPUT_TAG => output_owner(model, number) == thread,
         _ => true,
     }
@@ -88,20 +79,17 @@ fn operand_owned(model: &[u32], thread: u8, operand: Operand) -> bool
     is_owned_by(model, thread, operand.tag, number_in(operand))
 }
 
+fn has_target(model: &[u32], transition: usize, assignment: Assignment, number: usize) -> bool
+    ensures { result ≡ readings.has_target (words.behavior_in model.now) transition assignment number }
+{
+    same_target(assignment_at(model, transition, number), assignment)
+}
+
 // One of the assignments that the transition has so far has the target of this one.
 fn is_assigned(model: &[u32], transition: usize, assigned: u8, assignment: Assignment) -> bool
     ensures { result ≡ readings.is_among (words.behavior_in model.now) transition assigned assignment }
 {
-    let count = usize_of_u8(assigned);
-    let mut j: usize = 0;
-    while j < count {
-        let other = assignment_at(model, transition, j);
-        if same_target(other, assignment) {
-            return true;
-        }
-        j += 1;
-    }
-    false
+    (0..usize::from(assigned)).any(|number| has_target(model, transition, assignment, number))
 }
 
 // ---- the cause of a record of each kind, after one of the rank `last`
@@ -109,7 +97,7 @@ fn stand_of(model: &[u32], last: u8) -> Stand
     ensures { result ≡ laws.stand_of (readings.reading_in last model.now) }
 {
     Stand {
-        last: last,
+        last,
         modes: modes(model),
         initial: initial(model),
         threads: threads(model),
@@ -159,7 +147,7 @@ pub fn cause_of_connection(model: &[u32], last: u8, connection: Connection) -> C
     let stand = stand_of(model, last);
     let connected = is_connected(model, connection.target);
     let found = Found {
-        connected: connected,
+        connected,
         h1: 1,
         h2: 1,
     };
@@ -190,7 +178,7 @@ pub fn cause_of_atom(model: &[u32], last: u8, atom: Atom) -> Cause
         return Cause::None;
     }
     let order = !in_order(last, ATOM_RANK);
-    let left = is_owned_by(model, open.thread, atom.tag, usize_of_u16(atom.number));
+    let left = is_owned_by(model, open.thread, atom.tag, usize::from(atom.number));
     let right = operand_owned(model, open.thread, atom.right);
     atom_cause(order, stand_of(model, last), open, left & right, atom)
 }
@@ -208,7 +196,7 @@ pub fn cause_of_assignment(model: &[u32], last: u8, assignment: Assignment) -> C
         model,
         open.thread,
         assignment.tag,
-        usize_of_u16(assignment.number),
+        usize::from(assignment.number),
     );
     let first = operand_owned(model, open.thread, assignment.first);
     let second = operand_owned(model, open.thread, assignment.second);

@@ -1,12 +1,12 @@
 -- Laws of the effects of a thread's events: the stores, one after the other, are the effect.
-use Rattle.std.specs.Prelude.{◌≡◌, refl, Bool, true, false, cond, ℕ, eqb}
-use Rattle.std.proofs.Common.{sym, ◌∙◌, ap}
+use Rattle.std.specs.Prelude.{◌≡◌, Bool, true, false, cond, ℕ, eqb}
+use Rattle.std.proofs.Common.{◌∙◌}
 use Rattle.numbers.specs.declared.Duration.{Duration}
 use Rattle.numbers.specs.Values.{one_more}
 use Rattle.model_format.specs.declared.Timing.{Timing}
 use Rattle.model_format.specs.Model.{delayed}
 use Rattle.model_semantics.specs.declared.State.{State}
-use Rattle.model_semantics.specs.State.{none, is_active, code_of, missed_of, now_of, with_clock, with_ports, with_cpu, with_code, with_dispatch_time, with_job, with_missed}
+use Rattle.model_semantics.specs.State.{none, is_active, code_of, missed_of, with_clock, with_ports, with_cpu, with_code, with_dispatch_time, with_job, with_missed}
 use Rattle.model_semantics.specs.Tests.{waiting_mode, waiting_execution, execution, has_job}
 use Rattle.model_semantics.specs.Effects.{freeze, dispatch, start, send, end_job, rest_code, meet_deadline, miss, deactivate}
 

@@ -16,7 +16,7 @@ use model_state::{
     code_of, has_job, is_active, missed_of, now_of, put_code, put_cpu, put_dispatch_time, put_job,
     put_missed,
 };
-use numbers::{Duration, one_more, usize_of_u8};
+use numbers::{Duration, one_more};
 
 pub fn dispatch(model: &[u32], state: &mut [u32], t: usize)
     ensures { state_in state.new ≡ effects.dispatch (timing_in model.now) (state_in state.old) t }
@@ -32,7 +32,7 @@ pub fn start(model: &[u32], state: &mut [u32], id: u8, time: u32)
     requires { clock_words ≤ length state.old }
     ensures { state_in state.new ≡ effects.start (timing_in model.now) (state_in state.old) id time }
 {
-    let t = usize_of_u8(id);
+    let t = usize::from(id);
     freeze(model, state, true, t);
     put_code(state, t, EXECUTION);
     put_cpu(state, id);

@@ -16,10 +16,10 @@ use model_format::MAX_THREADS;
 use model_state::now_of;
 use model_tests::{
     can_activate, can_complete, can_deactivate, can_dispatch, can_enter, can_leave,
-    can_meet_deadline, can_miss, is_busy, start_fault, within,
+    can_meet_deadline, can_miss, is_busy, start_fault,
 };
 use model_words::{switches, thread_at, threads};
-use numbers::{put_word, u32_of_u8};
+use numbers::put_item;
 use records::{
     ACTIVATE, COMPLETE, Cause, DEACTIVATE, DEADLINE, DISPATCH, ENTER, LAST_CLOCK, MISS, REQUEST,
     START,
@@ -68,9 +68,9 @@ fn items_of(model: &[u32], kind: u8) -> usize
     ensures { result ≡ items_of (timing_in model.now) kind }
 {
     if kind < REQUEST {
-        return within(threads(model), MAX_THREADS);
+        return threads(model).min(MAX_THREADS);
     }
-    within(switches(model), IDS)
+    switches(model).min(IDS)
 }
 
 // Lengths are START's alone.
@@ -86,10 +86,10 @@ fn put_offer(output: &mut [u32], n: usize, kind: u32, id: u32, low: u32, high: u
     ensures { output.new ≡ sets output.old (offer_size * n) (kind ∷ id ∷ low ∷ high ∷ []) }
 {
     let at = OFFER * n;
-    put_word(output, at, kind);
-    put_word(output, at + 1, id);
-    put_word(output, at + 2, low);
-    put_word(output, at + 3, high);
+    put_item(output, at, kind);
+    put_item(output, at + 1, id);
+    put_item(output, at + 2, low);
+    put_item(output, at + 3, high);
 }
 
 // The event of a kind and an id, where it is enabled, behind n events.
@@ -110,7 +110,7 @@ fn put_event(
     let thread = thread_at(model, i);
     let low = length_in(kind, thread.bcet.0);
     let high = length_in(kind, thread.wcet.0);
-    put_offer(output, n, u32_of_u8(kind), i as u32, low, high);
+    put_offer(output, n, u32::from(kind), i as u32, low, high);
     n + 1
 }
 
@@ -120,10 +120,8 @@ fn put_kind(output: &mut [u32], n: usize, model: &[u32], state: &[u32], kind: u8
 {
     let items = items_of(model, kind);
     let mut n = n;
-    let mut i: usize = 0;
-    while i < items {
+    for i in 0..items {
         n = put_event(output, n, model, state, kind, i);
-        i += 1;
     }
     n
 }
@@ -133,10 +131,8 @@ fn put_events(output: &mut [u32], model: &[u32], state: &[u32]) -> usize
     ensures { Listed output.old 0 (model_offers (timing_in model.now) (state_in state.now)) output.new result }
 {
     let mut n: usize = 0;
-    let mut k: u8 = 0;
-    while k < KINDS {
+    for k in 0..KINDS {
         n = put_kind(output, n, model, state, k + 1);
-        k += 1;
     }
     n
 }
@@ -153,8 +149,8 @@ fn count_events(model: &[u32], state: &[u32]) -> usize
 fn most_events(model: &[u32]) -> usize
     ensures { result ≡ most (timing_in model.now) }
 {
-    let n = within(threads(model), MAX_THREADS);
-    let q = within(switches(model), IDS);
+    let n = threads(model).min(MAX_THREADS);
+    let q = switches(model).min(IDS);
     THREAD_KINDS * n + SWITCH_KINDS * q
 }
 
@@ -162,30 +158,7 @@ fn may_tick(model: &[u32], state: &[u32]) -> bool
     ensures { result ≡ model_may_tick (timing_in model.now) (state_in state.now) }
 {
     let now = now_of(state);
-    let busy = is_busy(model, state);
-    !busy & (now.0 < LAST_CLOCK)
-}
-
-fn listed(count: usize, tick: bool) -> Enabled
-    ensures { result ≡ record { answer = Cause.None; count = count; tick = tick } }
-{
-    let answer = Cause::None;
-    Enabled {
-        answer: answer,
-        count: count,
-        tick: tick,
-    }
-}
-
-fn short(count: usize, tick: bool) -> Enabled
-    ensures { result ≡ record { answer = Cause.ShortOutput; count = count; tick = tick } }
-{
-    let answer = Cause::ShortOutput;
-    Enabled {
-        answer: answer,
-        count: count,
-        tick: tick,
-    }
+    !is_busy(model, state) & (now.0 < LAST_CLOCK)
 }
 
 // Every event that may come next, at the beginning of the output, where they fit; else the output is as it was. With room for as many as there
@@ -196,12 +169,24 @@ pub fn enabled_in(model: &[u32], state: &[u32], output: &mut [u32]) -> Enabled
     let tick = may_tick(model, state);
     if OFFER * most_events(model) <= output.len() {
         let count = put_events(output, model, state);
-        return listed(count, tick);
+        return Enabled {
+            answer: Cause::None,
+            count,
+            tick,
+        };
     }
     let count = count_events(model, state);
     if output.len() < OFFER * count {
-        return short(count, tick);
+        return Enabled {
+            answer: Cause::ShortOutput,
+            count,
+            tick,
+        };
     }
     put_events(output, model, state);
-    listed(count, tick)
+    Enabled {
+        answer: Cause::None,
+        count,
+        tick,
+    }
 }

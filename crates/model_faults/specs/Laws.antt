@@ -1,11 +1,8 @@
 -- Laws of the definitions, in the forms that the code's tests have.
 use Rattle.std.specs.Prelude.{◌≡◌, Bool, true, false, cond, ◌&&◌, ℕ, ◌*◌, ◌/◌, ◌^◌, ◌<◌, ◌≤◌}
-use Rattle.std.proofs.Common.{◌∙◌, div-lt_iff_lt-mul, pow_pos, arith}
+use Rattle.std.proofs.Common.{◌∙◌, div-lt_iff_lt-mul, pow_pos, arith, pow_mono, eqb, ltb, lt-ltb, le-ltb, eq-eqb, ne_eqb}
 use Rattle.std.proofs.Math.Nat.{div-eq_of_lt}
 use Rattle.std.proofs.Math.Decide.{dec_lt}
-use Rattle.std.proofs.Math.Pow.{pow_mono}
-use Rattle.std.proofs.Math.Dec.{eqb, ltb}
-use borrow.Author.Tests.{lt-ltb, le-ltb, eq-eqb, ne_eqb}
 use Rattle.numbers.specs.Multiples.{lcm_up_to}
 use Rattle.records.specs.Events.{last_clock}
 use Rattle.model_format.specs.declared.Thread.{Thread}

@@ -13,7 +13,7 @@ use model_format::{
     LOCAL_TAG, LONGEST_TIME, MAX_CONNECTIONS, MAX_MODES, MAX_SWITCHES, MAX_THREADS,
     MAX_TRANSITIONS, ModeTransition, OUTPUT_TAG, TRANSITION_RANK, Thread, Transition, critical_in,
 };
-use numbers::{lcm_up_to, usize_of_u8, usize_of_u16};
+use numbers::{bits, lcm_up_to};
 use records::{Cause, LAST_CLOCK, Operand};
 
 // Where a reader stands: the kind of the last record, 0 before the first, the head's numbers, and how many items there are of each kind.
@@ -63,53 +63,36 @@ pub const OPERATIONS: u8 = 3;
 fn least_kind(last: u8) -> u8
     ensures { result ≡ laws.least_kind last }
 {
-    if TRANSITION_RANK < last {
-        TRANSITION_RANK
-    } else {
-        last
-    }
+    last.min(TRANSITION_RANK)
 }
 
 // A record of one kind may follow one of kind `last`.
 pub fn in_order(last: u8, kind: u8) -> bool
     ensures { result ≡ reading.in_order last kind }
 {
-    let least = least_kind(last);
     match kind {
         HEAD_RANK => last == 0,
         ATOM_RANK => (last == TRANSITION_RANK) | (last == ATOM_RANK),
         ASSIGNMENT_RANK => TRANSITION_RANK <= last,
-        _ => (0 < last) & (least <= kind),
+        _ => (0 < last) & (least_kind(last) <= kind),
     }
 }
 
 fn times_fit(thread: Thread) -> bool
     ensures { result ≡ reading.times_fit thread }
 {
-    let written_period = thread.period;
-    let written_deadline = thread.deadline;
-    let written_bcet = thread.bcet;
-    let written_wcet = thread.wcet;
-    let period = written_period.0;
-    let deadline = written_deadline.0;
-    let bcet = written_bcet.0;
-    let wcet = written_wcet.0;
-    (1 <= deadline)
-        & ((deadline <= period)
-            & ((period <= LONGEST_TIME)
-                & ((1 <= bcet) & ((bcet <= wcet) & (wcet <= LONGEST_TIME)))))
+    (1 <= thread.deadline.0)
+        & ((thread.deadline.0 <= thread.period.0)
+            & ((thread.period.0 <= LONGEST_TIME)
+                & ((1 <= thread.bcet.0)
+                    & ((thread.bcet.0 <= thread.wcet.0) & (thread.wcet.0 <= LONGEST_TIME)))))
 }
 
 // A mask has 8 bits, so it fits where there are 8 modes or more.
 fn mask_fits(stand: Stand, mask: u8) -> bool
     ensures { result ≡ reading.mask_fits (causes.bare stand) mask }
 {
-    let modes = stand.modes;
-    if modes < MAX_MODES {
-        (mask >> modes) == 0
-    } else {
-        true
-    }
+    MAX_MODES <= stand.modes || mask >> stand.modes == 0
 }
 
 // The item that a tag and a number name is there.
@@ -128,53 +111,38 @@ fn names_item(stand: Stand, tag: u8, number: usize) -> bool
 pub fn number_in(operand: Operand) -> usize
     ensures { result ≡ causes.number_in operand }
 {
-    let value = operand.value;
-    let bits = numbers::bits(value);
-    bits as usize
+    bits(operand.value) as usize
 }
 
 pub fn operand_tag(operand: Operand) -> bool
     ensures { result ≡ reading.operand_tag operand }
 {
-    let tag = operand.tag;
-    tag < OPERAND_TAGS
+    operand.tag < OPERAND_TAGS
 }
 
 fn operand_names(stand: Stand, operand: Operand) -> bool
     ensures { result ≡ reading.operand_names (causes.bare stand) operand }
 {
-    let tag = operand.tag;
-    if tag < OPERAND_TAGS {
-        let number = number_in(operand);
-        names_item(stand, tag, number)
-    } else {
-        true
-    }
+    !operand_tag(operand) || names_item(stand, operand.tag, number_in(operand))
 }
 
 pub fn left_tag(atom: Atom) -> bool
     ensures { result ≡ reading.left_tag atom }
 {
-    let tag = atom.tag;
-    (tag == INPUT_TAG) | (tag == LOCAL_TAG)
+    (atom.tag == INPUT_TAG) | (atom.tag == LOCAL_TAG)
 }
 
 pub fn target_tag(assignment: Assignment) -> bool
     ensures { result ≡ reading.target_tag assignment }
 {
-    let tag = assignment.tag;
-    (tag == LOCAL_TAG) | (tag == OUTPUT_TAG)
+    (assignment.tag == LOCAL_TAG) | (assignment.tag == OUTPUT_TAG)
 }
 
 // Where the tag is one that the place allows, the item is there.
 fn allowed_names(allowed: bool, stand: Stand, tag: u8, number: u16) -> bool
     ensures { result ≡ cond allowed (reading.names_item (causes.bare stand) tag number) true }
 {
-    if allowed {
-        names_item(stand, tag, usize_of_u16(number))
-    } else {
-        true
-    }
+    !allowed || names_item(stand, tag, usize::from(number))
 }
 
 // A hyperperiod with the period of a thread that is critical in both modes.
@@ -187,19 +155,25 @@ pub fn with_period(thread: Thread, old: u8, new: u8, hyperperiod: u64) -> u64
     if !critical_in(thread, new) {
         return hyperperiod;
     }
-    let period = thread.period;
-    lcm_up_to(LAST_CLOCK, hyperperiod, period.0)
+    lcm_up_to(LAST_CLOCK, hyperperiod, thread.period.0)
 }
 
 pub fn same_target(one: Assignment, other: Assignment) -> bool
     ensures { result ≡ causes.same_target one other }
 {
-    let one_tag = one.tag;
-    let one_number = one.number;
-    let other_tag = other.tag;
-    let other_number = other.number;
-    (one_tag == other_tag) & (one_number == other_number)
+    (one.tag == other.tag) & (one.number == other.number)
 }
+
+const NO_FAULTS: Faults = Faults {
+    order: false,
+    excess: false,
+    names: false,
+    times: false,
+    ranges: false,
+    owner: false,
+    twice: false,
+    hyperperiod: false,
+};
 
 // The first fault, in the order of the causes.
 fn judged(faults: Faults) -> Cause
@@ -236,37 +210,24 @@ fn judged(faults: Faults) -> Cause
 pub fn head_cause(order: bool, head: Head) -> Cause
     ensures { result ≡ reading.judged (reading.head_faults order head) }
 {
-    let modes = head.modes;
-    let initial = head.initial;
     judged(Faults {
-        order: order,
-        excess: false,
-        names: modes <= initial,
-        times: false,
-        ranges: !((1 <= modes) & (modes <= MAX_MODES)),
-        owner: false,
-        twice: false,
-        hyperperiod: false,
+        order,
+        names: head.modes <= head.initial,
+        ranges: !((1 <= head.modes) & (head.modes <= MAX_MODES)),
+        ..NO_FAULTS
     })
 }
 
 pub fn thread_cause(order: bool, stand: Stand, thread: Thread) -> Cause
     ensures { result ≡ reading.judged (reading.thread_faults order (causes.bare stand) thread) }
 {
-    let threads = stand.threads;
-    let fits = times_fit(thread);
-    let mask = mask_fits(stand, thread.modes);
-    let critical = thread.critical;
-    let first = thread.first;
     judged(Faults {
-        order: order,
-        excess: MAX_THREADS <= threads,
-        names: false,
-        times: !fits,
-        ranges: !(mask & ((critical < MARKS) & (first < MAX_STATES))),
-        owner: false,
-        twice: false,
-        hyperperiod: false,
+        order,
+        excess: MAX_THREADS <= stand.threads,
+        times: !times_fit(thread),
+        ranges: !(mask_fits(stand, thread.modes)
+            & ((thread.critical < MARKS) & (thread.first < MAX_STATES))),
+        ..NO_FAULTS
     })
 }
 
@@ -274,61 +235,38 @@ pub fn thread_cause(order: bool, stand: Stand, thread: Thread) -> Cause
 pub fn port_cause(order: bool, count: usize, limit: usize, stand: Stand, owner: u8) -> Cause
     ensures { result ≡ reading.judged (reading.port_faults order count limit (causes.bare stand) owner) }
 {
-    let threads = stand.threads;
-    let thread = usize_of_u8(owner);
     judged(Faults {
-        order: order,
+        order,
         excess: limit <= count,
-        names: threads <= thread,
-        times: false,
-        ranges: false,
-        owner: false,
-        twice: false,
-        hyperperiod: false,
+        names: stand.threads <= usize::from(owner),
+        ..NO_FAULTS
     })
 }
 
 pub fn connection_cause(order: bool, stand: Stand, found: Found, connection: Connection) -> Cause
     ensures { result ≡ reading.judged (causes.connection_faults_by order stand found connection) }
 {
-    let connections = stand.connections;
-    let outputs = stand.outputs;
-    let inputs = stand.inputs;
-    let kind = connection.kind;
-    let source = usize_of_u16(connection.source);
-    let target = usize_of_u16(connection.target);
-    let mask = mask_fits(stand, connection.modes);
-    let connected = found.connected;
+    let source = usize::from(connection.source);
+    let target = usize::from(connection.target);
     judged(Faults {
-        order: order,
-        excess: MAX_CONNECTIONS <= connections,
-        names: !((source < outputs) & (target < inputs)),
-        times: false,
-        ranges: !((kind < CONNECTION_KINDS) & mask),
-        owner: false,
-        twice: connected,
-        hyperperiod: false,
+        order,
+        excess: MAX_CONNECTIONS <= stand.connections,
+        names: !((source < stand.outputs) & (target < stand.inputs)),
+        ranges: !((connection.kind < CONNECTION_KINDS) & mask_fits(stand, connection.modes)),
+        twice: found.connected,
+        ..NO_FAULTS
     })
 }
 
 pub fn switch_cause(order: bool, stand: Stand, found: Found, switch: ModeTransition) -> Cause
     ensures { result ≡ reading.judged (causes.switch_faults_by order stand found switch) }
 {
-    let switches = stand.switches;
-    let modes = stand.modes;
-    let from = switch.from;
-    let to = switch.to;
-    let h1 = found.h1;
-    let h2 = found.h2;
     judged(Faults {
-        order: order,
-        excess: MAX_SWITCHES <= switches,
-        names: !((from < modes) & (to < modes)),
-        times: false,
-        ranges: false,
-        owner: false,
-        twice: false,
-        hyperperiod: (LONGEST_HYPERPERIOD < h1) | (LONGEST_HYPERPERIOD < h2),
+        order,
+        excess: MAX_SWITCHES <= stand.switches,
+        names: !((switch.from < stand.modes) & (switch.to < stand.modes)),
+        hyperperiod: (LONGEST_HYPERPERIOD < found.h1) | (LONGEST_HYPERPERIOD < found.h2),
+        ..NO_FAULTS
     })
 }
 
@@ -340,19 +278,12 @@ pub fn transition_cause(
 ) -> Cause
     ensures { result ≡ reading.judged (causes.transition_faults_by order stand transitions transition) }
 {
-    let threads = stand.threads;
-    let thread = usize_of_u8(transition.thread);
-    let from = transition.from;
-    let to = transition.to;
     judged(Faults {
-        order: order,
+        order,
         excess: MAX_TRANSITIONS <= transitions,
-        names: threads <= thread,
-        times: false,
-        ranges: !((from < MAX_STATES) & (to < MAX_STATES)),
-        owner: false,
-        twice: false,
-        hyperperiod: false,
+        names: stand.threads <= usize::from(transition.thread),
+        ranges: !((transition.from < MAX_STATES) & (transition.to < MAX_STATES)),
+        ..NO_FAULTS
     })
 }
 
@@ -366,22 +297,16 @@ pub fn atom_cause(
 ) -> Cause
     ensures { result ≡ reading.judged (causes.atom_faults_by order stand transition owned atom) }
 {
-    let count = transition.atoms;
-    let op = atom.op;
-    let right = atom.right;
     let left = left_tag(atom);
-    let tag = operand_tag(right);
     let left_names = allowed_names(left, stand, atom.tag, atom.number);
-    let right_names = operand_names(stand, right);
+    let right_names = operand_names(stand, atom.right);
     judged(Faults {
-        order: order,
-        excess: MAX_EACH_BYTE <= count,
+        order,
+        excess: MAX_EACH_BYTE <= transition.atoms,
         names: !(left_names & right_names),
-        times: false,
-        ranges: !((op < COMPARISONS) & (left & tag)),
+        ranges: !((atom.op < COMPARISONS) & (left & operand_tag(atom.right))),
         owner: !owned,
-        twice: false,
-        hyperperiod: false,
+        ..NO_FAULTS
     })
 }
 
@@ -396,22 +321,17 @@ pub fn assignment_cause(
 ) -> Cause
     ensures { result ≡ reading.judged (causes.assignment_faults_by order stand transition owned twice assignment) }
 {
-    let count = transition.assignments;
-    let op = assignment.op;
-    let first = assignment.first;
-    let second = assignment.second;
     let target = target_tag(assignment);
-    let tags = operand_tag(first) & operand_tag(second);
     let target_names = allowed_names(target, stand, assignment.tag, assignment.number);
-    let names = operand_names(stand, first) & operand_names(stand, second);
+    let names = operand_names(stand, assignment.first) & operand_names(stand, assignment.second);
+    let tags = operand_tag(assignment.first) & operand_tag(assignment.second);
     judged(Faults {
-        order: order,
-        excess: MAX_EACH_BYTE <= count,
+        order,
+        excess: MAX_EACH_BYTE <= transition.assignments,
         names: !(target_names & names),
-        times: false,
-        ranges: !(target & ((op < OPERATIONS) & tags)),
+        ranges: !(target & ((assignment.op < OPERATIONS) & tags)),
         owner: !owned,
-        twice: twice,
-        hyperperiod: false,
+        twice,
+        ..NO_FAULTS
     })
 }

@@ -1,11 +1,7 @@
 -- An accepted record has no fault, and stands where its kind may: the facts that reading tests.
-use Rattle.std.proofs.Math.Path.{◌≡◌, refl}
 use Rattle.std.specs.Prelude.{Bool, cond, ◌&&◌, ◌||◌, ℕ, ◌<◌, ◌≤◌, ltb, leb}
-use Rattle.std.proofs.Math.Bool.{true, false}
-use native.Mathlib.Omega.{arith}
+use Rattle.std.proofs.Common.{◌≡◌, refl, true, false, arith, ltb-true, leb-true, eqb-true, lt-ltb, le-ltb, eqb}
 use Rattle.std.proofs.Math.Decide.{dec_lt}
-use borrow.Author.Tests.{ltb-true, leb-true, eqb-true, lt-ltb, le-ltb}
-use Rattle.std.proofs.Math.Dec.{eqb}
 use Rattle.records.specs.declared.Cause.{Cause}
 use Rattle.records.specs.declared.Cause.TheVariants.{None, WrongKind, TooMany, WrongField, OtherThread, SetTwice, LongHyperperiod, NamesNothing, FaultyTime}
 use Rattle.records.specs.Refusals.{number_of, is_none}

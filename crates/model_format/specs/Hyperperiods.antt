@@ -1,12 +1,9 @@
 -- Hyperperiods are what their name says: the least common multiple of the periods of the threads that are critical in both modes.
 use Rattle.std.specs.Prelude.{◌≡◌, Bool, cond, ◌&&◌, ltb}
-use Rattle.std.proofs.Math.Path.{refl}
-use Rattle.std.proofs.Common.{sym, ◌∙◌, true≢false, arith}
-use Rattle.std.proofs.Math.Bool.{true, false}
-use Prim.Native.Nat.{ℕ, zero, suc, ◌<◌, ◌≤◌, ◌∣◌}
+use Rattle.std.proofs.Common.{sym, ◌∙◌, true≢false, arith, refl, true, false, ℕ, zero, suc, ◌<◌, ◌≤◌, ltb-true, ltb-false}
+use Prim.Native.Nat.{◌∣◌}
 use Rattle.std.proofs.Math.Nat.{one-dvd, dvd_trans}
 use Rattle.std.proofs.Math.Decide.{dec_lt}
-use borrow.Author.Tests.{ltb-true, ltb-false}
 use Rattle.numbers.specs.Lists.{fold_below}
 use Rattle.numbers.specs.MultipleLaws.{lcm_positive, lcm_divided, lcm_divides, multiple_divides, divides_multiple}
 use Rattle.numbers.specs.Multiples.{is_multiple, lcm, lcm_up_to}

@@ -1,7 +1,7 @@
 -- Laws of the definitions, in the forms that the code's tests have.
-use Rattle.std.specs.Prelude.{◌≡◌, Bool, true, false, cond, ◌&&◌, List, ℕ, ◌+◌, ◌<◌, ◌≤◌, get_or, length}
-use Rattle.std.proofs.Common.{sym, ◌∙◌, ap, arith}
-use borrow.Author.Tests.{lt-ltb, le-ltb, ne_eqb}
+use Rattle.std.specs.Prelude.{◌≡◌, Bool, true, false, cond, ◌&&◌, List, ℕ, ◌+◌, ◌<◌, ◌≤◌, ltb, get_or, length}
+use Rattle.std.proofs.Common.{sym, ◌∙◌, ap, arith, subst, lt-ltb, le-ltb, ne_eqb}
+use Rattle.std.proofs.Math.Decide.{dec_lt}
 use Rattle.numbers.specs.Lists.{any_below, fold_below}
 use Rattle.numbers.specs.ListLaws.{any_next, any_some, fold_next}
 use Rattle.numbers.specs.Multiples.{lcm_up_to}
@@ -26,6 +26,15 @@ module _ (x : List ℕ) (k m : ℕ) (f : k ≡ get_or x 0 0) (e : m ≡ record_s
   pub record_whole : (m ≡ 0 → ⊥) → m ≤ length x → record_of_whole k x ≡ record_of x
   unfolding record_of
   record_whole z l = rw (← f, ← e, ne_eqb m 0 z, le-ltb (length x) m l)
+
+-- ---- an item stored in a list, which then is x
+-- what holds where item i is stored, and where it is past the room
+pub by_room : {room i : ℕ} {x y l : List ℕ} (P : List ℕ → Type 0) → x ≡ cond (ltb i room) y l → (i < room → P y) → (room ≤ i → P l) → P x
+by_room {room} {i} {x} {y} {l} P e f g = go (dec_lt i room)
+  where
+    go : Dec (i < room) → P x
+    go (yes h) = let z : x ≡ y = rw (lt-ltb i room h) at e in subst P (sym z) (f h)
+    go (no h) = let k : room ≤ i = omega arith in let z : x ≡ l = rw (le-ltb i room k) at e in subst P (sym z) (g k)
 
 -- ---- hyperperiods, a thread at a time
 abbrev pub with_period : Timing → ℕ → ℕ → ℕ → ℕ → ℕ

@@ -10,12 +10,11 @@ use records::Operand;
 pub fn no_thread() -> Thread
     ensures { result ≡ model.no_thread }
 {
-    let none = Duration(0);
     Thread {
-        period: none,
-        deadline: none,
-        bcet: none,
-        wcet: none,
+        period: Duration(0),
+        deadline: Duration(0),
+        bcet: Duration(0),
+        wcet: Duration(0),
         modes: 0,
         critical: 0,
         first: 0,
@@ -25,10 +24,9 @@ pub fn no_thread() -> Thread
 pub fn no_owned() -> Owned
     ensures { result ≡ model.no_owned }
 {
-    let zero = Value(0);
     Owned {
         owner: 0,
-        start: zero,
+        start: Value(0),
     }
 }
 
@@ -46,12 +44,11 @@ pub fn no_connection() -> Connection
 pub fn no_switch() -> ModeTransition
     ensures { result ≡ model.no_switch }
 {
-    let none = Duration(0);
     ModeTransition {
         from: 0,
         to: 0,
-        h1: none,
-        h2: none,
+        h1: Duration(0),
+        h2: Duration(0),
     }
 }
 
@@ -70,35 +67,31 @@ pub fn no_transition() -> Transition
 fn no_operand() -> Operand
     ensures { result ≡ model.no_operand }
 {
-    let zero = Value(0);
     Operand {
         tag: 0,
-        value: zero,
+        value: Value(0),
     }
 }
 
 pub fn no_atom() -> Atom
     ensures { result ≡ model.no_atom }
 {
-    let right = no_operand();
     Atom {
         op: 0,
         tag: 0,
         number: 0,
-        right: right,
+        right: no_operand(),
     }
 }
 
 pub fn no_assignment() -> Assignment
     ensures { result ≡ model.no_assignment }
 {
-    let first = no_operand();
-    let second = no_operand();
     Assignment {
         tag: 0,
         number: 0,
         op: 0,
-        first: first,
-        second: second,
+        first: no_operand(),
+        second: no_operand(),
     }
 }

@@ -1,4 +1,5 @@
 // What the bytes of items stand for.
+// Kept as bytes and no enums: a record or a lent list may hold any byte, and the definitions say what one that is none of these does.
 
 // The kinds of connections.
 pub const IMMEDIATE: u8 = 0;

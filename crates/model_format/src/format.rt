@@ -4,38 +4,29 @@ ghost use Rattle.std.specs.Prelude.{◌≡◌};
 ghost use Rattle.model_format.specs.Format as format;
 
 use crate::{Assignment, Atom, Connection, Head, ModeTransition, Owned, Thread, Transition};
-use numbers::{Duration, Value, byte_at, duration_at, value_at};
+use numbers::{Duration, Value, duration_at, item_or, value_at};
 use records::operand_at;
 
 pub fn head_of(x: &[u8]) -> Head
     ensures { result ≡ format.head_of x.now }
 {
-    let modes = byte_at(x, 1);
-    let initial = byte_at(x, 2);
     Head {
-        modes: modes,
-        initial: initial,
+        modes: item_or(x, 1, 0),
+        initial: item_or(x, 2, 0),
     }
 }
 
 pub fn thread_of(x: &[u8]) -> Thread
     ensures { result ≡ format.thread_of x.now }
 {
-    let period = duration_at(x, 1);
-    let deadline = duration_at(x, 5);
-    let bcet = duration_at(x, 9);
-    let wcet = duration_at(x, 13);
-    let modes = byte_at(x, 17);
-    let critical = byte_at(x, 18);
-    let first = byte_at(x, 19);
     Thread {
-        period: period,
-        deadline: deadline,
-        bcet: bcet,
-        wcet: wcet,
-        modes: modes,
-        critical: critical,
-        first: first,
+        period: duration_at(x, 1),
+        deadline: duration_at(x, 5),
+        bcet: duration_at(x, 9),
+        wcet: duration_at(x, 13),
+        modes: item_or(x, 17, 0),
+        critical: item_or(x, 18, 0),
+        first: item_or(x, 19, 0),
     }
 }
 
@@ -43,11 +34,9 @@ pub fn thread_of(x: &[u8]) -> Thread
 pub fn input_of(x: &[u8]) -> Owned
     ensures { result ≡ format.input_of x.now }
 {
-    let owner = byte_at(x, 1);
-    let zero = Value(0);
     Owned {
-        owner: owner,
-        start: zero,
+        owner: item_or(x, 1, 0),
+        start: Value(0),
     }
 }
 
@@ -55,26 +44,20 @@ pub fn input_of(x: &[u8]) -> Owned
 pub fn owned_of(x: &[u8]) -> Owned
     ensures { result ≡ format.owned_of x.now }
 {
-    let owner = byte_at(x, 1);
-    let start = value_at(x, 2);
     Owned {
-        owner: owner,
-        start: start,
+        owner: item_or(x, 1, 0),
+        start: value_at(x, 2),
     }
 }
 
 pub fn connection_of(x: &[u8]) -> Connection
     ensures { result ≡ format.connection_of x.now }
 {
-    let kind = byte_at(x, 1);
-    let source = numbers::u16_of_u8(byte_at(x, 2));
-    let target = numbers::u16_of_u8(byte_at(x, 3));
-    let modes = byte_at(x, 4);
     Connection {
-        kind: kind,
-        source: source,
-        target: target,
-        modes: modes,
+        kind: item_or(x, 1, 0),
+        source: u16::from(item_or(x, 2, 0)),
+        target: u16::from(item_or(x, 3, 0)),
+        modes: item_or(x, 4, 0),
     }
 }
 
@@ -82,27 +65,21 @@ pub fn connection_of(x: &[u8]) -> Connection
 pub fn switch_of(x: &[u8]) -> ModeTransition
     ensures { result ≡ format.switch_of x.now }
 {
-    let from = byte_at(x, 1);
-    let to = byte_at(x, 2);
-    let one = Duration(1);
     ModeTransition {
-        from: from,
-        to: to,
-        h1: one,
-        h2: one,
+        from: item_or(x, 1, 0),
+        to: item_or(x, 2, 0),
+        h1: Duration(1),
+        h2: Duration(1),
     }
 }
 
 pub fn transition_of(x: &[u8]) -> Transition
     ensures { result ≡ format.transition_of x.now }
 {
-    let thread = byte_at(x, 1);
-    let from = byte_at(x, 2);
-    let to = byte_at(x, 3);
     Transition {
-        thread: thread,
-        from: from,
-        to: to,
+        thread: item_or(x, 1, 0),
+        from: item_or(x, 2, 0),
+        to: item_or(x, 3, 0),
         atoms: 0,
         assignments: 0,
     }
@@ -111,31 +88,22 @@ pub fn transition_of(x: &[u8]) -> Transition
 pub fn atom_of(x: &[u8]) -> Atom
     ensures { result ≡ format.atom_of x.now }
 {
-    let op = byte_at(x, 1);
-    let tag = byte_at(x, 2);
-    let number = numbers::u16_of_u8(byte_at(x, 3));
-    let right = operand_at(x, 4);
     Atom {
-        op: op,
-        tag: tag,
-        number: number,
-        right: right,
+        op: item_or(x, 1, 0),
+        tag: item_or(x, 2, 0),
+        number: u16::from(item_or(x, 3, 0)),
+        right: operand_at(x, 4),
     }
 }
 
 pub fn assignment_of(x: &[u8]) -> Assignment
     ensures { result ≡ format.assignment_of x.now }
 {
-    let tag = byte_at(x, 1);
-    let number = numbers::u16_of_u8(byte_at(x, 2));
-    let op = byte_at(x, 3);
-    let first = operand_at(x, 4);
-    let second = operand_at(x, 9);
     Assignment {
-        tag: tag,
-        number: number,
-        op: op,
-        first: first,
-        second: second,
+        tag: item_or(x, 1, 0),
+        number: u16::from(item_or(x, 2, 0)),
+        op: item_or(x, 3, 0),
+        first: operand_at(x, 4),
+        second: operand_at(x, 9),
     }
 }

@@ -13,25 +13,17 @@ const CRITICAL: u8 = 1;
 pub fn place(k: usize, j: usize) -> usize
     ensures { result ≡ min (k * model.max_each + j) model.max_times }
 {
-    if MAX_TRANSITIONS <= k {
+    if MAX_TRANSITIONS <= k || MAX_TIMES <= j {
         return MAX_TIMES;
     }
-    if MAX_TIMES <= j {
-        return MAX_TIMES;
-    }
-    let i = k * MAX_EACH + j;
-    if i < MAX_TIMES { i } else { MAX_TIMES }
+    MAX_TIMES.min(k * MAX_EACH + j)
 }
 
 // Bit `mode` of a mask.
 pub fn in_mode(mask: u8, mode: u8) -> bool
     ensures { result ≡ model.in_mode mask mode }
 {
-    if mode < 8 {
-        (mask >> mode) % 2 == 1
-    } else {
-        false
-    }
+    mode < 8 && (mask >> mode) % 2 == 1
 }
 
 pub fn is_critical(x: Thread) -> bool
@@ -43,7 +35,5 @@ pub fn is_critical(x: Thread) -> bool
 pub fn critical_in(x: Thread, mode: u8) -> bool
     ensures { result ≡ model.critical_in x mode }
 {
-    let mask = x.modes;
-    let here = in_mode(mask, mode);
-    is_critical(x) & here
+    is_critical(x) && in_mode(x.modes, mode)
 }

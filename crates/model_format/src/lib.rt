@@ -177,6 +177,7 @@ pub struct Faults {
 }
 
 // What reading gives: the model where nothing is refused, else the empty model.
+// Kept as one struct: the definition `read_model` gives it, and the theorems on reading speak of both fields.
 #[derive(Clone, Copy)]
 pub struct ModelRead {
     pub refusal: Refusal,

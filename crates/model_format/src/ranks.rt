@@ -1,4 +1,5 @@
 // The places of records in the order that a model has them in. A record that is none has rank 0.
+// Kept as numbers: `in_order` compares them.
 
 pub const HEAD_RANK: u8 = 1;
 

@@ -1,7 +1,6 @@
 -- A model of whose items one has changed, by a change of the numbers of that item; and an item past its room.
 use Rattle.std.specs.Prelude.{◌≡◌, List, ℕ, ◌+◌, ◌*◌, ◌<◌, ◌≤◌}
-use Rattle.std.proofs.Math.Path.{refl}
-use Rattle.std.proofs.Common.{arith, le-ltb}
+use Rattle.std.proofs.Common.{arith, le-ltb, refl}
 use Rattle.numbers.specs.Lists.{store}
 use Rattle.numbers.specs.ListLaws.{list_below_store}
 use Rattle.model_format.specs.declared.Thread.{Thread}

@@ -1,7 +1,6 @@
 -- A transition of which one number is put: how many atoms it has, or how many assignments.
 use Rattle.std.specs.Prelude.{◌≡◌, refl, List, [], ◌∷◌, ℕ, ◌+◌, ◌*◌, ◌%◌, ◌<◌, ◌≤◌, set, length}
-use native.Mathlib.Omega.{arith}
-use Rattle.std.proofs.Math.ListN.{get_or}
+use Rattle.std.proofs.Common.{arith, get_or}
 use Rattle.model_format.specs.Model.{max_transitions, transition_at}
 use Rattle.model_format.specs.Reading.{with_counts}
 use Rattle.model_words.specs.Words.{transition_size, transitions_from, model_words, transition_in, behavior_in, model_in}

@@ -1,12 +1,8 @@
 -- An item whose numbers are put one after the other.
-use Rattle.std.specs.Prelude.{◌≡◌, refl, set, length, drop}
-use Rattle.std.proofs.Common.{sym, ◌∙◌, ap, length-set, drop-cons}
-use mathlib.Core.List.{List, [], ◌∷◌}
-use Prim.Native.Nat.{ℕ, suc, ◌+◌, ◌*◌, ◌%◌, ◌<◌, ◌≤◌}
-use native.Mathlib.Omega.{arith}
+use Rattle.std.specs.Prelude.{◌≡◌, refl, ◌++◌, set, length, take, drop}
+use Rattle.std.proofs.Common.{sym, ◌∙◌, ap, append_assoc, length-set, drop-cons, drop-drop, List, [], ◌∷◌, ℕ, suc, ◌+◌, ◌-◌, ◌*◌, ◌%◌, ◌<◌, ◌≤◌, arith, get_or}
 use Rattle.std.proofs.Math.Decide.{dec_lt}
-use Rattle.std.proofs.Math.ListN.{get_or}
-use Rattle.std.proofs.lemmas.List.Edits.{sets}
+use Rattle.std.proofs.lemmas.List.Edits.{sets, sets-eq}
 use Rattle.std.proofs.Math.Seq.{drop-length}
 use Rattle.numbers.specs.ListLaws.{sets_before, sets_after, sets_at}
 use Rattle.numbers.specs.Values.{signed, bits_of}
@@ -35,6 +31,12 @@ module _ (l l' vs : List ℕ) (p : ℕ) (w : l' ≡ sets l p vs) where
 
   pub put_at : (k q : ℕ) → q ≡ p + k → k < length vs → p + length vs ≤ length l → get_or l' q 0 ≡ get_or vs k 0
   put_at k q e h z = ap (λ (k : List ℕ). get_or k q 0) w ∙ rw e (sets_at vs l p k 0 h (omega arith))
+
+-- the n numbers vs copied into the code's &mut l[p..p + n], which then is y
+pub numbers_put : (l vs y : List ℕ) (p n : ℕ) → length vs ≡ n → y ≡ vs → p + n ≤ length l → take p l ++ (y ++ drop (p + n - p) (drop p l)) ≡ sets l p vs
+numbers_put l vs y p n w e h =
+    let k : p + n - p ≡ n = omega arith in
+    rw (k, e, drop-drop n p l, ← w) (sym (append_assoc (take p l) vs (drop (p + length vs) l)) ∙ sym (sets-eq vs l p (omega (arith, w))))
 
 -- ---- the loop that puts them: of vs, the numbers from i on are still to be put
 pub record Putting (l : List ℕ) (p : ℕ) (vs x : List ℕ) (i : ℕ) : Type 0 where

@@ -2,10 +2,10 @@
 
 #![tactic(auto)]
 
-ghost use Rattle.std.specs.Prelude.{◌≡◌, ◌+◌, ◌≤◌, length};
+ghost use Rattle.std.specs.Prelude.{◌≡◌, ◌+◌, ◌*◌, ◌<◌, ◌≤◌, cond, ltb, set, length};
 ghost use Rattle.std.proofs.lemmas.List.Edits.{sets};
-ghost use Rattle.numbers.specs.Values as values;
-ghost use Rattle.model_words.specs.Words.{model_words, model_in};
+ghost use Rattle.model_format.specs.Model.{max_transitions};
+ghost use Rattle.model_words.specs.Words.{transition_size, transitions_from, model_words, model_in};
 ghost use Rattle.model_items.specs.Replaced as replaced;
 
 use model_format::{
@@ -14,33 +14,44 @@ use model_format::{
     Transition,
 };
 use model_words::{
-    ASSIGNMENT_SIZE, ASSIGNMENTS_FROM, ATOM_SIZE, ATOMS_FROM, CONNECTION_SIZE, CONNECTIONS_FROM,
-    INPUTS_FROM, LOCALS_FROM, OUTPUTS_FROM, OWNED_SIZE, SWITCH_SIZE, SWITCHES_FROM, THREAD_SIZE,
-    THREADS_FROM, TRANSITION_SIZE, TRANSITIONS_FROM,
+    ASSIGNMENTS_FROM, ATOMS_FROM, CONNECTIONS_FROM, INPUTS_FROM, LOCALS_FROM, OUTPUTS_FROM,
+    SWITCHES_FROM, THREADS_FROM, TRANSITION_SIZE, TRANSITIONS_FROM,
 };
-use numbers::{Value, put_word};
+use numbers::{bits, put_item};
 
 // Which of the numbers of a transition says how many atoms it has, and which how many assignments.
 const ATOMS_FIELD: usize = 3;
 
 const ASSIGNMENTS_FIELD: usize = 4;
 
-// The bits of a value, which stand for it.
-fn bits_of(value: Value) -> u32
-    ensures { (result ≡ values.bits_of value.0) × (values.signed (values.bits_of value.0) ≡ value.0) }
+// The numbers of item i of those from a place on; past the room, nothing is stored.
+fn put_fields<const N: usize>(
+    model: &mut [u32],
+    from: usize,
+    room: usize,
+    i: usize,
+    fields: [u32; N],
+)
+    requires { i < room → from + i * N + N ≤ length model.old }
+    ensures { model.new ≡ cond (ltb i room) (sets model.old (from + i * N) fields.entry) model.old }
 {
-    numbers::bits(value)
+    if i < room {
+        let at = from + i * N;
+        model[at..at + N].copy_from_slice(&fields);
+    }
 }
 
-// The numbers of an item, one after the other.
-fn put_numbers(model: &mut [u32], at: usize, fields: &[u32])
-    requires { at + length fields.now ≤ length model.old }
-    ensures { model.new ≡ sets model.old at fields.now }
+// One number of a transition: the rest of it stays.
+fn put_count(model: &mut [u32], i: usize, field: usize, count: u8)
+    requires { field < transition_size }
+    ensures { model.new ≡ cond (ltb i max_transitions) (set model.old (transitions_from + i * transition_size + field) count) model.old }
 {
-    let mut i: usize = 0;
-    while i < fields.len() {
-        model[at + i] = fields[i];
-        i += 1;
+    if i < MAX_TRANSITIONS {
+        put_item(
+            model,
+            TRANSITIONS_FROM + i * TRANSITION_SIZE + field,
+            u32::from(count),
+        );
     }
 }
 
@@ -48,100 +59,109 @@ pub fn put_thread(model: &mut [u32], i: usize, thread: Thread)
     requires { model_words ≤ length model.old }
     ensures { model_in model.new ≡ replaced.with_thread (model_in model.old) i thread }
 {
-    if MAX_THREADS <= i {
-        return;
-    }
-    let fields = [
-        thread.period.0,
-        thread.deadline.0,
-        thread.bcet.0,
-        thread.wcet.0,
-        thread.modes as u32,
-        thread.critical as u32,
-        thread.first as u32,
-    ];
-    put_numbers(model, THREADS_FROM + i * THREAD_SIZE, &fields);
+    put_fields(
+        model,
+        THREADS_FROM,
+        MAX_THREADS,
+        i,
+        [
+            thread.period.0,
+            thread.deadline.0,
+            thread.bcet.0,
+            thread.wcet.0,
+            thread.modes as u32,
+            thread.critical as u32,
+            thread.first as u32,
+        ],
+    );
 }
 
 pub fn put_input(model: &mut [u32], i: usize, input: Owned)
     requires { model_words ≤ length model.old }
     ensures { model_in model.new ≡ replaced.with_input (model_in model.old) i input }
 {
-    if MAX_INPUTS <= i {
-        return;
-    }
-    let fields = [input.owner as u32, bits_of(input.start)];
-    put_numbers(model, INPUTS_FROM + i * OWNED_SIZE, &fields);
+    put_fields(
+        model,
+        INPUTS_FROM,
+        MAX_INPUTS,
+        i,
+        [input.owner as u32, bits(input.start)],
+    );
 }
 
 pub fn put_output(model: &mut [u32], i: usize, owner: u8)
     requires { model_words ≤ length model.old }
     ensures { model_in model.new ≡ replaced.with_output (model_in model.old) i owner }
 {
-    if MAX_OUTPUTS <= i {
-        return;
-    }
-    put_word(model, OUTPUTS_FROM + i, owner as u32);
+    put_fields(model, OUTPUTS_FROM, MAX_OUTPUTS, i, [owner as u32]);
 }
 
 pub fn put_local(model: &mut [u32], i: usize, local: Owned)
     requires { model_words ≤ length model.old }
     ensures { model_in model.new ≡ replaced.with_local (model_in model.old) i local }
 {
-    if MAX_LOCALS <= i {
-        return;
-    }
-    let fields = [local.owner as u32, bits_of(local.start)];
-    put_numbers(model, LOCALS_FROM + i * OWNED_SIZE, &fields);
+    put_fields(
+        model,
+        LOCALS_FROM,
+        MAX_LOCALS,
+        i,
+        [local.owner as u32, bits(local.start)],
+    );
 }
 
 pub fn put_connection(model: &mut [u32], i: usize, connection: Connection)
     requires { model_words ≤ length model.old }
     ensures { model_in model.new ≡ replaced.with_connection (model_in model.old) i connection }
 {
-    if MAX_CONNECTIONS <= i {
-        return;
-    }
-    let fields = [
-        connection.kind as u32,
-        connection.source as u32,
-        connection.target as u32,
-        connection.modes as u32,
-    ];
-    put_numbers(model, CONNECTIONS_FROM + i * CONNECTION_SIZE, &fields);
+    put_fields(
+        model,
+        CONNECTIONS_FROM,
+        MAX_CONNECTIONS,
+        i,
+        [
+            connection.kind as u32,
+            connection.source as u32,
+            connection.target as u32,
+            connection.modes as u32,
+        ],
+    );
 }
 
 pub fn put_switch(model: &mut [u32], i: usize, switch: ModeTransition)
     requires { model_words ≤ length model.old }
     ensures { model_in model.new ≡ replaced.with_switch (model_in model.old) i switch }
 {
-    if MAX_SWITCHES <= i {
-        return;
-    }
-    let fields = [
-        switch.from as u32,
-        switch.to as u32,
-        switch.h1.0,
-        switch.h2.0,
-    ];
-    put_numbers(model, SWITCHES_FROM + i * SWITCH_SIZE, &fields);
+    put_fields(
+        model,
+        SWITCHES_FROM,
+        MAX_SWITCHES,
+        i,
+        [
+            switch.from as u32,
+            switch.to as u32,
+            switch.h1.0,
+            switch.h2.0,
+        ],
+    );
 }
 
 pub fn put_transition(model: &mut [u32], i: usize, transition: Transition)
     requires { model_words ≤ length model.old }
     ensures { model_in model.new ≡ replaced.with_transition (model_in model.old) i transition }
 {
-    if MAX_TRANSITIONS <= i {
-        return;
-    }
-    let fields = [
-        transition.thread as u32,
-        transition.from as u32,
-        transition.to as u32,
-        transition.atoms as u32,
-        transition.assignments as u32,
-    ];
-    put_numbers(model, TRANSITIONS_FROM + i * TRANSITION_SIZE, &fields);
+    put_fields(
+        model,
+        TRANSITIONS_FROM,
+        MAX_TRANSITIONS,
+        i,
+        [
+            transition.thread as u32,
+            transition.from as u32,
+            transition.to as u32,
+            transition.atoms as u32,
+            transition.assignments as u32,
+        ],
+    );
 }
 
 // How many atoms transition i has: the rest of it stays.
@@ -149,14 +169,7 @@ pub fn put_atom_count(model: &mut [u32], i: usize, count: u8)
     requires { model_words ≤ length model.old }
     ensures { model_in model.new ≡ replaced.with_atom_count (model_in model.old) i count }
 {
-    if MAX_TRANSITIONS <= i {
-        return;
-    }
-    put_word(
-        model,
-        TRANSITIONS_FROM + i * TRANSITION_SIZE + ATOMS_FIELD,
-        count as u32,
-    );
+    put_count(model, i, ATOMS_FIELD, count);
 }
 
 // How many assignments it has.
@@ -164,51 +177,45 @@ pub fn put_assignment_count(model: &mut [u32], i: usize, count: u8)
     requires { model_words ≤ length model.old }
     ensures { model_in model.new ≡ replaced.with_assignment_count (model_in model.old) i count }
 {
-    if MAX_TRANSITIONS <= i {
-        return;
-    }
-    put_word(
-        model,
-        TRANSITIONS_FROM + i * TRANSITION_SIZE + ASSIGNMENTS_FIELD,
-        count as u32,
-    );
+    put_count(model, i, ASSIGNMENTS_FIELD, count);
 }
 
 pub fn put_atom(model: &mut [u32], i: usize, atom: Atom)
     requires { model_words ≤ length model.old }
     ensures { model_in model.new ≡ replaced.with_atom (model_in model.old) i atom }
 {
-    if MAX_TIMES <= i {
-        return;
-    }
-    let right = atom.right;
-    let fields = [
-        atom.op as u32,
-        atom.tag as u32,
-        atom.number as u32,
-        right.tag as u32,
-        bits_of(right.value),
-    ];
-    put_numbers(model, ATOMS_FROM + i * ATOM_SIZE, &fields);
+    put_fields(
+        model,
+        ATOMS_FROM,
+        MAX_TIMES,
+        i,
+        [
+            atom.op as u32,
+            atom.tag as u32,
+            atom.number as u32,
+            atom.right.tag as u32,
+            bits(atom.right.value),
+        ],
+    );
 }
 
 pub fn put_assignment(model: &mut [u32], i: usize, assignment: Assignment)
     requires { model_words ≤ length model.old }
     ensures { model_in model.new ≡ replaced.with_assignment (model_in model.old) i assignment }
 {
-    if MAX_TIMES <= i {
-        return;
-    }
-    let first = assignment.first;
-    let second = assignment.second;
-    let fields = [
-        assignment.tag as u32,
-        assignment.number as u32,
-        assignment.op as u32,
-        first.tag as u32,
-        bits_of(first.value),
-        second.tag as u32,
-        bits_of(second.value),
-    ];
-    put_numbers(model, ASSIGNMENTS_FROM + i * ASSIGNMENT_SIZE, &fields);
+    put_fields(
+        model,
+        ASSIGNMENTS_FROM,
+        MAX_TIMES,
+        i,
+        [
+            assignment.tag as u32,
+            assignment.number as u32,
+            assignment.op as u32,
+            assignment.first.tag as u32,
+            bits(assignment.first.value),
+            assignment.second.tag as u32,
+            bits(assignment.second.value),
+        ],
+    );
 }

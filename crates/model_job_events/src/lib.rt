@@ -17,7 +17,6 @@ use model_ports::send;
 use model_semantics::COMPLETED;
 use model_tests::{NO_FAULT, can_complete, can_dispatch, can_meet_deadline, can_miss, start_fault};
 use model_words::threads;
-use numbers::usize_of_u8;
 use records::Cause;
 
 fn complete(model: &[u32], state: &mut [u32], t: usize)
@@ -43,7 +42,7 @@ pub fn on_start(model: &[u32], state: &mut [u32], id: u8, time: u32) -> Cause
     requires { clock_words ≤ length state.old }
     ensures { Answers result state.old state.new (machine.on_start (timing_in model.now) (state_in state.old) id time) }
 {
-    if start_fault(model, state, usize_of_u8(id), time) == NO_FAULT {
+    if start_fault(model, state, usize::from(id), time) == NO_FAULT {
         start(model, state, id, time);
         return Cause::None;
     }

@@ -11,7 +11,6 @@ ghost use Rattle.model_time.specs.Answers.{Answers};
 use model_job_events::{on_complete, on_deadline, on_dispatch, on_miss, on_start};
 use model_mode_events::{on_activate, on_deactivate, on_enter, on_leave, on_request};
 use model_time::ticks;
-use numbers::usize_of_u8;
 use records::{
     ACTIVATE, COMPLETE, Cause, DEACTIVATE, DEADLINE, DISPATCH, ENTER, Event, LEAVE, MISS, REQUEST,
     START, TICK, is_broken,
@@ -24,20 +23,19 @@ pub fn step(model: &[u32], state: &mut [u32], event: Event) -> Cause
     if is_broken(event) {
         return Cause::BrokenEvent;
     }
-    let t = usize_of_u8(event.id);
-    let kind = event.kind;
-    match kind {
-        ACTIVATE => return on_activate(model, state, t),
-        DEACTIVATE => return on_deactivate(model, state, t),
-        DISPATCH => return on_dispatch(model, state, t),
-        START => return on_start(model, state, event.id, event.amount),
-        COMPLETE => return on_complete(model, state, t),
-        DEADLINE => return on_deadline(model, state, t),
-        MISS => return on_miss(model, state, t),
-        REQUEST => return on_request(model, state, event.id),
-        ENTER => return on_enter(model, state, t),
-        LEAVE => return on_leave(model, state, t),
-        TICK => return ticks(model, state, event.amount),
-        _ => return Cause::BrokenEvent,
+    let t = usize::from(event.id);
+    match event.kind {
+        ACTIVATE => on_activate(model, state, t),
+        DEACTIVATE => on_deactivate(model, state, t),
+        DISPATCH => on_dispatch(model, state, t),
+        START => on_start(model, state, event.id, event.amount),
+        COMPLETE => on_complete(model, state, t),
+        DEADLINE => on_deadline(model, state, t),
+        MISS => on_miss(model, state, t),
+        REQUEST => on_request(model, state, event.id),
+        ENTER => on_enter(model, state, t),
+        LEAVE => on_leave(model, state, t),
+        TICK => ticks(model, state, event.amount),
+        _ => Cause::BrokenEvent,
     }
 }

@@ -15,7 +15,6 @@ use model_semantics::WAITING_DISPATCH;
 use model_state::put_code;
 use model_tests::{can_activate, can_deactivate, can_enter, can_leave};
 use model_words::{switches, threads};
-use numbers::usize_of_u8;
 use records::Cause;
 
 pub fn on_activate(model: &[u32], state: &mut [u32], t: usize) -> Cause
@@ -43,7 +42,7 @@ pub fn on_request(model: &[u32], state: &mut [u32], id: u8) -> Cause
     requires { clock_words ≤ length state.old }
     ensures { Answers result state.old state.new (machine.on_request (timing_in model.now) (state_in state.old) id) }
 {
-    if usize_of_u8(id) < switches(model) {
+    if usize::from(id) < switches(model) {
         request(model, state, id);
         return Cause::None;
     }

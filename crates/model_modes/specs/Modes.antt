@@ -1,7 +1,7 @@
 -- Laws of the effects of mode transitions.
-use Rattle.std.specs.Prelude.{◌≡◌, Bool, true, false, cond, ◌&&◌, List, ℕ, ◌+◌, ◌<◌, ◌≤◌, min, eqb, ltb}
+use Rattle.std.specs.Prelude.{◌≡◌, Bool, true, false, ◌&&◌, List, ℕ, ◌+◌, ◌≤◌, min, eqb}
 use Rattle.std.proofs.Math.Path.{refl, ap}
-use Rattle.std.proofs.Common.{sym, ◌∙◌, le-ltb}
+use Rattle.std.proofs.Common.{◌∙◌, le-ltb}
 use Rattle.numbers.specs.Lists.{store, fold_below}
 use Rattle.numbers.specs.ListLaws.{fold_next}
 use Rattle.model_format.specs.declared.Thread.{Thread}

@@ -11,21 +11,15 @@ ghost use Rattle.model_words.specs.Words.{timing_in};
 use model_format::{MAX_CONNECTIONS, MAX_THREADS, in_mode};
 use model_semantics::{CHANGING, NONE, REQUESTED, STEADY};
 use model_state::{clock_of, put_active, put_entered, put_live, put_mode, put_phase};
-use model_tests::within;
 use model_words::{connection_at, connections, switch_at, thread_at, threads};
-use numbers::usize_of_u8;
 
 // Active of every thread by a mode.
 pub fn set_active(model: &[u32], state: &mut [u32], mode: u8)
     ensures { state_in state.new ≡ with_active (state_in state.old) (effects.active_in (timing_in model.now) mode (state_in state.old).threads.active) }
 {
-    let count = within(threads(model), MAX_THREADS);
-    let mut t: usize = 0;
-    while t < count {
-        let thread = thread_at(model, t);
-        let active = in_mode(thread.modes, mode);
-        put_active(state, t, active);
-        t += 1;
+    let count = threads(model).min(MAX_THREADS);
+    for t in 0..count {
+        put_active(state, t, in_mode(thread_at(model, t).modes, mode));
     }
 }
 
@@ -33,14 +27,10 @@ pub fn set_active(model: &[u32], state: &mut [u32], mode: u8)
 pub fn set_live(model: &[u32], state: &mut [u32], old: u8, new: u8)
     ensures { state_in state.new ≡ with_live (state_in state.old) (effects.live_in (timing_in model.now) old new (state_in state.old).live) }
 {
-    let count = within(connections(model), MAX_CONNECTIONS);
-    let mut c: usize = 0;
-    while c < count {
-        let connection = connection_at(model, c);
-        let before = in_mode(connection.modes, old);
-        let after = in_mode(connection.modes, new);
-        put_live(state, c, before & after);
-        c += 1;
+    let count = connections(model).min(MAX_CONNECTIONS);
+    for c in 0..count {
+        let modes = connection_at(model, c).modes;
+        put_live(state, c, in_mode(modes, old) & in_mode(modes, new));
     }
 }
 
@@ -49,10 +39,9 @@ pub fn request(model: &[u32], state: &mut [u32], id: u8)
     requires { clock_words ≤ length state.old }
     ensures { state_in state.new ≡ effects.request (timing_in model.now) (state_in state.old) id }
 {
-    let switch = switch_at(model, usize_of_u8(id));
+    let switch = switch_at(model, usize::from(id));
     let clock = clock_of(state);
-    let from = switch.from;
-    if (clock.phase == STEADY) & (clock.mode == from) {
+    if (clock.phase == STEADY) & (clock.mode == switch.from) {
         put_phase(state, REQUESTED, id);
     }
 }

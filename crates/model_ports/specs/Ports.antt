@@ -1,15 +1,16 @@
 -- Input ports that take their buffers: what the walks over connections and ports have at hand, and their laws.
-use Rattle.std.specs.Prelude.{◌≡◌, Bool, cond, ◌&&◌, ◌||◌, not, ℕ, ◌+◌, ◌<◌, ◌≤◌, min, ltb, get_or, set, length, replicate}
+use Rattle.std.specs.Prelude.{◌≡◌, Bool, cond, ◌&&◌, ◌||◌, not, ℕ, ◌+◌, ◌<◌, ◌≤◌, min, get_or, set, length, replicate, Option, Some, None, unwrap_or}
 use Rattle.std.proofs.Math.Path.{refl, ap}
-use Rattle.std.proofs.Common.{sym, ◌∙◌, arith, length-set, get_or-set_same, get_or-set_other, lt-ltb, le-ltb, eq-eqb, ne_eqb}
+use Rattle.std.specs.Bool.{then_some}
+use Rattle.std.proofs.Common.{sym, ◌∙◌, arith, length-set, get_or-set_same, get_or-set_other, le-ltb, eq-eqb, ne_eqb}
 use Rattle.std.proofs.Math.Bool.{true, false}
 use mathlib.Core.List.{List}
-use Rattle.std.proofs.Math.Decide.{ℕ_discrete}
+use Rattle.std.proofs.Math.Decide.{ℕ_discrete, dec_lt}
 use Rattle.std.proofs.Math.Dec.{eqb}
-use Rattle.std.proofs.lemmas.List.{length-replicate, get_or-replicate}
+use Rattle.std.proofs.lemmas.List.{length-replicate, get_or-replicate, set_past}
 use Rattle.numbers.specs.declared.Value.{Value}
 use Rattle.numbers.specs.Lists.{store, any_below, fold_below}
-use Rattle.numbers.specs.ListLaws.{any_next, any_zero, fold_next, fold_zero}
+use Rattle.numbers.specs.ListLaws.{any_next, any_zero, fold_next}
 use Rattle.model_format.specs.declared.Connection.{Connection}
 use Rattle.model_format.specs.declared.Timing.{Timing}
 use Rattle.model_format.specs.Model.{max_inputs, max_connections, immediate, connection_at, input_owner}
@@ -31,6 +32,23 @@ module _ (m : Timing) (s : State) (c : ℕ) (x : Connection) (live : Bool) (e : 
   pub fed_none : (eqb x.kind immediate && live) ≡ false → max_inputs ≡ fed_port m s c
   unfolding fed_port
   fed_none h = rw (← e, ← f, h)
+
+-- the same as an Option: none where there is none
+unfoldable pub fed_input : Timing → State → ℕ → Option ℕ
+fed_input m s c = then_some (eqb (connection_at m c).kind immediate && is_live s c) (connection_at m c).target
+
+pub fed_by : (m : Timing) (s : State) (c : ℕ) (x : Connection) (live : Bool) → x ≡ connection_at m c → live ≡ is_live s c → (i : ℕ) → i ≡ x.target → (r : Option ℕ) →
+    r ≡ then_some (eqb x.kind immediate && live) i → r ≡ fed_input m s c
+unfolding fed_input
+fed_by m s c x live e f i g r h = h ∙ rw (g, f, e)
+
+pub fed_is : (m : Timing) (s : State) (c : ℕ) → fed_port m s c ≡ unwrap_or (fed_input m s c) max_inputs
+unfolding fed_port fed_input
+fed_is m s c = go (eqb (connection_at m c).kind immediate && is_live s c)
+  where
+    go : (b : Bool) → cond b (connection_at m c).target max_inputs ≡ unwrap_or (then_some b (connection_at m c).target) max_inputs
+    go true = refl
+    go false = refl
 
 -- one of the first n connections feeds port i
 abbrev pub feeding : Timing → State → ℕ → ℕ → Bool
@@ -88,6 +106,20 @@ module _ (m : Timing) (s : State) where
             ap (λ (j : ℕ). get_or (set marks p true) j false) z ∙ get_or-set_same marks p true false (omega (arith, k.size)) ∙
             sym (any_next c (feeding m s i) ∙ rw (fed_here i l, eq-eqb p i (sym z)) (or_true (any_below c (feeding m s i))))
         go i l (no z) = get_or-set_other marks p i true false z ∙ other i l (λ w. z (sym w))
+
+    pub marked_set : Marked m s (c + 1) (set marks p true)
+    marked_set = go (dec_lt p max_inputs)
+      where
+        go : Dec (p < max_inputs) → Marked m s (c + 1) (set marks p true)
+        go (yes h) = marked_next h
+        go (no h) = rw (set_past marks p true (omega (arith, k.size))) (marked_past (omega arith))
+
+  module _ (c : ℕ) (marks : List Bool) (k : Marked m s c marks) where
+    pub marked_fed : (p : ℕ) → fed_input m s c ≡ Some p → Marked m s (c + 1) (set marks p true)
+    marked_fed p e = marked_set c marks k p (sym (fed_is m s c ∙ ap (λ (o : Option ℕ). unwrap_or o max_inputs) e))
+
+    pub marked_unfed : fed_input m s c ≡ None → Marked m s (c + 1) marks
+    marked_unfed e = marked_past c marks k max_inputs (sym (fed_is m s c ∙ ap (λ (o : Option ℕ). unwrap_or o max_inputs) e)) (omega arith)
 
   pub marked_all : (n c : ℕ) (marks : List Bool) → n ≡ min m.connections max_connections → c ≤ n → n ≤ c → Marked m s c marks → Marked m s m.connections marks
   unfolding is_live

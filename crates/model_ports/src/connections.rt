@@ -9,9 +9,7 @@ ghost use Rattle.model_ports.specs.Sends as sends;
 
 use model_format::{Connection, MAX_CONNECTIONS};
 use model_state::{is_live, output_value, put_buffer};
-use model_tests::within;
 use model_words::{connection_at, connections, output_owner};
-use numbers::{usize_of_u8, usize_of_u16};
 
 // Connection c, whose record is given, is a live one of a kind from thread t. Most are off or of other threads.
 fn carries(
@@ -24,21 +22,20 @@ fn carries(
 ) -> bool
     ensures { result ≡ sends.carries_by (timing_in model.now) (state_in state.now) connection c kind t }
 {
-    let its_kind = connection.kind;
     let live = is_live(state, c);
-    if !((its_kind == kind) & live) {
+    if !((connection.kind == kind) & live) {
         return false;
     }
-    let owner = output_owner(model, usize_of_u16(connection.source));
-    usize_of_u8(owner) == t
+    let owner = output_owner(model, usize::from(connection.source));
+    usize::from(owner) == t
 }
 
 fn send_one(state: &mut [u32], connection: Connection, goes: bool)
     ensures { state_in state.new ≡ sends.send_one (state_in state.old) connection goes }
 {
     if goes {
-        let value = output_value(state, usize_of_u16(connection.source));
-        put_buffer(state, usize_of_u16(connection.target), value);
+        let value = output_value(state, usize::from(connection.source));
+        put_buffer(state, usize::from(connection.target), value);
     }
 }
 
@@ -46,12 +43,10 @@ fn send_one(state: &mut [u32], connection: Connection, goes: bool)
 pub fn send(model: &[u32], state: &mut [u32], kind: u8, t: usize)
     ensures { state_in state.new ≡ with_ports (state_in state.old) (effects.send (timing_in model.now) (state_in state.old) kind t (state_in state.old).ports) }
 {
-    let count = within(connections(model), MAX_CONNECTIONS);
-    let mut c: usize = 0;
-    while c < count {
+    let count = connections(model).min(MAX_CONNECTIONS);
+    for c in 0..count {
         let connection = connection_at(model, c);
         let goes = carries(model, state, connection, c, kind, t);
         send_one(state, connection, goes);
-        c += 1;
     }
 }

@@ -6,7 +6,6 @@ use Rattle.records.specs.declared.Notation.TheVariants as notations
 use Rattle.records.specs.Format.{record_size}
 use Rattle.records.specs.Kinds.{model_written_input}
 use Rattle.records.specs.Refusals.{number_of, is_none}
-use Rattle.model_format.specs.declared.Model.{Model}
 use Rattle.model_format.specs.declared.Reading.{Reading}
 use Rattle.model_format.specs.declared.Record.TheVariants.{Cut, Unknown}
 use Rattle.model_format.specs.Format.{record_of_whole, record_of, input_rank, rank_of}

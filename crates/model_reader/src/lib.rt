@@ -5,18 +5,20 @@
 mod parts;
 
 ghost use Rattle.std.specs.Prelude.{◌≡◌, length};
-ghost use Rattle.records.specs.Refusals as refusals;
 ghost use Rattle.model_format.specs.Model.{empty_model};
 ghost use Rattle.model_format.specs.Reading as reading;
 ghost use Rattle.model_words.specs.Words as words;
 ghost use Rattle.model_reader.specs.Reads as into;
 ghost use Rattle.model_reader.specs.Ranks.{rank_of_kind};
 
-use crate::parts::take_whole;
+use crate::parts::take_part;
 use model_format::INPUT_RANK;
 use model_words::MODEL_WORDS;
 use model_writer::clear;
-use records::{Cause, Holder, MODEL_WRITTEN_INPUT, Notation, Refusal, is_none, record_size};
+use numbers::item_or;
+use records::{
+    Cause, MODEL_WRITTEN_INPUT, Notation, Parts, Refusal, in_model, is_none, no_refusal,
+};
 
 // The rank of records of a kind.
 fn rank_of(kind: u8) -> u8
@@ -29,18 +31,6 @@ fn rank_of(kind: u8) -> u8
     }
 }
 
-fn refused(cause: Cause, start: usize, end: usize) -> Refusal
-    ensures { result ≡ refusals.in_model cause start end }
-{
-    let holder = Holder::Model;
-    Refusal {
-        cause: cause,
-        holder: holder,
-        start: start,
-        end: end,
-    }
-}
-
 // The records of a model, into a list that is clear, up to the first that is refused. There the list has those before it. Its length is said as a constant,
 // so that no number of it is tested for being there.
 pub fn read_records(bytes: &[u8], model: &mut [u32]) -> Refusal
@@ -48,29 +38,17 @@ pub fn read_records(bytes: &[u8], model: &mut [u32]) -> Refusal
     ensures { into.read_with result model.new ≡ reading.read_model bytes.now }
 {
     let mut last: u8 = 0;
-    let mut at: usize = 0;
-    while at < bytes.len() {
-        let kind = bytes[at];
-        let notation = Notation::Model;
-        let size = record_size(notation, kind);
-        if size == 0 {
-            return refused(Cause::WrongKind, at, bytes.len());
-        }
-        if bytes.len() - at < size {
-            return refused(Cause::CutRecord, at, bytes.len());
-        }
-        let end = at + size;
-        let cause = take_whole(&mut model[..MODEL_WORDS], last, kind, &bytes[at..end]);
+    for part in Parts::new(Notation::Model, bytes, 0) {
+        let cause = take_part(&mut model[..MODEL_WORDS], last, part.bytes);
         if !is_none(cause) {
-            return refused(cause, at, end);
+            return in_model(cause, part.start, part.end);
         }
-        last = rank_of(kind);
-        at = end;
+        last = rank_of(item_or(part.bytes, 0, 0));
     }
     if last == 0 {
-        return refused(Cause::WrongKind, at, at);
+        return in_model(Cause::WrongKind, bytes.len(), bytes.len());
     }
-    refused(Cause::None, 0, 0)
+    no_refusal()
 }
 
 fn read_all(bytes: &[u8], model: &mut [u32]) -> Refusal
@@ -79,11 +57,9 @@ fn read_all(bytes: &[u8], model: &mut [u32]) -> Refusal
 {
     clear(model);
     let refusal = read_records(bytes, model);
-    let cause = refusal.cause;
-    if is_none(cause) {
-        return refusal;
+    if !is_none(refusal.cause) {
+        clear(model);
     }
-    clear(model);
     refusal
 }
 
@@ -100,8 +76,7 @@ pub fn read_model_into(bytes: &[u8], list: &mut [u32]) -> Refusal
     ensures { into.ReadInto bytes.now list.old list.new result }
 {
     if list.len() < MODEL_WORDS {
-        return refused(Cause::ShortOutput, bytes.len(), bytes.len());
+        return in_model(Cause::ShortOutput, bytes.len(), bytes.len());
     }
-    let room = MODEL_WORDS;
-    read_all(bytes, &mut list[..room])
+    read_all(bytes, &mut list[..MODEL_WORDS])
 }

@@ -9,7 +9,9 @@ use Rattle.records.specs.Events.{listed_at}
 use Rattle.records.specs.Format.{parts}
 use Rattle.records.specs.Refusals.{is_none, in_script, no_refusal}
 use Rattle.records.specs.Run.{run_from, stages_from, tally_from}
-use Rattle.records.specs.Walk.{run_end, tally_end, listed_on, listed_refused, listed_taken, listed_passed}
+use Rattle.records.specs.declared.walks.Events.{Events}
+use Rattle.records.specs.Walks.{IsEventAt}
+use Rattle.records.specs.Walk.{next_listed, run_end, tally_end, listed_on, listed_refused, listed_taken, listed_passed}
 use Rattle.model_format.specs.declared.Model.{Model}
 use Rattle.model_semantics.specs.declared.State.{State}
 use Rattle.model_semantics.specs.declared.Stepped.{Stepped}
@@ -33,6 +35,21 @@ tally_begins m script s e = rw e
 pub tally_ends : (m : Model) (script : List ℕ) (s : State) (k r p : ℕ) → tally_from s k r (stages_from (machine_of m) s p (parts Script (drop p script))) ≡ tally_model m script → length script ≤ p →
     record { taken = k; refused = r; state = s } ≡ tally_model m script
 tally_ends m script s k r p inv h = tally_end (machine_of m) script p s k r h ∙ inv
+
+-- a step of the walk over the script's events, which comes to the event d at p
+pub record Comes (script : List ℕ) (p : ℕ) (d : Listed) (next : ℕ) : Type 0 where
+  pub here : d ≡ listed_at script p
+  pub within : p < length script
+  pub on : p < d.end
+  pub at_most : d.end ≤ length script
+  pub next_is : next ≡ d.end
+
+pub comes : (script : List ℕ) (s t : Events) (at : ℕ) (d : Listed) → s.script.now ≡ script → IsEventAt s at d t → Comes script s.at d t.at
+comes script s t at d e w =
+    let h : d ≡ listed_at script s.at = rw e at w.event in
+    let l : s.at < length script = rw e at w.within in
+    let n = next_listed script s.at h l in
+    record { here = h; within = l; on = n.0; at_most = n.1; next_is = w.next }
 
 -- ---- the event d stands at p; c is its answer, and x the list after it
 module _ (m : Model) (script l x : List ℕ) (p : ℕ) (d : Listed) (c : Cause) (b : Bool) (i : d ≡ listed_at script p) (h : p < length script)

@@ -10,6 +10,7 @@ pub use run::run_in;
 pub use tally::run_on_in;
 
 // How a run has ended: the events taken, and the refusal that stopped it.
+// Kept as one struct: events are taken before the refusal too (`ended_in`).
 #[derive(Clone, Copy)]
 pub struct Stop {
     pub taken: usize,

@@ -9,7 +9,7 @@ ghost use Rattle.model_runs.specs.Runs as runs;
 use crate::Stop;
 use model_machine::step;
 use model_start::start_in;
-use records::{event_at, in_script, is_none, no_refusal};
+use records::{Events, in_script, is_none, no_refusal};
 
 // The run of a model over a script, up to its first refused event.
 pub fn run_in(model: &[u32], state: &mut [u32], script: &[u8]) -> Stop
@@ -18,25 +18,14 @@ pub fn run_in(model: &[u32], state: &mut [u32], script: &[u8]) -> Stop
 {
     start_in(model, state);
     let mut taken: usize = 0;
-    let mut at: usize = 0;
-    while at < script.len() {
-        let listed = event_at(script, at);
-        let event = listed.event;
-        let end = listed.end;
-        let answer = step(model, state, event);
+    for (at, listed) in Events::new(script) {
+        let answer = step(model, state, listed.event);
         if !is_none(answer) {
-            let refusal = in_script(answer, at, end);
-            return Stop {
-                taken: taken,
-                refusal: refusal,
-            };
+            let refusal = in_script(answer, at, listed.end);
+            return Stop { taken, refusal };
         }
         taken += 1;
-        at = end;
     }
     let refusal = no_refusal();
-    Stop {
-        taken: taken,
-        refusal: refusal,
-    }
+    Stop { taken, refusal }
 }

@@ -10,7 +10,7 @@ ghost use Rattle.model_runs.specs.Runs as runs;
 use crate::Counts;
 use model_machine::step;
 use model_start::start_in;
-use records::{event_at, is_none};
+use records::{Events, is_none};
 
 // The run of a model over a whole script: the event after a refused one meets the state that was there before.
 pub fn run_on_in(model: &[u32], state: &mut [u32], script: &[u8]) -> Counts
@@ -20,20 +20,13 @@ pub fn run_on_in(model: &[u32], state: &mut [u32], script: &[u8]) -> Counts
     start_in(model, state);
     let mut taken: usize = 0;
     let mut refused: usize = 0;
-    let mut at: usize = 0;
-    while at < script.len() {
-        let listed = event_at(script, at);
-        let event = listed.event;
-        let answer = step(model, state, event);
-        at = listed.end;
+    for (_, listed) in Events::new(script) {
+        let answer = step(model, state, listed.event);
         if is_none(answer) {
             taken += 1;
-            continue;
+        } else {
+            refused += 1;
         }
-        refused += 1;
     }
-    Counts {
-        taken: taken,
-        refused: refused,
-    }
+    Counts { taken, refused }
 }

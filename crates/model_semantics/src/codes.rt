@@ -1,4 +1,5 @@
 // The codes of a state.
+// Kept as bytes and no enums: `State` of the definitions has them, and a lent list may hold any byte.
 
 // Of a thread.
 pub const WAITING_MODE: u8 = 0;

@@ -53,6 +53,7 @@ pub struct State {
 }
 
 // The answer to an event, and the state one event further, or as it was where the event is refused.
+// Kept as one struct: the definition `step` gives it, and a refused event has a state too.
 #[derive(Clone, Copy)]
 pub struct Stepped {
     pub answer: Cause,

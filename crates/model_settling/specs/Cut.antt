@@ -1,5 +1,5 @@
 -- Laws of items that stand one after the other in a list, each number cut to the width of its field.
-use Rattle.std.specs.Prelude.{◌≡◌, refl, cond, List, [], ◌∷◌, ◌++◌, ℕ, zero, suc, ◌+◌, ◌*◌, ◌-◌, ◌%◌, ◌<◌, ◌≤◌, eqb, get_or, set, take, drop, length}
+use Rattle.std.specs.Prelude.{◌≡◌, refl, cond, List, [], ◌∷◌, ◌++◌, ℕ, zero, suc, ◌+◌, ◌*◌, ◌%◌, ◌<◌, ◌≤◌, eqb, get_or, set, take, drop, length}
 use Rattle.std.proofs.Common.{sym, ◌∙◌, ap, subst, append_assoc, append-nil, arith, suc-mul, zero-mul, zero-add, length-set, length-append, length-drop, take-suc, take-add, take_all, take_at, drop_at, get_or-take, get_or-drop, get_or-set_same, get_or-set_other, length-take-le, drop-drop, ne_eqb}
 use Rattle.std.proofs.Math.Decide.{ℕ_discrete}
 use Rattle.std.proofs.Math.ListN.{get_or-eq_default}

@@ -1,7 +1,6 @@
 -- Laws of a settled model: its items cut kind by kind are the numbers of the model.
 use Rattle.std.specs.Prelude.{◌≡◌, refl, List, [], ◌∷◌, ◌++◌, ℕ, ◌+◌, ◌*◌, ◌≤◌, get_or, take, drop, length}
-use Rattle.std.proofs.Common.{◌∙◌, append-nil, add-zero, drop_of_length-le, Fits}
-use native.Mathlib.Omega.{arith}
+use Rattle.std.proofs.Common.{◌∙◌, append-nil, add-zero, drop_of_length-le, Fits, arith}
 use mir.Syntax.{w32}
 use mir.ValLaws.{of_z-to_z}
 use Rattle.numbers.specs.Lists.{list_below}

@@ -13,7 +13,6 @@ use model_words::{
     ASSIGNMENTS_FROM, ATOMS_FROM, CONNECTIONS_FROM, INPUTS_FROM, LOCALS_FROM, MODEL_WORDS,
     OUTPUTS_FROM, SWITCHES_FROM, THREADS_FROM, TRANSITIONS_FROM,
 };
-use numbers::word_at;
 
 // What a number is cut to: the numbers of a byte, of two bytes, or nothing.
 const BYTE: u32 = 256;
@@ -33,10 +32,8 @@ fn cut_items(items: &mut [u32], widths: &[u32])
     requires { 0 < length widths.now }
     ensures { cuts.CutBy widths.now items.old items.new }
 {
-    let mut i: usize = 0;
-    while i < items.len() {
-        items[i] = cut(items[i], word_at(widths, i % widths.len()));
-        i += 1;
+    for (i, number) in items.iter_mut().enumerate() {
+        *number = cut(*number, widths[i % widths.len()]);
     }
 }
 

@@ -1,10 +1,10 @@
 -- The start state, part by part, and the laws of the code that makes it.
-use Rattle.std.specs.Prelude.{◌≡◌, false, ℕ, ◌+◌, ◌-◌, ◌<◌, ◌≤◌, min, get_or, set, replicate, take, drop}
+use Rattle.std.specs.Prelude.{◌≡◌, ◌++◌, false, ℕ, ◌+◌, ◌<◌, ◌≤◌, min, get_or, set, replicate, take, drop}
 use Rattle.std.proofs.Math.Path.{refl, sym, ap}
 use Rattle.std.proofs.Common.{◌∙◌, arith, length-set, get_or-set_same, get_or-set_other, get_or-take, get_or-drop, le-ltb}
 use mathlib.Core.List.{List, map}
 use Rattle.std.proofs.Math.Decide.{ℕ_discrete, dec_lt}
-use Rattle.std.proofs.Math.ListN.{length, length-map, length-drop, get_or-map, get_or-eq_default}
+use Rattle.std.proofs.Math.ListN.{length, length-map, length-drop, get_or-map, get_or-append, get_or-eq_default}
 use Rattle.std.proofs.lemmas.List.{length-replicate, get_or-replicate}
 use Rattle.std.proofs.Math.Seq.{length-take-le, ext_get_or}
 use Rattle.numbers.specs.declared.Value.{Value}
@@ -40,6 +40,9 @@ cleared_next l x n c e = rw e (record { each = λ p h. go p h (ℕ_discrete p n)
 
 pub cleared_all : (l : List ℕ) (n : ℕ) → state_words ≤ n → Cleared l n → Cleared l state_words
 cleared_all l n h c = record { each = λ p k. c.each p (omega arith) }
+
+pub cleared_front : (a rest : List ℕ) → a ≡ replicate state_words 0 → Cleared (a ++ rest) state_words
+cleared_front a rest e = record { each = λ p h. rw e (get_or-append (replicate state_words 0) rest 0 p (omega (arith, length-replicate {A = ℕ} state_words 0)) ∙ get_or-replicate state_words p 0 0 h) }
 
 module _ (l : List ℕ) (c : Cleared l state_words) (w : state_words ≤ length l) where
   section_clear : {A : Type 0} (f : ℕ → A) (base room : ℕ) → base + room ≤ state_words → section f base room l ≡ replicate room (f 0)

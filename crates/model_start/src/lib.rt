@@ -14,42 +14,31 @@ use model_semantics::{NONE, STEADY};
 use model_state::{
     STATE_WORDS, put_behavior, put_buffer, put_cpu, put_input, put_local, put_mode, put_phase,
 };
-use model_tests::within;
 use model_words::{initial, input_at, inputs, local_at, locals, thread_at, threads};
-use numbers::put_word;
 
 fn clear(state: &mut [u32])
+    requires { state_words ≤ length state.old }
     ensures { starting.Cleared state.new state_words }
 {
-    let mut i: usize = 0;
-    while i < STATE_WORDS {
-        put_word(state, i, 0);
-        i += 1;
-    }
+    state[..STATE_WORDS].fill(0);
 }
 
 // The behaviour state of every thread.
 fn set_behaviors(model: &[u32], state: &mut [u32])
     ensures { state_in state.new ≡ starting.behaviors_below (timing_in model.now) (state_in state.old) (timing_in model.now).threads }
 {
-    let count = within(threads(model), MAX_THREADS);
-    let mut t: usize = 0;
-    while t < count {
-        let thread = thread_at(model, t);
-        put_behavior(state, t, thread.first);
-        t += 1;
+    let count = threads(model).min(MAX_THREADS);
+    for t in 0..count {
+        put_behavior(state, t, thread_at(model, t).first);
     }
 }
 
 fn set_locals(model: &[u32], state: &mut [u32])
     ensures { state_in state.new ≡ starting.locals_below (timing_in model.now) (state_in state.old) (timing_in model.now).locals }
 {
-    let count = within(locals(model), MAX_LOCALS);
-    let mut v: usize = 0;
-    while v < count {
-        let local = local_at(model, v);
-        put_local(state, v, local.start);
-        v += 1;
+    let count = locals(model).min(MAX_LOCALS);
+    for v in 0..count {
+        put_local(state, v, local_at(model, v).start);
     }
 }
 
@@ -57,13 +46,11 @@ fn set_locals(model: &[u32], state: &mut [u32])
 fn set_inputs(model: &[u32], state: &mut [u32])
     ensures { state_in state.new ≡ starting.inputs_below (timing_in model.now) (state_in state.old) (timing_in model.now).inputs }
 {
-    let count = within(inputs(model), MAX_INPUTS);
-    let mut i: usize = 0;
-    while i < count {
+    let count = inputs(model).min(MAX_INPUTS);
+    for i in 0..count {
         let input = input_at(model, i);
         put_input(state, i, input.start);
         put_buffer(state, i, input.start);
-        i += 1;
     }
 }
 

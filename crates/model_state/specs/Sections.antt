@@ -1,11 +1,9 @@
 -- Laws of arrays that stand one after the other in a list of numbers: a store within one is a store of that array, and leaves the others.
-use Rattle.std.specs.Prelude.{◌≡◌, refl, ℕ, zero, suc, ◌+◌, ◌-◌, ◌<◌, ◌≤◌, ltb, get_or, set, take, drop, length}
-use Rattle.std.proofs.Common.{sym, ◌∙◌, drop-set-lt, get_or-take, lt-ltb, le-ltb}
-use Rattle.std.proofs.Math.Path.{ap}
-use mathlib.Core.List.{List, [], ◌∷◌, map}
-use native.Mathlib.Omega.{arith}
+use Rattle.std.specs.Prelude.{◌≡◌, refl, ℕ, zero, suc, ◌+◌, ◌-◌, ◌<◌, ◌≤◌, cond, ltb, get_or, set, take, drop}
+use Rattle.std.proofs.Common.{sym, ◌∙◌, drop-set-lt, get_or-take, lt-ltb, le-ltb, ap, List, [], ◌∷◌, map, arith, get_or-drop}
+use Rattle.std.proofs.Math.Decide.{dec_lt}
 use Rattle.std.proofs.Math.ListN.{get_or-map}
-use Rattle.std.proofs.Math.Seq.{take-set-lt, drop-set-add, get_or-drop}
+use Rattle.std.proofs.Math.Seq.{take-set-lt, drop-set-add}
 use Rattle.std.proofs.lemmas.List.{take-set-le}
 use Rattle.numbers.specs.Lists.{item, store}
 use Rattle.model_state.specs.Words.{section}
@@ -24,6 +22,14 @@ module _ {A : Type 0} (f : ℕ → A) (base room : ℕ) (l : List ℕ) where
 
   pub section_past : (i : ℕ) (d : A) → room ≤ i → item room (section f base room l) i d ≡ d
   section_past i d h = rw (le-ltb i room h)
+
+  -- what stands for item i, where a number past the room is 0
+  pub section_number : (i n : ℕ) → n ≡ cond (ltb i room) (get_or l (base + i) 0) 0 → f n ≡ item room (section f base room l) i (f 0)
+  section_number i n e = go (dec_lt i room)
+    where
+      go : Dec (i < room) → f n ≡ item room (section f base room l) i (f 0)
+      go (yes h) = let z : n ≡ get_or l (base + i) 0 = rw (lt-ltb i room h) at e in ap f z ∙ sym (section_at i h)
+      go (no h) = let k : room ≤ i = omega arith in let z : n ≡ 0 = rw (le-ltb i room k) at e in ap f z ∙ sym (section_past i (f 0) k)
 
   -- a store in the array, before it and after it
   pub section_set : (i n : ℕ) → i < room → section f base room (set l (base + i) n) ≡ store room (section f base room l) i (f n)

@@ -1,12 +1,9 @@
 -- Laws of a state in a list of numbers: what one number stored does to the state, and what one number read is of it.
-use Rattle.std.specs.Prelude.{◌≡◌, refl, Bool, false, List, ℕ, ◌+◌, ◌<◌, ◌≤◌, get_or, set, length}
-use Rattle.std.proofs.Math.Path.{sym, ap}
-use Rattle.std.proofs.Common.{◌∙◌, arith, SFits, le-ltb}
+use Rattle.std.specs.Prelude.{◌≡◌, Bool, false, List, ℕ, ◌+◌, ◌<◌, ◌≤◌, get_or, set, length}
+use Rattle.std.proofs.Common.{◌∙◌, arith, SFits, le-ltb, sym, ap, get_or-set_same, get_or-set_other}
 use Rattle.std.specs.Int.{w32}
 use Rattle.std.proofs.lemmas.Int.{to_z-of_z}
-use Rattle.std.proofs.Math.Seq.{get_or-set_same, get_or-set_other}
 use Rattle.numbers.specs.declared.Value.{Value}
-use Rattle.numbers.specs.Lists.{item, store}
 use Rattle.numbers.specs.Values.{duration, natural, bits_of}
 use Rattle.model_format.specs.declared.Timing.{Timing}
 use Rattle.model_format.specs.Model.{max_threads, max_inputs, max_outputs, max_locals, max_connections}

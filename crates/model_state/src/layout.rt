@@ -17,28 +17,78 @@ pub const CPU: usize = 5;
 
 pub const CLOCK_WORDS: usize = 6;
 
-pub const ACTIVE: usize = CLOCK_WORDS;
+// An array: where it begins, and how many items it has room for.
+#[derive(Clone, Copy)]
+pub struct Array {
+    pub from: usize,
+    pub room: usize,
+}
 
-pub const CODE: usize = ACTIVE + MAX_THREADS;
+// ---- by thread
+pub const ACTIVE: Array = Array {
+    from: CLOCK_WORDS,
+    room: MAX_THREADS,
+};
 
-pub const DISPATCHED: usize = CODE + MAX_THREADS;
+pub const CODE: Array = Array {
+    from: CLOCK_WORDS + MAX_THREADS,
+    room: MAX_THREADS,
+};
 
-pub const LENGTH: usize = DISPATCHED + MAX_THREADS;
+pub const DISPATCHED: Array = Array {
+    from: CLOCK_WORDS + 2 * MAX_THREADS,
+    room: MAX_THREADS,
+};
 
-pub const SPENT: usize = LENGTH + MAX_THREADS;
+pub const LENGTH: Array = Array {
+    from: CLOCK_WORDS + 3 * MAX_THREADS,
+    room: MAX_THREADS,
+};
 
-pub const BEHAVIOR: usize = SPENT + MAX_THREADS;
+pub const SPENT: Array = Array {
+    from: CLOCK_WORDS + 4 * MAX_THREADS,
+    room: MAX_THREADS,
+};
 
-pub const MISSED: usize = BEHAVIOR + MAX_THREADS;
+pub const BEHAVIOR: Array = Array {
+    from: CLOCK_WORDS + 5 * MAX_THREADS,
+    room: MAX_THREADS,
+};
 
-pub const LIVE: usize = MISSED + MAX_THREADS;
+pub const MISSED: Array = Array {
+    from: CLOCK_WORDS + 6 * MAX_THREADS,
+    room: MAX_THREADS,
+};
 
-pub const INPUT: usize = LIVE + MAX_CONNECTIONS;
+// ---- by connection
+const CONNECTIONS_FROM: usize = CLOCK_WORDS + 7 * MAX_THREADS;
 
-pub const BUFFER: usize = INPUT + MAX_INPUTS;
+pub const LIVE: Array = Array {
+    from: CONNECTIONS_FROM,
+    room: MAX_CONNECTIONS,
+};
 
-pub const OUTPUT: usize = BUFFER + MAX_INPUTS;
+// ---- by port and local
+const PORTS_FROM: usize = CONNECTIONS_FROM + MAX_CONNECTIONS;
 
-pub const LOCAL: usize = OUTPUT + MAX_OUTPUTS;
+pub const INPUT: Array = Array {
+    from: PORTS_FROM,
+    room: MAX_INPUTS,
+};
 
-pub const STATE_WORDS: usize = LOCAL + MAX_LOCALS;
+pub const BUFFER: Array = Array {
+    from: PORTS_FROM + MAX_INPUTS,
+    room: MAX_INPUTS,
+};
+
+pub const OUTPUT: Array = Array {
+    from: PORTS_FROM + 2 * MAX_INPUTS,
+    room: MAX_OUTPUTS,
+};
+
+pub const LOCAL: Array = Array {
+    from: PORTS_FROM + 2 * MAX_INPUTS + MAX_OUTPUTS,
+    room: MAX_LOCALS,
+};
+
+pub const STATE_WORDS: usize = LOCAL.from + LOCAL.room;

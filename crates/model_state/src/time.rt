@@ -8,17 +8,15 @@ ghost use Rattle.model_state.specs.TimeLaws as laws;
 
 use crate::layout;
 use model_format::MAX_THREADS;
-use numbers::{Duration, put_word, word_at};
+use numbers::{Duration, item_or, put_item};
 
 // Spent of every thread.
 pub fn spent_words(state: &[u32]) -> [u32; MAX_THREADS]
     ensures { parts.SpentWords state.now result }
 {
-    let mut kept: [u32; MAX_THREADS] = [0; MAX_THREADS];
-    let mut thread: usize = 0;
-    while thread < MAX_THREADS {
-        kept[thread] = word_at(state, layout::SPENT + thread);
-        thread += 1;
+    let mut kept = [0u32; MAX_THREADS];
+    for thread in 0..MAX_THREADS {
+        kept[thread] = item_or(state, layout::SPENT.from + thread, 0);
     }
     kept
 }
@@ -26,10 +24,8 @@ pub fn spent_words(state: &[u32]) -> [u32; MAX_THREADS]
 fn put_spent_words(state: &mut [u32], kept: [u32; MAX_THREADS])
     ensures { laws.PutBack state.old state.new kept max_threads }
 {
-    let mut thread: usize = 0;
-    while thread < MAX_THREADS {
-        put_word(state, layout::SPENT + thread, kept[thread]);
-        thread += 1;
+    for thread in 0..MAX_THREADS {
+        put_item(state, layout::SPENT.from + thread, kept[thread]);
     }
 }
 
@@ -37,6 +33,6 @@ fn put_spent_words(state: &mut [u32], kept: [u32; MAX_THREADS])
 pub fn put_time_back(state: &mut [u32], clock: Duration, kept: [u32; MAX_THREADS])
     ensures { (l : List ℕ) → parts.BesideTime l state.old → clock.0 ≡ get_or l words.now_place 0 → parts.SpentWords l kept → state.new ≡ l }
 {
-    put_word(state, layout::NOW, clock.0);
+    put_item(state, layout::NOW, clock.0);
     put_spent_words(state, kept);
 }

@@ -1,6 +1,6 @@
 -- What a record without a cause leaves room for: one item more of its kind, and hyperperiods that 32 bits hold.
 use Rattle.std.specs.Prelude.{◌≡◌, true, List, ℕ, ◌<◌, ◌≤◌}
-use borrow.Author.Tests.{leb-false, ltb-false}
+use Rattle.std.proofs.Common.{leb-false, ltb-false}
 use Rattle.numbers.specs.declared.Duration.{Duration}
 use Rattle.numbers.specs.Values.{duration}
 use Rattle.records.specs.declared.Cause.{Cause}

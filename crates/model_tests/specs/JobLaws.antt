@@ -17,6 +17,7 @@ use Rattle.model_tests.specs.declared.Job.{Job}
 use Rattle.model_tests.specs.declared.ThreadView.{ThreadView}
 use Rattle.model_semantics.specs.State.{none, is_active, code_of, dispatch_time, length_of, spent_of, is_live}
 use Rattle.model_tests.specs.Parts.{job_of, deactivates}
+use Rattle.model_tests.specs.Rooms.{any_room}
 use Rattle.model_semantics.specs.Tests.{waiting_execution, is_unfinished, has_job, due_of, is_due, is_periodic, feeds, can_activate, can_deactivate, awaits_delayed, can_dispatch, awaits_immediate, is_ready, is_allowed, start_fault, can_complete, can_meet_deadline, can_miss, can_enter, can_leave, thread_busy, switch_busy, is_busy}
 use Rattle.model_tests.specs.Jobs.{thread_view_of, activates, completes, dispatches_alone, meets, misses, may_act, holds_dispatch, holds_start, enters, leaves}
 
@@ -122,6 +123,16 @@ module _ (m : Timing) (s : State) (t n c : ℕ) (e : n ≡ min m.connections max
   unfolding awaits_immediate holds_start feeds is_live
   immediate_none = not_found m.connections max_connections n c (holds_start m s t) e (λ k h. rw (le-ltb k max_connections h) (simp and_false))
 
+-- the same of a search that asks of each number up to there
+module _ (m : Timing) (s : State) (t : ℕ) where
+  pub delayed_room : any_below (min m.connections max_connections) (holds_dispatch m s t) ≡ awaits_delayed m s t
+  unfolding awaits_delayed holds_dispatch feeds is_live
+  delayed_room = any_room m.connections max_connections (holds_dispatch m s t) (λ k h. rw (le-ltb k max_connections h) (simp and_false))
+
+  pub immediate_room : any_below (min m.connections max_connections) (holds_start m s t) ≡ awaits_immediate m s t
+  unfolding awaits_immediate holds_start feeds is_live
+  immediate_room = any_room m.connections max_connections (holds_start m s t) (λ k h. rw (le-ltb k max_connections h) (simp and_false))
+
 -- ---- a calm thread has no event: a Active, k the code, d what DEACTIVATE's test says
 calm_of : (d a : Bool) (k : ℕ) (due done periodic free delay wait known fits : Bool) →
     (d || cond (eqb k 0) a (cond (eqb k 1) periodic (cond (eqb k 2) (free || due) (cond (eqb k 3) (done || due) (cond (eqb k 4) due false))))) ≡ false →
@@ -165,6 +176,9 @@ module _ (m : Timing) (s : State) (n c : ℕ) (e : n ≡ min m.threads max_threa
 
   pub threads_none : n ≤ c → ((k : ℕ) → k < c → thread_busy m s k ≡ false) → false ≡ any_below m.threads (thread_busy m s)
   threads_none = not_found m.threads max_threads n c (thread_busy m s) e (calm_past m s)
+
+pub threads_room : (m : Timing) (s : State) → any_below (min m.threads max_threads) (thread_busy m s) ≡ any_below m.threads (thread_busy m s)
+threads_room m s = any_room m.threads max_threads (thread_busy m s) (calm_past m s)
 
 pub busy_by : (m : Timing) (s : State) (t n : ℕ) (x : Thread) (a b c d e f : Bool) → x ≡ thread_at m t → n ≡ start_fault m s t x.bcet.0 →
     a ≡ can_activate s t → b ≡ can_deactivate m s t → c ≡ can_dispatch m s t → d ≡ can_complete s t → e ≡ can_meet_deadline m s t → f ≡ can_miss m s t →

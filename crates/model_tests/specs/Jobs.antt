@@ -1,5 +1,5 @@
 -- The tests of a thread on what the code has at hand: its job j, or the view v of the clock, its record and its job.
-use Rattle.std.specs.Prelude.{Bool, false, cond, ◌&&◌, ◌||◌, not, ℕ, ◌+◌, eqb}
+use Rattle.std.specs.Prelude.{Bool, false, Option, Some, None, cond, ◌&&◌, ◌||◌, not, ℕ, ◌+◌, eqb}
 use Rattle.numbers.specs.Lists.{item}
 use Rattle.numbers.specs.Multiples.{is_multiple}
 use Rattle.model_format.specs.declared.Thread.{Thread}
@@ -71,6 +71,10 @@ beside_comes v j =
 -- the view of the thread that the connection x comes from
 unfoldable pub source_of : Timing → State → Connection → ThreadView
 source_of m s x = thread_view_of m s (item max_outputs m.output x.source 0)
+
+-- the view of the thread that connection c comes from, where it is a live one of a kind into thread t
+unfoldable pub feeder : Timing → State → ℕ → ℕ → ℕ → Option ThreadView
+feeder m s kind t c = cond (feeds m s kind t c) (Some (thread_view_of m s (source_thread m c))) None
 
 -- connection c holds thread t's DISPATCH back, or its START
 unfoldable pub holds_dispatch : Timing → State → ℕ → ℕ → Bool

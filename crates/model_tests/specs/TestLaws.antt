@@ -1,5 +1,5 @@
 -- Laws of the tests on lists of numbers, in the forms in which the code has them.
-use Rattle.std.specs.Prelude.{◌≡◌, refl, Bool, true, false, ◌&&◌, ◌||◌, not, ℕ, eqb}
+use Rattle.std.specs.Prelude.{◌≡◌, refl, Bool, true, false, cond, Option, Some, None, MatchOption, unwrap_or, ◌&&◌, ◌||◌, not, ℕ, eqb}
 use Rattle.std.proofs.Math.Path.{sym}
 use Rattle.std.proofs.Common.{◌∙◌, ap}
 use borrow.Author.Tests.{ne_eqb, eq-eqb, not-true, not-false}
@@ -16,7 +16,7 @@ use Rattle.model_semantics.specs.StartLaws.{fault_state, fault_processor, fault_
 use Rattle.model_tests.specs.declared.Job.{Job}
 use Rattle.model_tests.specs.declared.ThreadView.{ThreadView}
 use Rattle.model_tests.specs.Parts.{job_of}
-use Rattle.model_tests.specs.Jobs.{thread_view_of, dispatches_alone, may_act, due_with_job, beside_runs, beside_comes, source_of, holds_dispatch, holds_start, step_fails}
+use Rattle.model_tests.specs.Jobs.{thread_view_of, dispatches_alone, may_act, due_with_job, beside_runs, beside_comes, source_of, feeder, holds_dispatch, holds_start, step_fails}
 use Rattle.model_tests.specs.JobLaws.{dispatch_by, calm}
 
 -- ---- a job and a view, part by part
@@ -98,6 +98,74 @@ module _ (m : Timing) (s : State) (t c : ℕ) (x : Connection) (live : Bool) (e 
       pub start_held : (j : Job) → j ≡ job_of s.threads t → not (eqb x.kind immediate && live) ≡ false → (beside_runs v j || beside_comes v j) ≡ holds_start m s t c
       unfolding holds_start feeds thread_view_of runs_beside comes_beside is_unfinished is_waiting is_active code_of dispatch_time job_of
       start_held j q z = rw (source_is, q) (on (eqb (connection_at m c).kind immediate) (eqb (target_thread m c) t) (is_live s c) (source_beside m s t c) (rw (e, f) at z) at_target)
+
+-- ---- the thread that a connection comes from, where it feeds thread t
+shut : (a b l : Bool) → not (a && l) ≡ true → (a && (b && l)) ≡ false
+shut true b true h = cc
+shut true true false h = refl
+shut true false false h = refl
+shut false b l h = refl
+
+elsewhere : (a b l : Bool) → b ≡ false → (a && (b && l)) ≡ false
+elsewhere a true l h = cc
+elsewhere true false l h = refl
+elsewhere false false l h = refl
+
+fed : (a b l : Bool) → not (a && l) ≡ false → b ≡ true → (a && (b && l)) ≡ true
+fed true true true h e = refl
+fed true true false h e = cc
+fed false true l h e = cc
+fed a false l h e = cc
+
+module _ (m : Timing) (s : State) (kind t c : ℕ) (x : Connection) (live : Bool) (e : x ≡ connection_at m c) (f : live ≡ is_live s c) where
+  pub feeder_off : not (eqb x.kind kind && live) ≡ true → None ≡ feeder m s kind t c
+  unfolding feeder feeds
+  feeder_off h = rw (shut (eqb (connection_at m c).kind kind) (eqb (target_thread m c) t) (is_live s c) (rw (e, f) at h))
+
+  module _ (i o u : ℕ) (g : i ≡ x.target) (k : o ≡ input_owner m i) (w : u ≡ o) where
+    pub feeder_away : (u ≡ t → ⊥) → None ≡ feeder m s kind t c
+    unfolding feeder feeds
+    feeder_away h = rw (elsewhere (eqb (connection_at m c).kind kind) (eqb (target_thread m c) t) (is_live s c) (ne_eqb (target_thread m c) t (λ z. h (target_is m s t c x live e f i o u g k w ∙ z))))
+
+    pub feeder_is : u ≡ t → (v : ThreadView) → v ≡ source_of m s x → not (eqb x.kind kind && live) ≡ false → Some v ≡ feeder m s kind t c
+    unfolding feeder feeds
+    feeder_is h v p z =
+        rw (source_is m s t c x live e f i o u g k w h v p, fed (eqb (connection_at m c).kind kind) (eqb (target_thread m c) t) (is_live s c) (rw (e, f) at z) (at_target m s t c x live e f i o u g k w h v p))
+
+-- what thread t waits for, where connection c feeds it and where it does not
+module _ (m : Timing) (s : State) (t c : ℕ) where
+  one_view : (kind : ℕ) (v : ThreadView) (b : Bool) → feeds m s kind t c ≡ b → cond b (Some (thread_view_of m s (source_thread m c))) None ≡ Some v → (feeds m s kind t c ≡ true) × (v ≡ thread_view_of m s (source_thread m c))
+  one_view kind v true q e = (q, sym (ap (λ (o : Option ThreadView). unwrap_or o v) e))
+  one_view kind v false q e = cc
+
+  no_view : (kind : ℕ) (b : Bool) → feeds m s kind t c ≡ b → cond b (Some (thread_view_of m s (source_thread m c))) None ≡ None → feeds m s kind t c ≡ false
+  no_view kind true q e = cc
+  no_view kind false q e = q
+
+  pub dispatch_fed : (v : ThreadView) → feeder m s delayed t c ≡ Some v → due_with_job v ≡ holds_dispatch m s t c
+  unfolding feeder holds_dispatch thread_view_of due_of code_of dispatch_time job_of
+  dispatch_fed v e = let z = one_view delayed v (feeds m s delayed t c) refl e in rw (z.1, z.0)
+
+  pub dispatch_unfed : feeder m s delayed t c ≡ None → false ≡ holds_dispatch m s t c
+  unfolding feeder holds_dispatch
+  dispatch_unfed e = rw (no_view delayed (feeds m s delayed t c) refl e)
+
+  pub start_fed : (v : ThreadView) → feeder m s immediate t c ≡ Some v → (j : Job) → j ≡ job_of s.threads t → (beside_runs v j || beside_comes v j) ≡ holds_start m s t c
+  unfolding feeder holds_start thread_view_of runs_beside comes_beside is_unfinished is_waiting is_active code_of dispatch_time job_of
+  start_fed v e j q = let z = one_view immediate v (feeds m s immediate t c) refl e in rw (z.1, z.0, q)
+
+  pub dispatch_by_feeder : (o : Option ThreadView) (r : Bool) → o ≡ feeder m s delayed t c → MatchOption o (r ≡ false) (λ v. r ≡ due_with_job v) → r ≡ holds_dispatch m s t c
+  dispatch_by_feeder None r e h = h ∙ dispatch_unfed (sym e)
+  dispatch_by_feeder (Some v) r e h = h ∙ dispatch_fed v (sym e)
+
+  pub start_unfed : feeder m s immediate t c ≡ None → false ≡ holds_start m s t c
+  unfolding feeder holds_start
+  start_unfed e = rw (no_view immediate (feeds m s immediate t c) refl e)
+
+  pub start_by_feeder : (o : Option ThreadView) (r : Bool) (Q : ThreadView → Type 0) → o ≡ feeder m s immediate t c → MatchOption o (r ≡ false) Q →
+      ((v : ThreadView) → Q v → r ≡ (beside_runs v (job_of s.threads t) || beside_comes v (job_of s.threads t))) → r ≡ holds_start m s t c
+  start_by_feeder None r Q e h q = h ∙ start_unfed (sym e)
+  start_by_feeder (Some v) r Q e h q = q v h ∙ start_fed v (sym e) (job_of s.threads t) refl
 
 -- ---- DISPATCH, step by step
 module _ (m : Timing) (s : State) (t : ℕ) (v : ThreadView) (f : v ≡ thread_view_of m s t) where

@@ -36,7 +36,7 @@ pub fn deactivates(thread: Thread, job: Job) -> bool
 pub fn completes(job: Job) -> bool
     ensures { result ≡ jobs.completes job }
 {
-    (job.code == EXECUTION) & (job.spent.0 == job.length.0)
+    (job.code == EXECUTION) & (job.spent == job.length)
 }
 
 // The sum of two durations may need more than their 32 bits.
@@ -79,7 +79,7 @@ pub fn misses(view: ThreadView) -> bool
     ensures { result ≡ jobs.misses view }
 {
     let late = (view.job.code == WAITING_EXECUTION)
-        | ((view.job.code == EXECUTION) & (view.job.spent.0 != view.job.length.0));
+        | ((view.job.code == EXECUTION) & (view.job.spent != view.job.length));
     due_in(view) & late
 }
 
@@ -90,13 +90,12 @@ pub fn may_act(clock: Clock, thread: Thread, job: Job) -> bool
     if deactivates(thread, job) {
         return true;
     }
-    let code = job.code;
-    match code {
+    match job.code {
         WAITING_MODE => job.active,
         WAITING_DISPATCH => is_multiple(clock.now.0, thread.period.0),
         WAITING_EXECUTION => (clock.cpu == NONE)
             | falls_due(job.dispatched.0, thread.deadline.0, clock.now.0),
-        EXECUTION => (job.spent.0 == job.length.0)
+        EXECUTION => (job.spent == job.length)
             | falls_due(job.dispatched.0, thread.deadline.0, clock.now.0),
         COMPLETED => falls_due(job.dispatched.0, thread.deadline.0, clock.now.0),
         _ => false,
@@ -114,12 +113,12 @@ pub fn beside_runs(view: ThreadView, job: Job) -> bool
     ensures { result ≡ jobs.beside_runs view job }
 {
     ((view.job.code == WAITING_EXECUTION) | (view.job.code == EXECUTION))
-        & (view.job.dispatched.0 == job.dispatched.0)
+        & (view.job.dispatched == job.dispatched)
 }
 
 pub fn beside_comes(view: ThreadView, job: Job) -> bool
     ensures { result ≡ jobs.beside_comes view job }
 {
     let waiting = (view.job.code == WAITING_MODE) | (view.job.code == WAITING_DISPATCH);
-    (job.dispatched.0 == view.clock.now.0) & (view.job.active & (waiting & periodic_in(view)))
+    (job.dispatched == view.clock.now) & (view.job.active & (waiting & periodic_in(view)))
 }

@@ -4,7 +4,6 @@
 
 mod jobs;
 mod modes;
-mod rooms;
 mod threads;
 mod views;
 
@@ -13,7 +12,6 @@ use model_format::Thread;
 use model_semantics::Clock;
 pub use modes::{can_enter, can_leave, is_busy};
 use numbers::Duration;
-pub use rooms::within;
 pub use threads::{
     NO_FAULT, can_activate, can_complete, can_deactivate, can_dispatch, can_meet_deadline,
     can_miss, start_fault,

@@ -8,7 +8,6 @@ ghost use Rattle.model_words.specs.Words.{timing_in};
 ghost use Rattle.model_tests.specs.Jobs as jobs;
 
 use crate::jobs::may_act;
-use crate::rooms::within;
 use crate::threads::{
     NO_FAULT, can_activate, can_complete, can_deactivate, can_dispatch, can_meet_deadline,
     can_miss, start_fault,
@@ -18,7 +17,7 @@ use model_format::{MAX_THREADS, ModeTransition};
 use model_semantics::{CHANGING, Clock, REQUESTED};
 use model_state::clock_of;
 use model_words::{switch_at, switches, thread_at, threads};
-use numbers::{is_multiple, usize_of_u8};
+use numbers::is_multiple;
 
 // Mode transition q, whose record is given, by the clock.
 fn enters(clock: Clock, switch: ModeTransition, q: usize) -> bool
@@ -31,7 +30,7 @@ fn enters(clock: Clock, switch: ModeTransition, q: usize) -> bool
 fn leaves(clock: Clock, switch: ModeTransition, q: usize) -> bool
     ensures { result ≡ jobs.leaves clock switch q }
 {
-    let late = clock.now.0 != clock.entered.0;
+    let late = clock.now != clock.entered;
     (clock.phase == CHANGING)
         & ((clock.pending as usize == q) & (late & is_multiple(clock.now.0, switch.h2.0)))
 }
@@ -39,17 +38,13 @@ fn leaves(clock: Clock, switch: ModeTransition, q: usize) -> bool
 pub fn can_enter(model: &[u32], state: &[u32], q: usize) -> bool
     ensures { result ≡ tests.can_enter (timing_in model.now) (state_in state.now) q }
 {
-    let clock = clock_of(state);
-    let switch = switch_at(model, q);
-    enters(clock, switch, q)
+    enters(clock_of(state), switch_at(model, q), q)
 }
 
 pub fn can_leave(model: &[u32], state: &[u32], q: usize) -> bool
     ensures { result ≡ tests.can_leave (timing_in model.now) (state_in state.now) q }
 {
-    let clock = clock_of(state);
-    let switch = switch_at(model, q);
-    leaves(clock, switch, q)
+    leaves(clock_of(state), switch_at(model, q), q)
 }
 
 // Some event of thread t; START with the shortest length.
@@ -70,26 +65,23 @@ fn switch_busy(model: &[u32], state: &[u32], q: usize) -> bool
     can_enter(model, state, q) | can_leave(model, state, q)
 }
 
-// Only a thread whose clock, code and job leave room for an event has its connections looked at.
+// The same where the clock is at hand. Only a thread whose clock, code and job leave room for an event has its connections looked at.
+fn acts(model: &[u32], state: &[u32], clock: Clock, t: usize) -> bool
+    requires { clock ≡ (state_in state.now).clock }
+    ensures { result ≡ tests.thread_busy (timing_in model.now) (state_in state.now) t }
+{
+    if !may_act(clock, thread_at(model, t), job_of(state, t)) {
+        return false;
+    }
+    thread_busy(model, state, t)
+}
+
 fn threads_busy(model: &[u32], state: &[u32]) -> bool
     ensures { result ≡ any_below (timing_in model.now).threads (tests.thread_busy (timing_in model.now) (state_in state.now)) }
 {
-    let count = within(threads(model), MAX_THREADS);
+    let count = threads(model).min(MAX_THREADS);
     let clock = clock_of(state);
-    let mut t: usize = 0;
-    while t < count {
-        let thread = thread_at(model, t);
-        let job = job_of(state, t);
-        if !may_act(clock, thread, job) {
-            t += 1;
-            continue;
-        }
-        if thread_busy(model, state, t) {
-            return true;
-        }
-        t += 1;
-    }
-    false
+    (0..count).any(|t| acts(model, state, clock, t))
 }
 
 // Some event but REQUEST. Of the mode transitions only the pending one has any.
@@ -100,7 +92,7 @@ pub fn is_busy(model: &[u32], state: &[u32]) -> bool
         return true;
     }
     let clock = clock_of(state);
-    let pending = usize_of_u8(clock.pending);
+    let pending = usize::from(clock.pending);
     if switches(model) <= pending {
         return false;
     }

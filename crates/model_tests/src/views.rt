@@ -13,29 +13,21 @@ use model_words::thread_at;
 pub fn job_of(state: &[u32], t: usize) -> Job
     ensures { result ≡ parts.job_of (state_in state.now).threads t }
 {
-    let active = is_active(state, t);
-    let code = code_of(state, t);
-    let dispatched = dispatch_time(state, t);
-    let length = length_of(state, t);
-    let spent = spent_of(state, t);
     Job {
-        active: active,
-        code: code,
-        dispatched: dispatched,
-        length: length,
-        spent: spent,
+        active: is_active(state, t),
+        code: code_of(state, t),
+        dispatched: dispatch_time(state, t),
+        length: length_of(state, t),
+        spent: spent_of(state, t),
     }
 }
 
 pub fn thread_view_of(model: &[u32], state: &[u32], t: usize) -> ThreadView
     ensures { result ≡ jobs.thread_view_of (timing_in model.now) (state_in state.now) t }
 {
-    let clock = clock_of(state);
-    let thread = thread_at(model, t);
-    let job = job_of(state, t);
     ThreadView {
-        clock: clock,
-        thread: thread,
-        job: job,
+        clock: clock_of(state),
+        thread: thread_at(model, t),
+        job: job_of(state, t),
     }
 }

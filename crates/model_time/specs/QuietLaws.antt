@@ -56,6 +56,13 @@ more_full (suc q) n l h = go (dec_lt (n + q) 4294967295) (λ k. more_full q n l 
     go (yes k) f = rw (← more_sum q n (omega arith), lt-ltb (n + q) 4294967295 k) (omega arith)
     go (no k) f = rw (← f (omega arith))
 
+pub more_within : (q n : ℕ) → n ≤ 4294967295 → min (n + q) 4294967295 ≡ more_by q n
+more_within q n h = go (dec_lt (n + q) 4294967295)
+  where
+    go : Dec (n + q < 4294967295) → min (n + q) 4294967295 ≡ more_by q n
+    go (yes l) = let z : min (n + q) 4294967295 ≡ n + q = omega arith in z ∙ more_sum q n (omega arith)
+    go (no l) = let z : min (n + q) 4294967295 ≡ 4294967295 = omega arith in z ∙ more_full q n h (omega arith)
+
 -- ---- how long it takes
 pub rest_within : (n p : ℕ) → (p ≡ 0 → ⊥) → n % p ≤ p
 rest_within n p e = let l : n % p < p = mod-lt n (omega arith) in omega arith

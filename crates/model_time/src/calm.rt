@@ -1,6 +1,6 @@
 // How many ticks pass before a thread can have an event.
 
-ghost use Rattle.std.specs.Prelude.{◌≡◌, false, ℕ, ◌+◌, ◌<◌, ◌≤◌, min, eqb};
+ghost use Rattle.std.specs.Prelude.{◌≡◌, false, ℕ, ◌+◌, ◌<◌, ◌≤◌, eqb};
 ghost use Rattle.numbers.specs.Multiples.{is_multiple};
 ghost use Rattle.model_tests.specs.Parts as parts;
 ghost use Rattle.model_time.specs.Quiet as quiet;
@@ -10,15 +10,6 @@ use model_semantics::{
     COMPLETED, Clock, EXECUTION, NONE, WAITING_DISPATCH, WAITING_EXECUTION, WAITING_MODE,
 };
 use model_tests::{Job, deactivates};
-
-// The last number of 32 bits.
-const LAST_NUMBER: u32 = numbers::LAST_U32;
-
-pub fn least(a: u32, b: u32) -> u32
-    ensures { result ≡ min a b }
-{
-    if a < b { a } else { b }
-}
 
 // The ticks before Now is a multiple of a period, at most n.
 pub fn to_multiple(now: u32, period: u32, n: u32) -> u32
@@ -31,30 +22,25 @@ pub fn to_multiple(now: u32, period: u32, n: u32) -> u32
     if rest == 0 {
         return 0;
     }
-    least(n, period - rest)
+    n.min(period - rest)
 }
 
 // The ticks before a job is due. A time that has passed does not come again.
 fn to_due(dispatched: u32, deadline: u32, now: u32, n: u32) -> u32
     ensures { (result ≤ n) × ((i : ℕ) → i < result → eqb (dispatched + deadline) (now + i) ≡ false) }
 {
-    let due = (dispatched as u64) + (deadline as u64);
-    let at = now as u64;
-    if due < at {
-        return n;
+    let due = u64::from(dispatched) + u64::from(deadline);
+    match due.checked_sub(u64::from(now)) {
+        Some(left) => left.min(u64::from(n)) as u32,
+        None => n,
     }
-    let left = due - at;
-    if left < (n as u64) { left as u32 } else { n }
 }
 
 // The ticks before a job that runs is done.
 fn to_done(spent: u32, length: u32, n: u32) -> u32
     ensures { (result ≤ n) × ((i : ℕ) → i < result → eqb (quiet.more_by i spent) length ≡ false) }
 {
-    if length <= spent {
-        return 0;
-    }
-    least(n, length - spent)
+    n.min(length.saturating_sub(spent))
 }
 
 // The ticks before a thread can be deactivated: none, or no tick brings it about.
@@ -69,9 +55,8 @@ pub fn calm_ticks(clock: Clock, thread: Thread, job: Job, n: u32) -> u32
     ensures { (result ≤ n) × quiet.Calm clock thread job result }
 {
     let most = to_deactivate(thread, job, n);
-    let code = job.code;
     let now = clock.now.0;
-    match code {
+    match job.code {
         WAITING_MODE => if job.active { 0 } else { most },
         WAITING_DISPATCH => to_multiple(now, thread.period.0, most),
         WAITING_EXECUTION => if clock.cpu == NONE {
@@ -87,16 +72,5 @@ pub fn calm_ticks(clock: Clock, thread: Thread, job: Job, n: u32) -> u32
         ),
         COMPLETED => to_due(job.dispatched.0, thread.deadline.0, now, most),
         _ => most,
-    }
-}
-
-// n, and q more as far as 32 bits go.
-pub fn more_by(n: u32, q: u32) -> u32
-    ensures { result ≡ quiet.more_by q n }
-{
-    if n <= LAST_NUMBER - q {
-        n + q
-    } else {
-        LAST_NUMBER
     }
 }

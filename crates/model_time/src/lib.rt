@@ -16,12 +16,11 @@ ghost use Rattle.model_time.specs.Quiet as quiet;
 ghost use Rattle.model_time.specs.Answers.{Answers};
 ghost use Rattle.model_time.specs.Passing as passing;
 
-use crate::calm::{least, more_by};
 use crate::quiet::quiet_ticks;
 use model_format::MAX_THREADS;
 use model_semantics::EXECUTION;
 use model_state::{code_of, now_of, put_now, put_spent, put_time_back, spent_of, spent_words};
-use model_tests::{is_busy, within};
+use model_tests::is_busy;
 use model_words::threads;
 use numbers::Duration;
 use records::{Cause, LAST_CLOCK};
@@ -30,8 +29,8 @@ fn spend(state: &mut [u32], t: usize, q: u32)
     ensures { (state_in state.new ≡ passing.spend (state_in state.old) t q) × BesideTime state.old state.new }
 {
     if code_of(state, t) == EXECUTION {
-        let old = spent_of(state, t);
-        put_spent(state, t, Duration(more_by(old.0, q)));
+        let spent = spent_of(state, t).0.saturating_add(q);
+        put_spent(state, t, Duration(spent));
     }
 }
 
@@ -39,11 +38,9 @@ fn spend(state: &mut [u32], t: usize, q: u32)
 fn spend_all(model: &[u32], state: &mut [u32], q: u32)
     ensures { (state_in state.new ≡ passing.spent_below (state_in state.old) q (timing_in model.now).threads) × BesideTime state.old state.new }
 {
-    let count = within(threads(model), MAX_THREADS);
-    let mut t: usize = 0;
-    while t < count {
+    let count = threads(model).min(MAX_THREADS);
+    for t in 0..count {
         spend(state, t, q);
-        t += 1;
     }
 }
 
@@ -81,7 +78,7 @@ pub fn ticks(model: &[u32], state: &mut [u32], n: u32) -> Cause
         if LAST_CLOCK <= clock.0 {
             return refused(state, first, kept, Cause::LastClock);
         }
-        let q = quiet_ticks(model, state, least(left, LAST_CLOCK - clock.0));
+        let q = quiet_ticks(model, state, left.min(LAST_CLOCK - clock.0));
         pass(model, state, q);
         left -= q;
     }

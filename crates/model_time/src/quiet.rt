@@ -9,23 +9,18 @@ use crate::calm::{calm_ticks, to_multiple};
 use model_format::MAX_THREADS;
 use model_semantics::REQUESTED;
 use model_state::clock_of;
-use model_tests::{job_of, within};
+use model_tests::job_of;
 use model_words::{switch_at, switches, thread_at, threads};
-use numbers::usize_of_u8;
 
 // For how many of n ticks no thread has an event.
 fn all_calm(model: &[u32], state: &[u32], n: u32) -> u32
     ensures { (result ≤ n) × quiet.CalmBelow (timing_in model.now) (state_in state.now).clock (state_in state.now).threads (timing_in model.now).threads result }
 {
-    let count = within(threads(model), MAX_THREADS);
+    let count = threads(model).min(MAX_THREADS);
     let clock = clock_of(state);
     let mut calm = n;
-    let mut t: usize = 0;
-    while t < count {
-        let thread = thread_at(model, t);
-        let job = job_of(state, t);
-        calm = calm_ticks(clock, thread, job, calm);
-        t += 1;
+    for t in 0..count {
+        calm = calm_ticks(clock, thread_at(model, t), job_of(state, t), calm);
     }
     calm
 }
@@ -35,7 +30,7 @@ fn switches_calm(model: &[u32], state: &[u32], n: u32) -> u32
     ensures { (result ≤ n) × quiet.SwitchesCalm (timing_in model.now) (state_in state.now) result }
 {
     let clock = clock_of(state);
-    let pending = usize_of_u8(clock.pending);
+    let pending = usize::from(clock.pending);
     if switches(model) <= pending {
         return n;
     }

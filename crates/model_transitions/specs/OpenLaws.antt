@@ -1,7 +1,9 @@
 -- Names for what the search for an open transition has at hand, and laws in the forms of its loops and branches.
-use Rattle.std.specs.Prelude.{◌≡◌, refl, Bool, ◌&&◌, not, ℕ, ◌+◌, ◌<◌, ◌≤◌, min, eqb}
+use Rattle.std.specs.Prelude.{◌≡◌, refl, Bool, cond, ◌&&◌, not, ℕ, zero, suc, ◌+◌, ◌<◌, ◌≤◌, min, eqb, Option, Some, None, MatchOption, unwrap_or}
+use Rattle.std.specs.List.{find, range_with_len}
+use Rattle.std.specs.Option.{option_map}
 use Rattle.std.proofs.Math.Path.{sym}
-use Rattle.std.proofs.Common.{◌∙◌, arith, le-ltb}
+use Rattle.std.proofs.Common.{◌∙◌, arith, le-ltb, below_more, subst}
 use Rattle.std.proofs.Math.Bool.{true, false}
 use Rattle.std.proofs.Math.Decide.{dec_lt, ℕ_discrete}
 use Rattle.numbers.specs.Lists.{all_below}
@@ -93,6 +95,22 @@ module _ (b : Behavior) (p : Ports) (from t : ℕ) where
       go j l (yes q) = rw q (sym e ∙ f)
       go j l (no q) = h.shut j (omega arith)
 
+-- the first number below n that passes a test, where there is one
+abbrev FirstBelow : (ℕ → Bool) → ℕ → Option ℕ → Type 0
+FirstBelow p n r = MatchOption r ((j : ℕ) → j < n → p j ≡ false) (λ k. (k < n) × (p k ≡ true) × ((j : ℕ) → j < k → p j ≡ false))
+
+one_found : (p : ℕ → Bool) (n a : ℕ) (c : Bool) → p a ≡ c → ((j : ℕ) → j < a → p j ≡ false) →
+    (((j : ℕ) → j < a + 1 → p j ≡ false) → FirstBelow p (a + 1 + n) (find p (range_with_len (a + 1) n))) →
+    FirstBelow p (a + suc n) (cond c (Some a) (find p (range_with_len (a + 1) n)))
+one_found p n a true e h g = (omega arith, e, h)
+one_found p n a false e h g =
+    let m : a + 1 + n ≡ a + suc n = omega arith in
+    subst (λ k. FirstBelow p k (find p (range_with_len (a + 1) n))) m (g (below_more _ _ h e))
+
+first_of : (p : ℕ → Bool) (n a : ℕ) → ((j : ℕ) → j < a → p j ≡ false) → FirstBelow p (a + n) (find p (range_with_len a n))
+first_of p zero a h = λ j l. h j (omega arith)
+first_of p (suc n) a h = one_found p n a (p a) refl h (first_of p n (a + 1))
+
 -- transitions past the room are blank, and a blank one is as open as another
 blank_open : (b : Behavior) (p : Ports) (from t k : ℕ) → max_transitions ≤ k → is_open_from b p from t k ≡ (eqb no_transition.thread t && (eqb no_transition.from from && true))
 unfolding is_open_from transition_at
@@ -116,3 +134,12 @@ module _ (b : Behavior) (s : State) (from t n k : ℕ) (e : from ≡ behavior_of
       go j u (yes v) = h.shut j v
       go j u (no v) =
           blank_open b s.ports from t j (omega arith) ∙ sym (blank_open b s.ports from t max_transitions (omega arith)) ∙ h.shut max_transitions (omega arith)
+
+module _ (b : Behavior) (s : State) (from t n : ℕ) (e : from ≡ behavior_of s t) (f : n ≡ min b.transitions (max_transitions + 1)) where
+  -- the search's answer, or else the number of transitions
+  pub first_by_find : (r : Option ℕ) → option_map (λ k. k) r ≡ find (is_open_from b s.ports from t) (range_with_len 0 n) → (count : ℕ) → count ≡ b.transitions → (k : ℕ) → k ≡ unwrap_or r count → k ≡ first_open b s t
+  first_by_find r g count h k i = i ∙ go r (subst (FirstBelow (is_open_from b s.ports from t) (0 + n)) (sym g) (first_of (is_open_from b s.ports from t) n 0 (λ j l. absurd (omega arith))))
+    where
+      go : (o : Option ℕ) → FirstBelow (is_open_from b s.ports from t) (0 + n) (option_map (λ k. k) o) → unwrap_or o count ≡ first_open b s t
+      go None q = first_end b s from t n n e f (record { shut = λ j l. q j (omega arith) }) count h (omega arith)
+      go (Some j) q = first_is b s from t n j e f (record { shut = q.2 }) (is_open_from b s.ports from t j) (omega (arith, q.0)) refl q.1

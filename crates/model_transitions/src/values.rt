@@ -6,7 +6,7 @@ ghost use Rattle.model_state.specs.Words.{state_in};
 
 use model_format::{Assignment, Atom, INPUT_TAG};
 use model_state::{input_value, local_value};
-use numbers::{Value, bits, combine, compares, usize_of_u16, usize_of_u32};
+use numbers::{Value, bits, combine, compares};
 use records::Operand;
 
 // The tag of an operand that is a constant; any other but an input port's is a local's.
@@ -15,13 +15,11 @@ const CONSTANT: u8 = 0;
 fn operand_value(state: &[u32], operand: Operand) -> Value
     ensures { result ≡ effects.operand_value (state_in state.now).ports operand }
 {
-    let tag = operand.tag;
-    let value = operand.value;
-    if tag == CONSTANT {
-        return value;
+    if operand.tag == CONSTANT {
+        return operand.value;
     }
-    let i = usize_of_u32(bits(value));
-    if tag == INPUT_TAG {
+    let i = bits(operand.value) as usize;
+    if operand.tag == INPUT_TAG {
         return input_value(state, i);
     }
     local_value(state, i)
@@ -30,9 +28,8 @@ fn operand_value(state: &[u32], operand: Operand) -> Value
 fn left_value(state: &[u32], atom: Atom) -> Value
     ensures { result ≡ effects.left_value (state_in state.now).ports atom }
 {
-    let i = usize_of_u16(atom.number);
-    let tag = atom.tag;
-    if tag == INPUT_TAG {
+    let i = usize::from(atom.number);
+    if atom.tag == INPUT_TAG {
         return input_value(state, i);
     }
     local_value(state, i)

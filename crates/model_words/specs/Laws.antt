@@ -1,8 +1,7 @@
 -- Laws of a model in a list: its items by number.
 use Rattle.std.specs.Prelude.{◌≡◌, refl, List, ℕ, ◌+◌, ◌*◌, ◌<◌, ◌≤◌, min}
-use Rattle.std.proofs.Common.{sym, ◌∙◌, lt-ltb}
-use Rattle.std.proofs.Math.Path.{ap}
-use native.Mathlib.Omega.{arith}
+use Rattle.std.proofs.Common.{sym, ◌∙◌, lt-ltb, ap, arith}
+use Rattle.std.proofs.Math.Decide.{dec_lt}
 use Rattle.numbers.specs.Lists.{item, list_below}
 use Rattle.numbers.specs.ListLaws.{item_past, item_below}
 use Rattle.model_format.specs.declared.Thread.{Thread}
@@ -17,11 +16,19 @@ use Rattle.model_words.specs.Words.{thread_size, owned_size, connection_size, sw
 
 -- ---- items by number
 module _ {A : Type 0} (room : ℕ) (d x : A) (i : ℕ) where
-  there : (f : ℕ → A) → i < room → x ≡ f i → x ≡ item room (list_below room f) i d
+  pub there : (f : ℕ → A) → i < room → x ≡ f i → x ≡ item room (list_below room f) i d
   there f h e = e ∙ sym (item_below room f i d ∙ rw (lt-ltb i room h))
 
   missing : (l : List A) → room ≤ i → x ≡ d → x ≡ item room l i d
   missing l h e = e ∙ sym (item_past room l i d h)
+
+-- a place past the room may as well be the first past it
+pub item_capped : {A : Type 0} (room : ℕ) (l : List A) (i k : ℕ) (d : A) → i ≡ min k room → item room l i d ≡ item room l k d
+item_capped room l i k d e = go (dec_lt k room)
+  where
+    go : Dec (k < room) → item room l i d ≡ item room l k d
+    go (yes h) = let z : i ≡ k = omega arith in rw z
+    go (no h) = item_past room l i d (omega arith) ∙ sym (item_past room l k d (omega arith))
 
 module _ (l : List ℕ) (i : ℕ) where
   pub thread_there : (x : Thread) → i < max_threads → x ≡ thread_in l (threads_from + i * thread_size) → x ≡ thread_at (timing_in l) i

@@ -1,6 +1,7 @@
 // The items of a model, by number. One that is not there is blank.
 
-ghost use Rattle.std.specs.Prelude.{◌≡◌, ◌+◌, ◌≤◌};
+ghost use Rattle.std.specs.Prelude.{List, ℕ, ◌≡◌, ◌+◌, ◌*◌, ◌<◌, ◌≤◌};
+ghost use Rattle.numbers.specs.Lists.{item, list_below};
 ghost use Rattle.model_format.specs.Model as items;
 ghost use Rattle.model_format.specs.Reading as reading;
 ghost use Rattle.model_words.specs.Words as words;
@@ -19,9 +20,9 @@ use model_format::{
     Transition, no_assignment, no_atom, no_connection, no_owned, no_switch, no_thread,
     no_transition, place,
 };
-use numbers::{usize_of_u32, word_at};
+use numbers::item_or;
 
-// ---- the head, and how many items there are of each kind
+// ---- the head, and how many items there are of each kind: one call each, by the names that other crates know
 pub fn modes(model: &[u32]) -> u8
     ensures { result ≡ (words.timing_in model.now).modes }
 {
@@ -37,161 +38,257 @@ pub fn initial(model: &[u32]) -> u8
 pub fn threads(model: &[u32]) -> usize
     ensures { result ≡ (words.timing_in model.now).threads }
 {
-    usize_of_u32(word_at(model, THREADS_PLACE))
+    item_or(model, THREADS_PLACE, 0) as usize
 }
 
 pub fn inputs(model: &[u32]) -> usize
     ensures { result ≡ (words.timing_in model.now).inputs }
 {
-    usize_of_u32(word_at(model, INPUTS_PLACE))
+    item_or(model, INPUTS_PLACE, 0) as usize
 }
 
 pub fn outputs(model: &[u32]) -> usize
     ensures { result ≡ (words.timing_in model.now).outputs }
 {
-    usize_of_u32(word_at(model, OUTPUTS_PLACE))
+    item_or(model, OUTPUTS_PLACE, 0) as usize
 }
 
 pub fn locals(model: &[u32]) -> usize
     ensures { result ≡ (words.timing_in model.now).locals }
 {
-    usize_of_u32(word_at(model, LOCALS_PLACE))
+    item_or(model, LOCALS_PLACE, 0) as usize
 }
 
 pub fn connections(model: &[u32]) -> usize
     ensures { result ≡ (words.timing_in model.now).connections }
 {
-    usize_of_u32(word_at(model, CONNECTIONS_PLACE))
+    item_or(model, CONNECTIONS_PLACE, 0) as usize
 }
 
 pub fn switches(model: &[u32]) -> usize
     ensures { result ≡ (words.timing_in model.now).switches }
 {
-    usize_of_u32(word_at(model, SWITCHES_PLACE))
+    item_or(model, SWITCHES_PLACE, 0) as usize
 }
 
 pub fn transitions(model: &[u32]) -> usize
     ensures { result ≡ (words.behavior_in model.now).transitions }
 {
-    usize_of_u32(word_at(model, TRANSITIONS_PLACE))
+    item_or(model, TRANSITIONS_PLACE, 0) as usize
 }
 
-// ---- the item whose numbers begin at at
-fn thread_in(model: &[u32], at: usize) -> Thread
-    requires { at + words.thread_size ≤ words.model_words }
-    ensures { result ≡ words.thread_in model.now at }
-{
-    let period = duration_in(model, at);
-    let deadline = duration_in(model, at + 1);
-    let bcet = duration_in(model, at + 2);
-    let wcet = duration_in(model, at + 3);
-    let modes = byte_in(model, at + 4);
-    let critical = byte_in(model, at + 5);
-    let first = byte_in(model, at + 6);
-    Thread {
-        period: period,
-        deadline: deadline,
-        bcet: bcet,
-        wcet: wcet,
-        modes: modes,
-        critical: critical,
-        first: first,
+// ---- items
+// What a list has of an item: `SIZE` numbers, one to a field. An item that is not there is blank.
+trait Item: Copy {
+    ghost blank: { Self };
+
+    ghost read: { List ℕ → ℕ → Self };
+
+    ghost SIZE: { ℕ };
+
+    const SIZE: usize;
+
+    fn blank() -> Self
+        ensures { result ≡ blank };
+
+    // The item whose numbers begin at `at`.
+    fn read(model: &[u32], at: usize) -> Self
+        requires { at + SIZE ≤ words.model_words }
+        ensures { result ≡ read model.now at };
+}
+
+impl Item for Thread {
+    ghost blank = { items.no_thread };
+
+    ghost read = { words.thread_in };
+
+    ghost SIZE = { words.thread_size };
+
+    const SIZE: usize = THREAD_SIZE;
+
+    fn blank() -> Thread {
+        no_thread()
+    }
+
+    fn read(model: &[u32], at: usize) -> Thread {
+        Thread {
+            period: duration_in(model, at),
+            deadline: duration_in(model, at + 1),
+            bcet: duration_in(model, at + 2),
+            wcet: duration_in(model, at + 3),
+            modes: byte_in(model, at + 4),
+            critical: byte_in(model, at + 5),
+            first: byte_in(model, at + 6),
+        }
     }
 }
 
-fn owned_in(model: &[u32], at: usize) -> Owned
-    requires { at + words.owned_size ≤ words.model_words }
-    ensures { result ≡ words.owned_in model.now at }
-{
-    let owner = byte_in(model, at);
-    let start = value_in(model, at + 1);
-    Owned {
-        owner: owner,
-        start: start,
+impl Item for Owned {
+    ghost blank = { items.no_owned };
+
+    ghost read = { words.owned_in };
+
+    ghost SIZE = { words.owned_size };
+
+    const SIZE: usize = OWNED_SIZE;
+
+    fn blank() -> Owned {
+        no_owned()
+    }
+
+    fn read(model: &[u32], at: usize) -> Owned {
+        Owned {
+            owner: byte_in(model, at),
+            start: value_in(model, at + 1),
+        }
     }
 }
 
-fn connection_in(model: &[u32], at: usize) -> Connection
-    requires { at + words.connection_size ≤ words.model_words }
-    ensures { result ≡ words.connection_in model.now at }
-{
-    let kind = byte_in(model, at);
-    let source = short_in(model, at + 1);
-    let target = short_in(model, at + 2);
-    let modes = byte_in(model, at + 3);
-    Connection {
-        kind: kind,
-        source: source,
-        target: target,
-        modes: modes,
+// An output port, of which a model has the owner alone.
+impl Item for u8 {
+    ghost blank = { 0 };
+
+    ghost read = { words.byte_in };
+
+    ghost SIZE = { 1 };
+
+    const SIZE: usize = 1;
+
+    fn blank() -> u8 {
+        0
+    }
+
+    fn read(model: &[u32], at: usize) -> u8 {
+        byte_in(model, at)
     }
 }
 
-fn switch_in(model: &[u32], at: usize) -> ModeTransition
-    requires { at + words.switch_size ≤ words.model_words }
-    ensures { result ≡ words.switch_in model.now at }
-{
-    let from = byte_in(model, at);
-    let to = byte_in(model, at + 1);
-    let h1 = duration_in(model, at + 2);
-    let h2 = duration_in(model, at + 3);
-    ModeTransition {
-        from: from,
-        to: to,
-        h1: h1,
-        h2: h2,
+impl Item for Connection {
+    ghost blank = { items.no_connection };
+
+    ghost read = { words.connection_in };
+
+    ghost SIZE = { words.connection_size };
+
+    const SIZE: usize = CONNECTION_SIZE;
+
+    fn blank() -> Connection {
+        no_connection()
+    }
+
+    fn read(model: &[u32], at: usize) -> Connection {
+        Connection {
+            kind: byte_in(model, at),
+            source: short_in(model, at + 1),
+            target: short_in(model, at + 2),
+            modes: byte_in(model, at + 3),
+        }
     }
 }
 
-fn transition_in(model: &[u32], at: usize) -> Transition
-    requires { at + words.transition_size ≤ words.model_words }
-    ensures { result ≡ words.transition_in model.now at }
-{
-    let thread = byte_in(model, at);
-    let from = byte_in(model, at + 1);
-    let to = byte_in(model, at + 2);
-    let atoms = byte_in(model, at + 3);
-    let assignments = byte_in(model, at + 4);
-    Transition {
-        thread: thread,
-        from: from,
-        to: to,
-        atoms: atoms,
-        assignments: assignments,
+impl Item for ModeTransition {
+    ghost blank = { items.no_switch };
+
+    ghost read = { words.switch_in };
+
+    ghost SIZE = { words.switch_size };
+
+    const SIZE: usize = SWITCH_SIZE;
+
+    fn blank() -> ModeTransition {
+        no_switch()
+    }
+
+    fn read(model: &[u32], at: usize) -> ModeTransition {
+        ModeTransition {
+            from: byte_in(model, at),
+            to: byte_in(model, at + 1),
+            h1: duration_in(model, at + 2),
+            h2: duration_in(model, at + 3),
+        }
     }
 }
 
-fn atom_in(model: &[u32], at: usize) -> Atom
-    requires { at + words.atom_size ≤ words.model_words }
-    ensures { result ≡ words.atom_in model.now at }
-{
-    let op = byte_in(model, at);
-    let tag = byte_in(model, at + 1);
-    let number = short_in(model, at + 2);
-    let right = operand_in(model, at + 3);
-    Atom {
-        op: op,
-        tag: tag,
-        number: number,
-        right: right,
+impl Item for Transition {
+    ghost blank = { items.no_transition };
+
+    ghost read = { words.transition_in };
+
+    ghost SIZE = { words.transition_size };
+
+    const SIZE: usize = TRANSITION_SIZE;
+
+    fn blank() -> Transition {
+        no_transition()
+    }
+
+    fn read(model: &[u32], at: usize) -> Transition {
+        Transition {
+            thread: byte_in(model, at),
+            from: byte_in(model, at + 1),
+            to: byte_in(model, at + 2),
+            atoms: byte_in(model, at + 3),
+            assignments: byte_in(model, at + 4),
+        }
     }
 }
 
-fn assignment_in(model: &[u32], at: usize) -> Assignment
-    requires { at + words.assignment_size ≤ words.model_words }
-    ensures { result ≡ words.assignment_in model.now at }
+impl Item for Atom {
+    ghost blank = { items.no_atom };
+
+    ghost read = { words.atom_in };
+
+    ghost SIZE = { words.atom_size };
+
+    const SIZE: usize = ATOM_SIZE;
+
+    fn blank() -> Atom {
+        no_atom()
+    }
+
+    fn read(model: &[u32], at: usize) -> Atom {
+        Atom {
+            op: byte_in(model, at),
+            tag: byte_in(model, at + 1),
+            number: short_in(model, at + 2),
+            right: operand_in(model, at + 3),
+        }
+    }
+}
+
+impl Item for Assignment {
+    ghost blank = { items.no_assignment };
+
+    ghost read = { words.assignment_in };
+
+    ghost SIZE = { words.assignment_size };
+
+    const SIZE: usize = ASSIGNMENT_SIZE;
+
+    fn blank() -> Assignment {
+        no_assignment()
+    }
+
+    fn read(model: &[u32], at: usize) -> Assignment {
+        Assignment {
+            tag: byte_in(model, at),
+            number: short_in(model, at + 1),
+            op: byte_in(model, at + 2),
+            first: operand_in(model, at + 3),
+            second: operand_in(model, at + 5),
+        }
+    }
+}
+
+// Item i of those from a place on, for which there is a room.
+fn item_at<T: Item>(model: &[u32], from: usize, room: usize, i: usize) -> T
+    requires { i < room → from + i * T.SIZE + T.SIZE ≤ words.model_words }
+    ensures { result ≡ item room (list_below room (λ j. T.read model.now (from + j * T.SIZE))) i T.blank }
 {
-    let tag = byte_in(model, at);
-    let number = short_in(model, at + 1);
-    let op = byte_in(model, at + 2);
-    let first = operand_in(model, at + 3);
-    let second = operand_in(model, at + 5);
-    Assignment {
-        tag: tag,
-        number: number,
-        op: op,
-        first: first,
-        second: second,
+    if i < room {
+        T::read(model, from + i * T::SIZE)
+    } else {
+        T::blank()
     }
 }
 
@@ -199,57 +296,16 @@ fn assignment_in(model: &[u32], at: usize) -> Assignment
 pub fn thread_at(model: &[u32], thread: usize) -> Thread
     ensures { result ≡ items.thread_at (words.timing_in model.now) thread }
 {
-    if MAX_THREADS <= thread {
-        return no_thread();
-    }
-    thread_in(model, THREADS_FROM + thread * THREAD_SIZE)
-}
-
-pub fn local_at(model: &[u32], local: usize) -> Owned
-    ensures { result ≡ items.local_at (words.timing_in model.now) local }
-{
-    if MAX_LOCALS <= local {
-        return no_owned();
-    }
-    owned_in(model, LOCALS_FROM + local * OWNED_SIZE)
-}
-
-pub fn connection_at(model: &[u32], connection: usize) -> Connection
-    ensures { result ≡ items.connection_at (words.timing_in model.now) connection }
-{
-    if MAX_CONNECTIONS <= connection {
-        return no_connection();
-    }
-    connection_in(model, CONNECTIONS_FROM + connection * CONNECTION_SIZE)
-}
-
-pub fn switch_at(model: &[u32], switch: usize) -> ModeTransition
-    ensures { result ≡ items.switch_at (words.timing_in model.now) switch }
-{
-    if MAX_SWITCHES <= switch {
-        return no_switch();
-    }
-    switch_in(model, SWITCHES_FROM + switch * SWITCH_SIZE)
-}
-
-pub fn transition_at(model: &[u32], transition: usize) -> Transition
-    ensures { result ≡ items.transition_at (words.behavior_in model.now) transition }
-{
-    if MAX_TRANSITIONS <= transition {
-        return no_transition();
-    }
-    transition_in(model, TRANSITIONS_FROM + transition * TRANSITION_SIZE)
+    item_at(model, THREADS_FROM, MAX_THREADS, thread)
 }
 
 pub fn input_at(model: &[u32], port: usize) -> Owned
     ensures { result ≡ items.input_at (words.timing_in model.now) port }
 {
-    if MAX_INPUTS <= port {
-        return no_owned();
-    }
-    owned_in(model, INPUTS_FROM + port * OWNED_SIZE)
+    item_at(model, INPUTS_FROM, MAX_INPUTS, port)
 }
 
+// Asked for more often than the port itself: its byte alone.
 pub fn input_owner(model: &[u32], port: usize) -> u8
     ensures { result ≡ items.input_owner (words.timing_in model.now) port }
 {
@@ -262,38 +318,55 @@ pub fn input_owner(model: &[u32], port: usize) -> u8
 pub fn output_owner(model: &[u32], port: usize) -> u8
     ensures { result ≡ items.output_owner (words.timing_in model.now) port }
 {
-    if MAX_OUTPUTS <= port {
-        return 0;
-    }
-    byte_in(model, OUTPUTS_FROM + port)
+    item_at(model, OUTPUTS_FROM, MAX_OUTPUTS, port)
+}
+
+pub fn local_at(model: &[u32], local: usize) -> Owned
+    ensures { result ≡ items.local_at (words.timing_in model.now) local }
+{
+    item_at(model, LOCALS_FROM, MAX_LOCALS, local)
+}
+
+pub fn connection_at(model: &[u32], connection: usize) -> Connection
+    ensures { result ≡ items.connection_at (words.timing_in model.now) connection }
+{
+    item_at(model, CONNECTIONS_FROM, MAX_CONNECTIONS, connection)
+}
+
+pub fn switch_at(model: &[u32], switch: usize) -> ModeTransition
+    ensures { result ≡ items.switch_at (words.timing_in model.now) switch }
+{
+    item_at(model, SWITCHES_FROM, MAX_SWITCHES, switch)
+}
+
+pub fn transition_at(model: &[u32], transition: usize) -> Transition
+    ensures { result ≡ items.transition_at (words.behavior_in model.now) transition }
+{
+    item_at(model, TRANSITIONS_FROM, MAX_TRANSITIONS, transition)
 }
 
 // The place of the last transition, which atoms and assignments belong to; where there is none, the first.
 pub fn last_transition(model: &[u32]) -> usize
     ensures { result ≡ reading.last_transition (words.behavior_in model.now) }
 {
-    let count = transitions(model);
-    if 0 < count { count - 1 } else { 0 }
+    transitions(model).saturating_sub(1)
 }
 
 // An atom of a transition, by its number.
 pub fn atom_at(model: &[u32], transition: usize, number: usize) -> Atom
     ensures { result ≡ items.atom_at (words.behavior_in model.now) transition number }
 {
-    let at = place(transition, number);
-    if MAX_TIMES <= at {
-        return no_atom();
-    }
-    atom_in(model, ATOMS_FROM + at * ATOM_SIZE)
+    item_at(model, ATOMS_FROM, MAX_TIMES, place(transition, number))
 }
 
-// Assignment number of transition transition.
+// An assignment of a transition, by its number.
 pub fn assignment_at(model: &[u32], transition: usize, number: usize) -> Assignment
     ensures { result ≡ items.assignment_at (words.behavior_in model.now) transition number }
 {
-    let at = place(transition, number);
-    if MAX_TIMES <= at {
-        return no_assignment();
-    }
-    assignment_in(model, ASSIGNMENTS_FROM + at * ASSIGNMENT_SIZE)
+    item_at(
+        model,
+        ASSIGNMENTS_FROM,
+        MAX_TIMES,
+        place(transition, number),
+    )
 }

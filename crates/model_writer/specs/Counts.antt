@@ -1,8 +1,6 @@
 -- A model in a list with another count of the items of a kind.
 use Rattle.std.specs.Prelude.{◌≡◌, List, [], ◌∷◌, ℕ, ◌+◌, ◌≤◌, set, length}
-use Rattle.std.proofs.Math.Path.{refl}
-use Rattle.std.proofs.Common.{arith}
-use Rattle.std.proofs.Math.ListN.{get_or}
+use Rattle.std.proofs.Common.{arith, refl, get_or}
 use Rattle.model_format.specs.Model.{with_threads, with_inputs, with_outputs, with_locals, with_connections, with_switches}
 use Rattle.model_words.specs.Words.{modes_place, initial_place, threads_place, inputs_place, outputs_place, locals_place, connections_place, switches_place, transitions_place, model_words, timing_in, behavior_in}
 use Rattle.model_items.specs.Kept.{Changed, number_kept, threads_kept, inputs_kept, outputs_kept, locals_kept, connections_kept, switches_kept, transitions_kept, atoms_kept, assignments_kept}

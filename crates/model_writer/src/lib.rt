@@ -20,34 +20,31 @@ use model_words::{
     SWITCHES_PLACE, THREADS_PLACE, TRANSITIONS_PLACE, connections, inputs, last_transition, locals,
     outputs, switches, threads, transition_at, transitions,
 };
-use numbers::{Duration, put_word, usize_of_u8};
+use numbers::{Duration, put_item};
 
 // A list of zeros is the empty model.
 pub fn clear(model: &mut [u32])
     ensures { words.model_in model.new ≡ models.empty_model }
 {
-    let mut i: usize = 0;
-    while i < model.len() {
-        model[i] = 0;
-        i += 1;
-    }
+    model.fill(0);
 }
 
 fn put_count(model: &mut [u32], at: usize, count: usize)
     requires { count < 4294967296 }
     ensures { model.new ≡ set model.old at count }
 {
-    put_word(model, at, count as u32);
+    put_item(model, at, count as u32);
 }
 
 pub fn add_head(model: &mut [u32], head: Head)
     requires { words.model_words ≤ length model.old }
     ensures { words.model_in model.new ≡ reading.add_record (words.model_in model.old) (variants.HeadRecord head) }
 {
-    put_word(model, MODES_PLACE, head.modes as u32);
-    put_word(model, INITIAL_PLACE, head.initial as u32);
+    put_item(model, MODES_PLACE, head.modes as u32);
+    put_item(model, INITIAL_PLACE, head.initial as u32);
 }
 
+// ---- one item more. Kept kind by kind: each is three calls, of its own count and its own store, and a trait with both for each kind would be longer.
 pub fn add_thread(model: &mut [u32], thread: Thread)
     requires { (words.model_words ≤ length model.old) × ((words.timing_in model.old).threads < models.max_threads) }
     ensures { words.model_in model.new ≡ reading.add_record (words.model_in model.old) (variants.ThreadRecord thread) }
@@ -100,13 +97,7 @@ pub fn add_switch(model: &mut [u32], switch: ModeTransition, h1: Duration, h2: D
     ensures { words.model_in model.new ≡ reading.add_record (words.model_in model.old) (variants.ModeRecord switch) }
 {
     let count = switches(model);
-    let timed = ModeTransition {
-        from: switch.from,
-        to: switch.to,
-        h1: h1,
-        h2: h2,
-    };
-    put_switch(model, count, timed);
+    put_switch(model, count, ModeTransition { h1, h2, ..switch });
     put_count(model, SWITCHES_PLACE, count + 1);
 }
 
@@ -128,7 +119,7 @@ pub fn add_atom(model: &mut [u32], atom: Atom)
     let number = last_transition(model);
     let old = transition_at(model, number);
     put_atom_count(model, number, old.atoms + 1);
-    put_atom(model, place(number, usize_of_u8(old.atoms)), atom);
+    put_atom(model, place(number, usize::from(old.atoms)), atom);
 }
 
 pub fn add_assignment(model: &mut [u32], assignment: Assignment)
@@ -141,7 +132,7 @@ pub fn add_assignment(model: &mut [u32], assignment: Assignment)
     put_assignment_count(model, number, old.assignments + 1);
     put_assignment(
         model,
-        place(number, usize_of_u8(old.assignments)),
+        place(number, usize::from(old.assignments)),
         assignment,
     );
 }

@@ -1,15 +1,18 @@
 -- Laws of the two readings of 32 bits and of sums, in the forms that the code's tests and casts have.
-use Rattle.std.specs.Prelude.{◌≡◌, refl, Bool, true, false, cond, List, [], ℕ, zero, suc, ◌+◌, ◌-◌, ◌/◌, ◌%◌, ◌^◌, ◌<◌, ◌≤◌, T, ltb, ℤ, pos, negsuc, neg_ℤ, ◌+ℤ◌, ◌-ℤ◌, nat_abs, length, get_or, set}
-use Rattle.std.proofs.Common.{sym, ◌∙◌, ap, zero-add, add-zero, add-one, arith, le-ltb, ltb-true, ltb-false, leb-false, SFits, Fits, to_z, of_z}
+use Rattle.std.specs.Prelude.{◌≡◌, refl, Bool, true, false, cond, List, [], ℕ, zero, suc, ◌+◌, ◌-◌, ◌/◌, ◌%◌, ◌^◌, ◌<◌, ◌≤◌, T, ltb, ℤ, pos, negsuc, neg_ℤ, ◌+ℤ◌, ◌-ℤ◌, nat_abs, length, get_or, set, min, not, eqb}
+use Rattle.std.proofs.Common.{sym, ◌∙◌, ap, zero-add, add-zero, add-one, arith, le-ltb, ltb-true, ltb-false, leb-false, SFits, Fits, to_z, of_z, Less, Greater, Equal}
 use Rattle.std.proofs.Math.Numerals.{add-two, add-three}
 use Rattle.std.proofs.Math.IntN.{sub_ℕ, +ℤ_invr}
 use Rattle.std.specs.Int.Signed.{mag, non_neg, lt_z, le_z}
 use Rattle.std.proofs.Math.ListN.{get_or-eq_default}
 use Rattle.std.proofs.lemmas.List.Edits.{sets}
-use Rattle.std.specs.Int.{w32, w64}
+use Rattle.std.specs.Int.{w32, w64, saturate_signed}
 use Rattle.std.proofs.lemmas.Int.{to_z_pos, to_z-of_z}
 use Rattle.numbers.specs.declared.Value.{Value}
-use Rattle.numbers.specs.Values.{value, natural, signed, bits_of, least_value, last_value, nearest, plus, minus, u32_at, u16_to, u32_to}
+use Rattle.numbers.specs.Values.{value, natural, signed, bits_of, least_value, last_value, nearest, plus, minus, u32_at, u16_to, u32_to, last_u32, one_more, same_value, less_value}
+use Rattle.std.specs.Ordering.{int_eq, int_cmp, is_lt, is_ge}
+use Rattle.std.proofs.lemmas.Bool.Decides.{same_from_decides, Decides-int_eq}
+use Rattle.std.proofs.lemmas.Bool.{eqb-true, eq-eqb}
 
 -- -1 - k
 minus_pos : (k : ℕ) → negsuc 0 -ℤ pos k ≡ negsuc k
@@ -230,3 +233,58 @@ module _ (l : List ℕ) (p n : ℕ) (l₁ l₂ : List ℕ) (e₁ : l₁ ≡ set 
   pub four_bytes : (l₃ l₄ : List ℕ) → l₃ ≡ set l₂ (p + 2) (n / 256 / 256 % 256) → l₄ ≡ set l₃ (p + 3) (n / 256 / 256 / 256 % 256) →
       l₄ ≡ sets l p (u32_to n [])
   four_bytes l₃ l₄ e₃ e₄ = rw (e₄, e₃, e₂, e₁, add-zero p, add-one p, add-two p, add-three p)
+
+-- ---- what the library's comparisons and saturating sums are
+pub same_by_eq : (a b : Value) → SFits w32 a.0 → SFits w32 b.0 → int_eq a.0 b.0 ≡ same_value a b
+same_by_eq a b f g = same_from_decides _ _ (Decides-int_eq a.0 b.0) (same, other)
+  where
+    same : eqb (bits_of a.0) (bits_of b.0) ≡ true → a.0 ≡ b.0
+    same h = sym (to_z-of_z w32 a.0 f) ∙ ap (to_z w32) (eqb-true (bits_of a.0) (bits_of b.0) h) ∙ to_z-of_z w32 b.0 g
+
+    other : a.0 ≡ b.0 → eqb (bits_of a.0) (bits_of b.0) ≡ true
+    other e = eq-eqb _ _ (ap (of_z w32) e)
+
+pub less_by_lt : (a b : Value) → is_lt (int_cmp a.0 b.0) ≡ less_value a b
+less_by_lt a b = go (lt_z a.0 b.0) (lt_z b.0 a.0)
+  where
+    go : (c d : Bool) → is_lt (cond c Less (cond d Greater Equal)) ≡ c
+    go true d = refl
+    go false true = refl
+    go false false = refl
+
+pub not_less_by_ge : (a b : Value) → is_ge (int_cmp a.0 b.0) ≡ not (less_value a b)
+not_less_by_ge a b = go (lt_z a.0 b.0) (lt_z b.0 a.0)
+  where
+    go : (c d : Bool) → is_ge (cond c Less (cond d Greater Equal)) ≡ not c
+    go true d = refl
+    go false true = refl
+    go false false = refl
+
+saturated : (z : ℤ) → saturate_signed w32 z ≡ nearest z
+unfolding nearest
+saturated (pos n) = go (ltb 2147483647 n) refl
+  where
+    go : (b : Bool) → ltb 2147483647 n ≡ b → pos (min n 2147483647) ≡ cond b last_value (pos n)
+    go true q = let l = ltb-true 2147483647 n q in ap pos (omega arith)
+    go false q = let l = ltb-false 2147483647 n q in ap pos (omega arith)
+saturated (negsuc n) = go (ltb 2147483647 n) refl
+  where
+    go : (b : Bool) → ltb 2147483647 n ≡ b → negsuc (min n 2147483647) ≡ cond b least_value (cond false last_value (negsuc n))
+    go true q = let l = ltb-true 2147483647 n q in ap negsuc (omega arith)
+    go false q = let l = ltb-false 2147483647 n q in ap negsuc (omega arith)
+
+pub sum_saturated : (a b : Value) → SFits w32 a.0 → SFits w32 b.0 → (r : ℤ) → r ≡ saturate_signed w32 (signed (bits_of a.0) +ℤ signed (bits_of b.0)) → value (signed (bits_of r)) ≡ plus a b
+unfolding plus
+sum_saturated a b f g r e = rw (e, saturated (signed (bits_of a.0) +ℤ signed (bits_of b.0)), to_z-of_z w32 a.0 f, to_z-of_z w32 b.0 g) (cut_again (a.0 +ℤ b.0))
+
+pub difference_saturated : (a b : Value) → SFits w32 a.0 → SFits w32 b.0 → (r : ℤ) → r ≡ saturate_signed w32 (signed (bits_of a.0) -ℤ signed (bits_of b.0)) → value (signed (bits_of r)) ≡ minus a b
+unfolding minus
+difference_saturated a b f g r e = rw (e, saturated (signed (bits_of a.0) -ℤ signed (bits_of b.0)), to_z-of_z w32 a.0 f, to_z-of_z w32 b.0 g) (cut_again (a.0 -ℤ b.0))
+
+pub one_more_saturated : (n r : ℕ) → n ≤ last_u32 → r ≡ min (n + 1) last_u32 → r ≡ one_more n
+unfolding one_more
+one_more_saturated n r h e = go (ltb n last_u32) refl
+  where
+    go : (b : Bool) → ltb n last_u32 ≡ b → r ≡ cond b (n + 1) n
+    go true q = let l = ltb-true n last_u32 q in omega arith
+    go false q = let l = ltb-false n last_u32 q in omega arith

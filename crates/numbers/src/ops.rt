@@ -1,4 +1,5 @@
 // How two values compare, and what an assignment or an update makes of them.
+// Kept as bytes and no enums: `compares` and `combine` speak of any operator.
 
 pub const EQUALS: u8 = 0;
 

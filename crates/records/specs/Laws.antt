@@ -27,6 +27,13 @@ module _ (w : Notation) (k n m : ℕ) (e : m ≡ record_size w k) where
   unfolding part_length
   part_whole z l = rw (← e, ne_eqb m 0 z, le-ltb n m l)
 
+  pub part_within : (m ≡ 0 → ⊥) → (r : ℕ) → r ≡ min n m → r ≡ part_length w k n
+  part_within h r e = go (dec_lt n m)
+    where
+      go : Dec (n < m) → r ≡ part_length w k n
+      go (yes l) = let f : r ≡ n = omega arith in f ∙ part_cut h l
+      go (no l) = let f : r ≡ m = omega arith in f ∙ part_whole h (omega arith)
+
 module _ (w : Notation) (s : List ℕ) (p : ℕ) where
   pub length_at : p < length s → part_length w (get_or s p 0) (length s - p) ≡ part_length_at w s p
   unfolding part_length_at

@@ -5,3 +5,4 @@ pub mod Events
 pub mod Run
 pub mod Laws
 pub mod Walk
+pub mod Walks

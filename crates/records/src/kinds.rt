@@ -1,4 +1,5 @@
 // The kinds of records, each language's own, the sizes of those that others cut out by themselves, and the last clock.
+// Kept as bytes and no enums: the definitions (`record_size`, `event_of`, `step`) speak of any byte, also of one that is no kind.
 
 pub const MODEL_HEAD: u8 = 1;
 

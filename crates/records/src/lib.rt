@@ -3,6 +3,7 @@
 #![tactic(auto)]
 
 mod kinds;
+mod walks;
 
 ghost use Rattle.std.specs.Prelude.{◌≡◌, ◌-◌, ◌<◌, min, take, drop};
 ghost use Rattle.records.specs.declared.Notation.TheVariants as notations;
@@ -19,10 +20,11 @@ pub use kinds::{
     MODEL_WRITTEN_INPUT_SIZE, REQUEST, RULE_SIZE, START, TABLE_ATOM, TABLE_ATOM_SIZE, TABLE_CLAUSE,
     TABLE_RULE, TABLE_START, TABLE_UPDATE, TICK, UPDATE_SIZE,
 };
-use numbers::Value;
+use numbers::{Value, item_or};
+pub use walks::{Events, Part, Parts};
 
 // The three languages of records: each has kinds of its own.
-#[derive(Clone, Copy)]
+#[derive(Clone, Copy, PartialEq, Eq)]
 pub enum Notation {
     Model,
     Table,
@@ -30,7 +32,8 @@ pub enum Notation {
 }
 
 // Why a record or an event is refused; `None` where it is not.
-#[derive(Clone, Copy)]
+// Kept as one enum and no `Option`: `number_of None` is 0, which callers are told, and the definitions and theorems of refusals speak of `None`.
+#[derive(Clone, Copy, PartialEq, Eq)]
 pub enum Cause {
     None,
     CutRecord,
@@ -51,13 +54,14 @@ pub enum Cause {
 }
 
 // Which of the two lent slices holds the part handed back. A table stands for its model.
-#[derive(Clone, Copy)]
+#[derive(Clone, Copy, PartialEq, Eq)]
 pub enum Holder {
     Model,
     Script,
 }
 
 // A refusal and its part, `start` up to `end` of the slice that `holder` names.
+// Kept as one struct and no `Option`: the definitions of reading and of runs give it, and `no_refusal` is one.
 #[derive(Clone, Copy)]
 pub struct Refusal {
     pub cause: Cause,
@@ -148,11 +152,7 @@ fn part_length(notation: Notation, kind: u8, rest: usize) -> usize
     ensures { result ≡ part_length notation kind rest }
 {
     let size = record_size(notation, kind);
-    if size == 0 {
-        rest
-    } else {
-        if rest < size { rest } else { size }
-    }
+    if size == 0 { rest } else { rest.min(size) }
 }
 
 // The length of the part that begins at a place; 0 past the end.
@@ -170,7 +170,7 @@ pub fn part_length_at(notation: Notation, bytes: &[u8], at: usize) -> usize
 fn is_whole(notation: Notation, part: &[u8]) -> bool
     ensures { result ≡ is_whole notation part.now }
 {
-    let kind = numbers::byte_at(part, 0);
+    let kind = item_or(part, 0, 0);
     let size = record_size(notation, kind);
     if size == 0 { false } else { part.len() == size }
 }
@@ -181,16 +181,10 @@ pub fn operand_at(bytes: &[u8], at: usize) -> Operand
     if at < bytes.len() {
         let tag = bytes[at];
         let value = numbers::value_at(bytes, at + 1);
-        Operand {
-            tag: tag,
-            value: value,
-        }
+        Operand { tag, value }
     } else {
         let value = numbers::value_of(0);
-        Operand {
-            tag: 0,
-            value: value,
-        }
+        Operand { tag: 0, value }
     }
 }
 
@@ -229,12 +223,11 @@ pub fn is_none(cause: Cause) -> bool
 pub fn in_model(cause: Cause, start: usize, end: usize) -> Refusal
     ensures { result ≡ in_model cause start end }
 {
-    let holder = Holder::Model;
     Refusal {
-        cause: cause,
-        holder: holder,
-        start: start,
-        end: end,
+        cause,
+        holder: Holder::Model,
+        start,
+        end,
     }
 }
 
@@ -242,12 +235,11 @@ pub fn in_model(cause: Cause, start: usize, end: usize) -> Refusal
 pub fn in_script(cause: Cause, start: usize, end: usize) -> Refusal
     ensures { result ≡ in_script cause start end }
 {
-    let holder = Holder::Script;
     Refusal {
-        cause: cause,
-        holder: holder,
-        start: start,
-        end: end,
+        cause,
+        holder: Holder::Script,
+        start,
+        end,
     }
 }
 
@@ -257,68 +249,55 @@ pub fn no_refusal() -> Refusal
     in_model(Cause::None, 0, 0)
 }
 
-fn smaller(a: usize, b: usize) -> usize
-    ensures { result ≡ min a b }
-{
-    if a < b { a } else { b }
-}
-
 // Bytes from start up to end, as far as the slice has them: both places are drawn in before the part is made.
 fn part_between(bytes: &[u8], start: usize, end: usize) -> &[u8]
     ensures { result.now ≡ take (end - start) (drop start bytes.now) }
 {
-    let count = bytes.len();
-    let end = smaller(end, count);
-    let start = smaller(start, end);
-    &bytes[start..end]
+    let end = end.min(bytes.len());
+    &bytes[start.min(end)..end]
 }
 
 // The part refused, from the slice that holds it.
 pub fn part_of<'a>(model: &'a [u8], script: &'a [u8], refusal: Refusal) -> &'a [u8]
     ensures { result.now ≡ part_of refusal model.now script.now }
 {
-    let start = refusal.start;
-    let end = refusal.end;
-    let holder = refusal.holder;
-    match holder {
-        Holder::Model => part_between(model, start, end),
-        Holder::Script => part_between(script, start, end),
+    match refusal.holder {
+        Holder::Model => part_between(model, refusal.start, refusal.end),
+        Holder::Script => part_between(script, refusal.start, refusal.end),
     }
 }
 
-// The event that a part holds; one of kind 0 where the part is no whole record.
+// No event has kind 0: what stands for a cut or unknown record.
+const NO_EVENT: Event = Event {
+    kind: 0,
+    id: 0,
+    amount: 0,
+};
+
+// The event that a part holds; none where the part is no whole record.
 pub fn event_of(part: &[u8]) -> Event
     ensures { result ≡ event_of part.now }
 {
-    let notation = Notation::Script;
-    if !is_whole(notation, part) {
-        return Event {
-            kind: 0,
-            id: 0,
-            amount: 0,
-        };
+    if !is_whole(Notation::Script, part) {
+        return NO_EVENT;
     }
-    let kind = numbers::byte_at(part, 0);
+    let kind = item_or(part, 0, 0);
     if kind == TICK {
-        let amount = numbers::u32_of_u16(numbers::u16_at(part, 1));
+        let amount = u32::from(numbers::u16_at(part, 1));
         return Event {
-            kind: kind,
+            kind,
             id: 0,
-            amount: amount,
+            amount,
         };
     }
-    let id = numbers::byte_at(part, 1);
+    let id = item_or(part, 1, 0);
     if kind == START {
         let amount = numbers::u32_at(part, 2);
-        return Event {
-            kind: kind,
-            id: id,
-            amount: amount,
-        };
+        return Event { kind, id, amount };
     }
     Event {
-        kind: kind,
-        id: id,
+        kind,
+        id,
         amount: 0,
     }
 }
@@ -334,35 +313,24 @@ pub fn event_at(script: &[u8], at: usize) -> Listed
     ensures { result ≡ listed_at script.now at }
 {
     if script.len() <= at {
-        let none = Event {
-            kind: 0,
-            id: 0,
-            amount: 0,
-        };
         return Listed {
-            event: none,
+            event: NO_EVENT,
             end: at,
         };
     }
-    let notation = Notation::Script;
-    let end = at + part_length_at(notation, script, at);
+    let end = at + part_length_at(Notation::Script, script, at);
     let event = event_of(&script[at..end]);
-    Listed {
-        event: event,
-        end: end,
-    }
+    Listed { event, end }
 }
 
 // The last figure of an event's line: the id, or TICK's n.
 pub fn figure_of(event: Event) -> u32
     ensures { result ≡ figure_of event }
 {
-    let kind = event.kind;
-    if kind == TICK {
+    if event.kind == TICK {
         event.amount
     } else {
-        let id = event.id;
-        id as u32
+        u32::from(event.id)
     }
 }
 
@@ -370,9 +338,6 @@ pub fn figure_of(event: Event) -> u32
 pub fn is_broken(event: Event) -> bool
     ensures { result ≡ is_broken event }
 {
-    let kind = event.kind;
-    let amount = event.amount;
-    let notation = Notation::Script;
-    let size = record_size(notation, kind);
-    (size == 0) | ((kind == TICK) & (amount == 0))
+    let size = record_size(Notation::Script, event.kind);
+    (size == 0) | ((event.kind == TICK) & (event.amount == 0))
 }

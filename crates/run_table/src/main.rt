@@ -6,38 +6,30 @@ ghost use Rattle.listing.specs.Programs.{table_listing};
 ghost use Rattle.table_writer.specs.Wrote.{Wrote};
 ghost use Rattle.command.specs.Shows.{Shows};
 
-use command::{Shown, TOLD, outcome, print_start, read_inputs, tell_refused};
+use command::{Shown, TOLD, run_program, show_listing};
 
 // The run of a table, likewise.
-fn show_table<'a>(rt: &HostRuntime, table: &'a [u8], script: &'a [u8], out: &mut [u8]) -> usize
+fn show_table(rt: &HostRuntime, table: &[u8], script: &[u8], out: &mut [u8]) -> usize
     ensures { Wrote out.old 0 (table_listing table.now script.now) out.new result }
 {
     let mut told = [0usize; TOLD];
     let part = listing_table::table_part(table, script, out, &mut told);
-    let length = told[0];
-    print_start(rt, out, length);
-    tell_refused(rt, b"table.bin", told[1], told[2], told[3], part);
-    length
+    show_listing(rt, b"table.bin", out, told, part)
 }
 
 // The program `run_table`, likewise: a table in the model's place.
 fn table_main(rt: &HostRuntime, table: &mut [u8], script: &mut [u8], out: &mut [u8]) -> Shown
     ensures { Shows table_listing table.new script.new out.old result out.new }
 {
-    let read = read_inputs(
+    run_program(
         rt,
         b"usage: run_table [table.bin [script.bin]]\n",
         b"table.bin",
         table,
         script,
-    );
-    let first = read.model;
-    let second = read.script;
-    if !read.good {
-        return outcome(first, second, false, 0);
-    }
-    let printed = show_table(rt, &table[..first], &script[..second], out);
-    outcome(first, second, true, printed)
+        out,
+        |table, script, out| show_table(rt, table, script, out),
+    )
 }
 
 fn main(rt: HostRuntime) {

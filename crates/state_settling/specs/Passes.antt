@@ -1,10 +1,10 @@
 -- Laws of settling: a pass over a part of a list, and what all passes leave.
 use Rattle.std.specs.Prelude.{◌≡◌, refl, List, [], ◌∷◌, ◌++◌, map, ℕ, zero, suc, ◌+◌, ◌-◌, ◌%◌, ◌<◌, ◌≤◌, get_or, set, take, drop}
-use Rattle.std.proofs.Math.Path.{sym}
-use Rattle.std.proofs.Common.{◌∙◌, ap, append-nil, arith, add-one, length-append, length-drop, drop_of_length-le, take-append-drop, take-suc, drop-cons, take_all, get_or-take, get_or-drop, get_or-append-add, length-take-le, take-add, drop-drop, ne_eqb}
-use Rattle.std.proofs.Math.ListN.{length, length-map, get_or-map, get_or-append}
+use Rattle.std.proofs.Common.{◌∙◌, ap, append-nil, arith, add-one, length-append, length-drop, drop_of_length-le, take-append-drop, take-suc, drop-cons, take_all, get_or-take, get_or-drop, get_or-append-add, length-take-le, take-add, drop-drop, length-set, get_or-set_same, get_or-set_other, ne_eqb, sym, length, ext_get_or}
+use Rattle.std.proofs.Math.Decide.{ℕ_discrete}
+use Rattle.std.proofs.Math.ListN.{length-map, get_or-map, get_or-append}
 use Rattle.std.proofs.lemmas.List.{set_at, get_or_at}
-use Rattle.std.proofs.Math.Seq.{append_snoc, ext_get_or}
+use Rattle.std.proofs.Math.Seq.{append_snoc}
 use Rattle.model_state.specs.Words.{byte_in, mark_in, section}
 use Rattle.state_settling.specs.Words.{mark_number}
 
@@ -60,17 +60,51 @@ module _ (f : ℕ → ℕ) (l : List ℕ) where
   pub all_done : {x : List ℕ} (i : ℕ) → length l ≤ i → x ≡ done_below f i l → x ≡ map f l
   all_done i h e = e ∙ rw (take_all i l h, drop_of_length-le l h) (append-nil (map f l))
 
+get_d_any : {A : Type 0} (l : List A) (i : ℕ) (d e : A) → i < length l → get_or l i d ≡ get_or l i e
+get_d_any [] i d e h = absurd (omega arith)
+get_d_any (a ∷ l) zero d e h = refl
+get_d_any (a ∷ l) (suc i) d e h = get_d_any l i d e (omega arith)
+
+-- ---- a loop that puts for each number one that R allows, of which the first i are put
+pub record SettledBelow (R : ℕ → ℕ → Type 0) (l x : List ℕ) (i : ℕ) : Type 0 where
+  pub size : length x ≡ length l
+  pub done : (k : ℕ) → k < i → R (get_or l k 0) (get_or x k 0)
+  pub rest : (k : ℕ) → i ≤ k → get_or x k 0 ≡ get_or l k 0
+
+abbrev pub EachSettled : (ℕ → ℕ → Type 0) → List ℕ → List ℕ → Type 0
+EachSettled R l x = SettledBelow R l x (length l)
+
+module _ (R : ℕ → ℕ → Type 0) (l : List ℕ) where
+  pub none_settled : SettledBelow R l l 0
+  none_settled = record { size = refl; done = λ k h. absurd (omega arith); rest = λ k h. refl }
+
+  pub one_settled : {x : List ℕ} (i n : ℕ) → SettledBelow R l x i → i < length l → R (get_or x i 0) n → SettledBelow R l (set x i n) (i + 1)
+  one_settled {x} i n s h r = record {
+    size = length-set x i n ∙ s.size;
+    done = λ k b. go k b (ℕ_discrete k i);
+    rest = λ k b. get_or-set_other x i k n 0 (λ z. omega arith) ∙ s.rest k (omega arith);
+  }
+    where
+      go : (k : ℕ) → k < i + 1 → Dec (k ≡ i) → R (get_or l k 0) (get_or (set x i n) k 0)
+      go k b (yes z) = rw (z, get_or-set_same x i n 0 (omega (arith, s.size)), ← s.rest i (omega arith)) r
+      go k b (no z) = rw (get_or-set_other x i k n 0 z) (s.done k (omega arith))
+
+  pub all_settled : {x : List ℕ} (i : ℕ) → i ≤ length l → length l ≤ i → SettledBelow R l x i → EachSettled R l x
+  all_settled i h k s = record { size = s.size; done = λ q b. s.done q (omega arith); rest = λ q b. s.rest q (omega arith) }
+
+-- where R allows one number alone
+pub each_mapped : (f : ℕ → ℕ) {l x : List ℕ} → EachSettled (λ a b. b ≡ f a) l x → x ≡ map f l
+each_mapped f {l} {x} s = ext_get_or 0 x (map f l) (s.size ∙ sym (length-map l f)) at
+  where
+    at : (i : ℕ) → i < length x → get_or x i 0 ≡ get_or (map f l) i 0
+    at i h = s.done i (omega (arith, s.size)) ∙ sym (get_or-map f l i 0) ∙ get_d_any (map f l) i (f 0) 0 (omega (arith, s.size, length-map l f))
+
 -- ---- a part of a list with each number changed: k numbers from a on, which become y
 pub record Passed (f : ℕ → ℕ) (a k : ℕ) (l x : List ℕ) : Type 0 where
   pub size : length x ≡ length l
   pub before : (p : ℕ) → p < a → get_or x p 0 ≡ get_or l p 0
   pub within : (i : ℕ) → i < k → get_or x (a + i) 0 ≡ f (get_or l (a + i) 0)
   pub after : (p : ℕ) → a + k ≤ p → get_or x p 0 ≡ get_or l p 0
-
-get_d_any : {A : Type 0} (l : List A) (i : ℕ) (d e : A) → i < length l → get_or l i d ≡ get_or l i e
-get_d_any [] i d e h = absurd (omega arith)
-get_d_any (a ∷ l) zero d e h = refl
-get_d_any (a ∷ l) (suc i) d e h = get_d_any l i d e (omega arith)
 
 module _ (f : ℕ → ℕ) (a k : ℕ) (l : List ℕ) (h : a + k ≤ length l) where
   pub pass : (y : List ℕ) → y ≡ map f (take k (drop a l)) → Passed f a k l (take a l ++ (y ++ drop k (drop a l)))

@@ -1,8 +1,6 @@
 -- Laws of a settled state: five passes over its narrow numbers leave the numbers of the state.
 use Rattle.std.specs.Prelude.{◌≡◌, List, ◌++◌, map, ℕ, ◌+◌, ◌*◌, ◌<◌, ◌≤◌, get_or, take, drop, length}
-use Rattle.std.proofs.Math.Path.{sym}
-use Rattle.std.proofs.Common.{◌∙◌, ap, arith, take_all, Fits}
-use Rattle.std.proofs.Math.Seq.{take-suc}
+use Rattle.std.proofs.Common.{◌∙◌, ap, arith, take_all, Fits, sym, take-suc}
 use mir.Syntax.{w32}
 use mir.ValLaws.{of_z-to_z}
 use Rattle.model_format.specs.Model.{max_threads, max_inputs, max_outputs, max_locals, max_connections}

@@ -3,10 +3,10 @@
 
 #![tactic(auto)]
 
-ghost use Rattle.std.specs.Prelude.{map, ◌≡◌, length};
+ghost use Rattle.std.specs.Prelude.{◌≡◌, length};
 ghost use Rattle.model_state.specs.Words.{byte_in, state_in, state_words};
 ghost use Rattle.state_settling.specs.Words.{words_of_state};
-ghost use Rattle.state_settling.specs.Passes.{settled_mark};
+ghost use Rattle.state_settling.specs.Passes.{settled_mark, EachSettled};
 
 use model_format::{MAX_CONNECTIONS, MAX_THREADS};
 use model_state::CLOCK_WORDS;
@@ -29,29 +29,25 @@ const LIVE: usize = MISSED + MAX_THREADS;
 
 const INPUT: usize = LIVE + MAX_CONNECTIONS;
 
+fn byte(number: u32) -> u32
+    ensures { result ≡ byte_in number }
+{
+    number % 256
+}
+
 fn mark(number: u32) -> u32
     ensures { result ≡ settled_mark number }
 {
-    if number == 0 { 0 } else { 1 }
+    u32::from(number != 0)
 }
 
-fn settle_bytes(part: &mut [u32])
-    ensures { part.new ≡ map byte_in part.old }
+// Each number of a part, settled.
+fn settle_each<F: Fn(u32) -> u32>(part: &mut [u32], settle: F)
+    requires { F.IsAlwaysCallable settle }
+    ensures { EachSettled (F.post settle) part.old part.new }
 {
-    let mut i: usize = 0;
-    while i < part.len() {
-        part[i] = part[i] % 256;
-        i += 1;
-    }
-}
-
-fn settle_marks(part: &mut [u32])
-    ensures { part.new ≡ map settled_mark part.old }
-{
-    let mut i: usize = 0;
-    while i < part.len() {
-        part[i] = mark(part[i]);
-        i += 1;
+    for number in part.iter_mut() {
+        *number = settle(*number);
     }
 }
 
@@ -59,9 +55,9 @@ pub fn settle_state(state: &mut [u32])
     requires { length state.old ≡ state_words }
     ensures { state.new ≡ words_of_state (state_in state.old) }
 {
-    settle_bytes(&mut state[MODE..ACTIVE]);
-    settle_marks(&mut state[ACTIVE..CODE]);
-    settle_bytes(&mut state[CODE..DISPATCHED]);
-    settle_bytes(&mut state[BEHAVIOR..MISSED]);
-    settle_marks(&mut state[LIVE..INPUT]);
+    settle_each(&mut state[MODE..ACTIVE], byte);
+    settle_each(&mut state[ACTIVE..CODE], mark);
+    settle_each(&mut state[CODE..DISPATCHED], byte);
+    settle_each(&mut state[BEHAVIOR..MISSED], byte);
+    settle_each(&mut state[LIVE..INPUT], mark);
 }

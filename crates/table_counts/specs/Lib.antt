@@ -1,3 +1,4 @@
 pub mod Bounds
 pub mod Loops
 pub mod Noted
+pub mod Chains

@@ -6,7 +6,7 @@ use Rattle.translation_sizes.specs.Sums.{sum_below}
 use Rattle.translation_sizes.specs.SumLaws.{sum_most}
 use Rattle.translation_sizes.specs.declared.Counts.{Counts}
 use Rattle.translation_sizes.specs.Counts.{nothing, ◌and◌, count_below}
-use Rattle.table_counts.specs.Bounds.{AtMost, item_most, kind_most, most, Small, at_most, kind_most_lem}
+use Rattle.table_counts.specs.Bounds.{AtMost, item_most, kind_most, most, Small, at_most, and_most, kind_most_lem}
 
 -- x is what the first i of n items add
 pub record Counting (f : ℕ → Counts) (n i : ℕ) (x : Counts) : Type 0 where
@@ -30,6 +30,29 @@ module _ (f : ℕ → Counts) (n : ℕ) {x : Counts} where
 
     pub counting_ends : (k : ℕ) → n ≡ k → n ≤ i → x ≡ count_below k f
     counting_ends k e l = let w = h.within in let q : i ≡ k = omega arith in rw (← q) h.counted
+
+-- x is what the first i of n items add, where `gives k y` says that item k may add y: whatever f is that each item adds, they add it together.
+abbrev pub AddsUp : (ℕ → Counts → Type 0) → ℕ → ℕ → Counts → Type 0
+AddsUp gives n i x = (f : ℕ → Counts) → ((k : ℕ) (y : Counts) → k < n → gives k y → y ≡ f k) → x ≡ count_below i f
+
+pub record Adding (gives : ℕ → Counts → Type 0) (n i : ℕ) (x : Counts) : Type 0 where
+  pub small : AtMost (i * item_most) x
+  pub sums : AddsUp gives n i x
+
+module _ (gives : ℕ → Counts → Type 0) (n : ℕ) {x : Counts} where
+  pub adding_begins : x ≡ nothing → Adding gives n 0 x
+  adding_begins e = record { small = rw e (record { rules = omega arith; clauses = omega arith; atoms = omega arith; updates = omega arith }); sums = λ f h. e ∙ sym (fold_zero (λ i y. y and f i) nothing) }
+
+  module _ {i : ℕ} (h : Adding gives n i x) (l : i < n) {y : Counts} (b : AtMost item_most y) where
+    -- the sum and what the next item adds can be added
+    pub adding_adds : n ≤ item_most → Small x × Small y
+    adding_adds few = let k : i ≤ item_most = omega arith in (at_most (i * item_most) most x (omega arith) h.small, at_most item_most most y (omega arith) b)
+
+    pub adding_next : {z : Counts} → gives i y → z ≡ x and y → Adding gives n (i + 1) z
+    adding_next g q = record {
+      small = rw q (at_most (i * item_most + item_most) ((i + 1) * item_most) (x and y) (omega arith) (and_most (i * item_most) item_most x y h.small b));
+      sums = λ f a. q ∙ rw (h.sums f a, a i y l g) (sym (fold_next i (λ k r. r and f k) nothing));
+    }
 
 -- the same of numbers, each at most 2
 pub record Summing (f : ℕ → ℕ) (n i x : ℕ) : Type 0 where

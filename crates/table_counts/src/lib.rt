@@ -5,5 +5,5 @@
 mod counts;
 mod transitions;
 
-pub use counts::{add, count, nothing};
+pub use counts::{add, count, nothing, sum_counts};
 pub use transitions::transitions_counts;

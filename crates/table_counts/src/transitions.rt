@@ -11,7 +11,7 @@ ghost use Rattle.table_counts.specs.Noted.{place_of, Noted, Sent};
 use crate::counts::{add, count, nothing};
 use model_format::{IMMEDIATE, MAX_THREADS, Transition};
 use model_words::{connection_at, connections, output_owner, transition_at, transitions};
-use numbers::{put_word, usize_of_u8, usize_of_u32, word_at};
+use numbers::{item_or, put_item};
 use translation_sizes::Counts;
 
 // A thread has so many behaviour states; places for all threads and states.
@@ -23,7 +23,7 @@ const PLACES: usize = MAX_THREADS * STATES;
 fn place_of(transition: Transition) -> usize
     ensures { result ≡ place_of transition }
 {
-    usize_of_u8(transition.thread) * STATES + usize_of_u8(transition.from)
+    usize::from(transition.thread) * STATES + usize::from(transition.from)
 }
 
 fn note_transition(noted: &mut [u32], model: &[u32], k: usize)
@@ -32,10 +32,10 @@ fn note_transition(noted: &mut [u32], model: &[u32], k: usize)
 {
     let transition = transition_at(model, k);
     let place = place_of(transition);
-    let seen = word_at(noted, place);
-    let atoms = word_at(noted, PLACES + place);
-    put_word(noted, place, seen + 1);
-    put_word(noted, PLACES + place, atoms + (transition.atoms as u32));
+    let seen = item_or(noted, place, 0);
+    let atoms = item_or(noted, PLACES + place, 0);
+    put_item(noted, place, seen + 1);
+    put_item(noted, PLACES + place, atoms + (transition.atoms as u32));
 }
 
 // Connection c, where it is immediate, for the thread that it comes from.
@@ -44,24 +44,20 @@ fn note_sent(sent: &mut [u32], model: &[u32], c: usize)
     ensures { Sent (timing_in model.now) (c + 1) sent.new }
 {
     let connection = connection_at(model, c);
-    let kind = connection.kind;
-    if kind != IMMEDIATE {
+    if connection.kind != IMMEDIATE {
         return;
     }
-    let owner = usize_of_u8(output_owner(model, connection.source as usize));
-    let sends = word_at(sent, owner);
-    put_word(sent, owner, sends + 1);
+    let owner = usize::from(output_owner(model, connection.source as usize));
+    let sends = item_or(sent, owner, 0);
+    put_item(sent, owner, sends + 1);
 }
 
 fn list_sent(sent: &mut [u32], model: &[u32])
     requires { GoodTiming (timing_in model.now) × Sent (timing_in model.now) 0 sent.old }
     ensures { Sent (timing_in model.now) (timing_in model.now).connections sent.new }
 {
-    let n = connections(model);
-    let mut c: usize = 0;
-    while c < n {
+    for c in 0..connections(model) {
         note_sent(sent, model, c);
-        c += 1;
     }
 }
 
@@ -72,11 +68,11 @@ fn transition_counts(noted: &[u32], sent: &[u32], model: &[u32], k: usize) -> Co
 {
     let transition = transition_at(model, k);
     let place = place_of(transition);
-    let earlier = usize_of_u32(word_at(noted, place));
-    let earlier_atoms = usize_of_u32(word_at(noted, PLACES + place));
-    let sends = usize_of_u32(word_at(sent, usize_of_u8(transition.thread)));
-    let atoms = usize_of_u8(transition.atoms);
-    let assignments = usize_of_u8(transition.assignments);
+    let earlier = item_or(noted, place, 0) as usize;
+    let earlier_atoms = item_or(noted, PLACES + place, 0) as usize;
+    let sends = item_or(sent, usize::from(transition.thread), 0) as usize;
+    let atoms = usize::from(transition.atoms);
+    let assignments = usize::from(transition.assignments);
     count(
         1,
         4 + atoms + earlier,
@@ -89,14 +85,11 @@ fn add_transitions(noted: &mut [u32], sent: &[u32], model: &[u32]) -> Counts
     requires { WellFormed (model_in model.now) × (Noted (behavior_in model.now) 0 noted.old × Sent (timing_in model.now) (timing_in model.now).connections sent.now) }
     ensures { result ≡ count_below (behavior_in model.now).transitions (transition_counts (model_in model.now)) }
 {
-    let n = transitions(model);
     let mut sum = nothing();
-    let mut k: usize = 0;
-    while k < n {
+    for k in 0..transitions(model) {
         let own = transition_counts(noted, sent, model, k);
         sum = add(sum, own);
         note_transition(noted, model, k);
-        k += 1;
     }
     sum
 }

@@ -1,8 +1,9 @@
 -- From what a walk over the rules has seen to what a caller is told, and to the numbers that the caller gets.
-use Rattle.std.specs.Prelude.{◌≡◌, refl, Bool, ◌&&◌, not, List, [], ℕ, suc, ◌+◌, ◌-◌, ◌*◌, ◌/◌, ◌<◌, ◌≤◌, get_or, set, length, take, drop}
+use Rattle.std.specs.Prelude.{◌≡◌, refl, Bool, ◌&&◌, not, List, ◌++◌, ℕ, suc, ◌+◌, ◌-◌, ◌*◌, ◌/◌, ◌<◌, ◌≤◌, get_or, set, length, take, drop}
 use Rattle.std.proofs.Common.{sym, ◌∙◌, ap, arith, add-one, drop-cons, take_at}
 use Rattle.std.proofs.Math.Nat.{sub-zero}
 use Rattle.std.proofs.lemmas.List.Edits.{sets, sets-eq}
+use Rattle.std.proofs.lemmas.List.{length-take-le}
 use Rattle.numbers.specs.Values.{natural, less_value}
 use Rattle.records.specs.declared.Cause.TheVariants.{None, ShortOutput}
 use Rattle.records.specs.Events.{last_clock}
@@ -32,6 +33,13 @@ copy_next l n d i h k =
 
 pub copy_end : (l : List ℕ) (n : ℕ) (d : List ℕ) (i : ℕ) → n ≤ i → d ≡ copied_from l n d i
 copy_end l n d i h = let a : n - i ≡ 0 = omega arith in rw a
+
+-- by the library's copy
+pub copied_front : (l d r : List ℕ) (n : ℕ) → n ≤ length l → n ≤ length d → r ≡ take n l → r ++ drop n d ≡ sets d 0 (take n l)
+copied_front l d r n h k e =
+    let f : length (take n l) ≡ n = length-take-le n l h in
+    let z : 0 + length (take n l) ≡ n = omega (arith, f) in
+    rw e (sym (sets-eq (take n l) d 0 (omega (arith, f)) ∙ rw z))
 
 -- ---- what is told
 front : (d l : List ℕ) → length l ≤ length d → take (length l) (sets d 0 l) ≡ l

@@ -1,9 +1,6 @@
 -- Walks over rules that list the events of the enabled ones: by the words of an index, and record by record.
 use Rattle.std.specs.Prelude.{◌≡◌, refl, Bool, cond, ℕ, ◌+◌, ◌-◌, ◌*◌, ◌/◌, ◌<◌, ◌≤◌, min, get_or, length, take, drop}
-use Rattle.std.proofs.Common.{sym, ◌∙◌, ap}
-use Rattle.std.proofs.Math.Bool.{true, false}
-use mathlib.Core.List.{List, [], ◌∷◌, ◌++◌, append-nil, append_assoc}
-use native.Mathlib.Omega.{arith}
+use Rattle.std.proofs.Common.{sym, ◌∙◌, ap, true, false, List, [], ◌∷◌, ◌++◌, append-nil, append_assoc, arith}
 use Rattle.numbers.specs.declared.Value.{Value}
 use Rattle.numbers.specs.Lists.{only}
 use Rattle.records.specs.declared.Notation.TheVariants as notations
@@ -19,7 +16,7 @@ use Rattle.table_rules.specs.At.{head_in, clauses_at, rule_at, rules_from}
 use Rattle.table_index.specs.Index.{is_listed, listed, rules_in, listed_in, words_in, rules_by}
 use Rattle.table_index.specs.Guards.{may_hold}
 use Rattle.table_index.specs.IndexLaws.{words_same}
-use Rattle.table_index.specs.Listed.{guard_disables, dropped}
+use Rattle.table_index.specs.Listed.{guard_disables, dropped, IsPair}
 use Rattle.table_offers.specs.declared.Seen.{Seen}
 use Rattle.table_offers.specs.Adds.{Told, GoesOn, Adds}
 use Rattle.table_offers.specs.OneMore.{told_none, goes_none, goes_then, goes_disabled}
@@ -65,6 +62,21 @@ words_next s d i h = rw (dropped d i h) (go (is_listed s (get_or d i 0) (get_or 
     go : (b : Bool) → cond b (r ∷ listed s (drop (i + 2) d)) (listed s (drop (i + 2) d)) ≡ only b r ++ listed s (drop (i + 2) d)
     go true = refl
     go false = refl
+
+-- the same, two words x at a time: u are those that are left, then w
+pub words_pair : (s u w x : List ℕ) → IsPair u x w → listed s u ≡ rule_listed s (get_or x 0 0) (get_or x 1 0) ++ listed s w
+unfolding listed rule_listed
+words_pair s u w x i = rw i.words (go (is_listed s (get_or x 0 0) (get_or x 1 0)))
+  where
+    r : Rule
+    r = rule_at s (get_or x 0 0 / 65536 + 11) (head_in s (get_or x 0 0 / 65536))
+
+    go : (b : Bool) → cond b (r ∷ listed s w) (listed s w) ≡ only b r ++ listed s w
+    go true = refl
+    go false = refl
+
+pub pair_size : (u w x : List ℕ) → IsPair u x w → length u ≡ length w + 2
+pair_size u w x i = ap length i.words ∙ omega arith
 
 module _ (s : List ℕ) (v : List Value) (w g : ℕ) (t : Seen) (d : List ℕ) where
   looks_unless : (is_listed s w g ≡ true → all_hold v (clauses_at s (w / 65536 + 11)) ≡ false) → Looks v (rule_listed s w g) t d t d
@@ -153,3 +165,11 @@ module _ (s d : List ℕ) (from n : ℕ) (e : from ≡ min 2 (length d)) (f : n 
       let z : Seen = record { count = 0; busy = false } in
       rw (← q)
       ((goes_then v z o (listed s (take (from + 2 * n - from) (drop from d))) (rules_from s rest) t o' t' o'' a b).goes [] o (told_none v o))
+
+-- the same, by the words and the place as they are made of the index
+pub told_new : (s d words : List ℕ) (rest : ℕ) → words ≡ words_in d → rest ≡ get_or d 1 0 → (v : List Value) (o : List ℕ) (t : Seen) (o' : List ℕ) (t' : Seen) (o'' : List ℕ) →
+    GoesOn v (listed s words) (record { count = 0; busy = false }) o t o' → GoesOn v (rules_from s rest) t o' t' o'' → Told v (rules_by s d) o t' o''
+unfolding rules_by
+told_new s d words rest e f v o t o' t' o'' a b =
+    let z : Seen = record { count = 0; busy = false } in
+    rw (← e, ← f) ((goes_then v z o (listed s words) (rules_from s rest) t o' t' o'' a b).goes [] o (told_none v o))

@@ -17,9 +17,9 @@ ghost use Rattle.table_enabled.specs.EnabledBy.{offers_in, may_tick_in, enabled_
 ghost use Rattle.table_enabled.specs.Walk.{Looks, rule_listed, rules_of};
 
 use enabled::Enabled;
-use records::{Cause, LAST_CLOCK, Notation, RULE_SIZE, TABLE_RULE};
+use records::{Cause, LAST_CLOCK, Notation, Parts, RULE_SIZE, TABLE_RULE};
 use table_format::VARIABLES;
-use table_index::{KEYS, WORDS};
+use table_index::{KEYS, Rules};
 use table_offers::{OFFER, Seen};
 
 // The variable that is the clock.
@@ -57,15 +57,10 @@ fn look_words(table: &[u8], words: &[usize], bits: &[u32], output: &mut [u32]) -
         count: 0,
         busy: false,
     };
-    let mut at: usize = 0;
-    while at + 1 < words.len() {
-        let guard = words[at + 1];
-        if !table_index::may_hold(bits, guard) {
-            at += 2;
-            continue;
+    for pair in words.chunks_exact(2) {
+        if table_index::may_hold(bits, pair[1]) {
+            seen = look_listed(table, bits, output, seen, pair[0], pair[1]);
         }
-        seen = look_listed(table, bits, output, seen, words[at], guard);
-        at += 2;
     }
     seen
 }
@@ -97,13 +92,8 @@ fn look_from(table: &[u8], from: usize, bits: &[u32], output: &mut [u32], before
     ensures { GoesOn (values bits.now) (rules_from table.now from) before output.old result output.new }
 {
     let mut seen = before;
-    let mut at: usize = from;
-    while at < table.len() {
-        let notation = Notation::Table;
-        let size = records::part_length_at(notation, table, at);
-        let next = at + size;
-        seen = look_record(table, bits, output, seen, next, &table[at..next]);
-        at = next;
+    for part in Parts::new(Notation::Table, table, from) {
+        seen = look_record(table, bits, output, seen, part.end, part.bytes);
     }
     seen
 }
@@ -112,11 +102,9 @@ fn look_from(table: &[u8], from: usize, bits: &[u32], output: &mut [u32], before
 fn look(table: &[u8], index: &[usize], bits: &[u32], output: &mut [u32]) -> Seen
     ensures { Told (values bits.now) (rules_by table.now index.now) output.old result output.new }
 {
-    let from = table_index::fewer(WORDS, index.len());
-    let end = from + 2 * table_index::listed_in(index);
-    let rest = table_index::rest_in(index);
-    let seen = look_words(table, &index[from..end], bits, output);
-    look_from(table, rest, bits, output, seen)
+    let all = Rules::new(table, index);
+    let seen = look_words(table, all.words, bits, output);
+    look_from(table, all.rest, bits, output, seen)
 }
 
 // ---- what is told
@@ -127,20 +115,14 @@ const HELD: usize = 256;
 fn is_before_last(bits: &[u32]) -> bool
     ensures { result ≡ less_value (machine.now_in (values bits.now)) (natural last_clock) }
 {
-    let last = numbers::value_of(LAST_CLOCK);
-    let clock = table_rules::value_in(bits, CLOCK);
-    numbers::less(clock, last)
+    table_rules::value_in(bits, CLOCK) < numbers::value_of(LAST_CLOCK)
 }
 
 fn copy_front(list: &[u32], count: usize, output: &mut [u32])
     requires { (count ≤ length list.now) × (count ≤ length output.old) }
     ensures { output.new ≡ sets output.old 0 (take count list.now) }
 {
-    let mut at: usize = 0;
-    while at < count {
-        output[at] = list[at];
-        at += 1;
-    }
+    output[..count].copy_from_slice(&list[..count]);
 }
 
 // The same by as many variables as there are.
@@ -152,27 +134,26 @@ fn enabled_on(table: &[u8], index: &[usize], bits: &[u32], output: &mut [u32]) -
     let count = seen.count;
     let tick = !seen.busy & is_before_last(bits);
     if output.len() / OFFER < count {
-        let short = Cause::ShortOutput;
         return Enabled {
-            answer: short,
-            count: count,
-            tick: tick,
+            answer: Cause::ShortOutput,
+            count,
+            tick,
         };
     }
     let answer = Cause::None;
     if count <= HELD / OFFER {
         copy_front(&held, OFFER * count, output);
         return Enabled {
-            answer: answer,
-            count: count,
-            tick: tick,
+            answer,
+            count,
+            tick,
         };
     }
     look(table, index, bits, output);
     Enabled {
-        answer: answer,
-        count: count,
-        tick: tick,
+        answer,
+        count,
+        tick,
     }
 }
 
@@ -182,9 +163,8 @@ pub fn enabled_in(table: &[u8], index: &[usize], variables: &[u32], output: &mut
     ensures { (result ≡ enabled_by table.now index.now variables.now (length output.old)) × (output.new ≡ list_by table.now index.now variables.now output.old) }
 {
     if variables.len() < VARIABLES {
-        let short = Cause::ShortOutput;
         return Enabled {
-            answer: short,
+            answer: Cause::ShortOutput,
             count: 0,
             tick: false,
         };

@@ -1,8 +1,7 @@
 -- What the tests of fields tell: one law for each way in which the code returns.
 use Rattle.std.specs.Prelude.{◌≡◌, Bool, true, false, ◌&&◌, ℕ, ◌<◌, ◌≤◌, eqb, ltb, ℤ, pos}
-use Rattle.std.proofs.Common.{sym, ◌∙◌}
+use Rattle.std.proofs.Common.{sym, ◌∙◌, ne_eqb, lt-ltb, le-ltb}
 use Rattle.std.specs.Int.Signed.{lt_z, le_z}
-use borrow.Author.Tests.{ne_eqb, lt-ltb, le-ltb}
 use Rattle.numbers.specs.Values.{bits_of}
 use Rattle.records.specs.declared.Cause.{Cause}
 use Rattle.records.specs.declared.Operand.{Operand}

@@ -10,7 +10,7 @@ ghost use Rattle.table_format.specs.RuleKinds.{has_rules};
 ghost use Rattle.table_format.specs.Reading.{names_variable, operand_fits, initial_fits, longest_length, head_fits, atom_fits, update_fits, operand_names, initial_names, atom_names, update_names, judged, cause_of, next_context, read_table};
 
 use numbers::Value;
-use records::{ACTIVATE, Cause, LEAVE, Notation, Operand, Refusal, START};
+use records::{ACTIVATE, Cause, LEAVE, Notation, Operand, Parts, Refusal, START};
 use table_format::{
     Atom, CONSTANT_TAG, Context, InitialValue, LENGTH_TAG, LONGEST_TABLE, MULTIPLE_OF,
     NO_MULTIPLE_OF, NO_VARIABLE, Record, RuleHead, Update, VARIABLE_TAG,
@@ -36,40 +36,32 @@ fn is_variable(number: u32) -> bool
 fn is_natural(value: Value) -> bool
     ensures { result ≡ le_z (pos 0) value.0 }
 {
-    let number = value.0;
-    0 <= number
+    0 <= value.0
 }
 
 // The number of a variable that is there.
 fn names_variable(value: Value) -> bool
     ensures { result ≡ names_variable value.0 }
 {
-    let number = numbers::bits(value);
-    let there = is_variable(number);
-    is_natural(value) & there
+    is_natural(value) & is_variable(numbers::bits(value))
 }
 
 // `may_choose`: the operand may be the chosen length.
 fn operand_fits(may_choose: bool, operand: Operand) -> bool
     ensures { result ≡ operand_fits may_choose operand }
 {
-    let tag = operand.tag;
-    if tag == CONSTANT_TAG {
-        return true;
+    match operand.tag {
+        CONSTANT_TAG => true,
+        VARIABLE_TAG => names_variable(operand.value),
+        tag => may_choose & (tag == LENGTH_TAG),
     }
-    if tag == VARIABLE_TAG {
-        let value = operand.value;
-        return names_variable(value);
-    }
-    may_choose & (tag == LENGTH_TAG)
 }
 
 fn initial_fits(least: u32, initial: InitialValue) -> bool
     ensures { result ≡ initial_fits least initial }
 {
     let variable = initial.variable as u32;
-    let there = is_variable(variable);
-    (least <= variable) & there
+    (least <= variable) & is_variable(variable)
 }
 
 // The greatest length that a rule of a kind may allow.
@@ -88,46 +80,37 @@ fn has_rules(kind: u8) -> bool
 fn head_fits(head: RuleHead) -> bool
     ensures { result ≡ head_fits head }
 {
-    let kind = head.kind;
-    let low = head.low;
-    let high = head.high;
-    let limit = longest(kind);
-    let known = has_rules(kind);
-    known & ((low <= high) & (high <= limit))
+    has_rules(head.kind) & ((head.low <= head.high) & (head.high <= longest(head.kind)))
 }
 
 fn above_zero(value: Value) -> bool
     ensures { result ≡ lt_z (pos 0) value.0 }
 {
-    let number = value.0;
-    0 < number
+    0 < value.0
 }
 
 fn atom_fits(atom: Atom) -> bool
     ensures { result ≡ atom_fits atom }
 {
-    let op = atom.op;
-    let variable = atom.variable;
-    let right = atom.right;
-    let there = is_variable(variable as u32);
+    let Atom { op, right, .. } = atom;
+    let there = is_variable(atom.variable as u32);
     if op < MULTIPLE_OF {
-        let fits = operand_fits(false, right);
-        return (op < ATOM_OPS) & (there & fits);
+        return (op < ATOM_OPS) & (there & operand_fits(false, right));
     }
-    let tag = right.tag;
-    let value = right.value;
-    let fits = above_zero(value);
-    (op < ATOM_OPS) & (there & ((tag == CONSTANT_TAG) & fits))
+    (op < ATOM_OPS) & (there & ((right.tag == CONSTANT_TAG) & above_zero(right.value)))
 }
 
 fn update_fits(kind: u8, update: Update) -> bool
     ensures { result ≡ update_fits kind update }
 {
-    let condition = update.condition;
-    let target = update.target;
-    let op = update.op;
-    let first = update.first;
-    let second = update.second;
+    let Update {
+        condition,
+        target,
+        op,
+        first,
+        second,
+        ..
+    } = update;
     let condition_there = is_variable(condition as u32);
     let target_there = is_variable(target as u32);
     let first_fits = operand_fits(kind == START, first);
@@ -140,35 +123,27 @@ fn update_fits(kind: u8, update: Update) -> bool
 fn operand_names(operand: Operand) -> bool
     ensures { result ≡ operand_names operand }
 {
-    let tag = operand.tag;
-    let value = operand.value;
-    let names = names_variable(value);
-    (tag != VARIABLE_TAG) | names
+    (operand.tag != VARIABLE_TAG) | names_variable(operand.value)
 }
 
 fn atom_names(atom: Atom) -> bool
     ensures { result ≡ atom_names atom }
 {
     let op = atom.op;
-    let variable = atom.variable;
-    let right = atom.right;
-    let there = is_variable(variable as u32);
-    let names = operand_names(right);
+    let there = is_variable(atom.variable as u32);
+    let names = operand_names(atom.right);
     there & (((op == MULTIPLE_OF) | (op == NO_MULTIPLE_OF)) | names)
 }
 
 fn update_names(update: Update) -> bool
     ensures { result ≡ update_names update }
 {
-    let condition = update.condition;
-    let target = update.target;
-    let first = update.first;
-    let second = update.second;
-    let condition_there = is_variable(condition as u32);
-    let target_there = is_variable(target as u32);
-    let first_names = operand_names(first);
-    let second_names = operand_names(second);
-    ((condition == NO_VARIABLE) | condition_there) & (target_there & (first_names & second_names))
+    let condition_there = is_variable(update.condition as u32);
+    let target_there = is_variable(update.target as u32);
+    let first_names = operand_names(update.first);
+    let second_names = operand_names(update.second);
+    ((update.condition == NO_VARIABLE) | condition_there)
+        & (target_there & (first_names & second_names))
 }
 
 // ---- order
@@ -194,9 +169,7 @@ fn initial_cause(in_order: bool, least: u32, initial: InitialValue) -> Cause
     if initial_fits(least, initial) {
         return judged(in_order, true, true);
     }
-    let variable = initial.variable;
-    let names = is_variable(variable as u32);
-    judged(in_order, names, false)
+    judged(in_order, is_variable(initial.variable as u32), false)
 }
 
 fn atom_cause(in_order: bool, atom: Atom) -> Cause
@@ -205,8 +178,7 @@ fn atom_cause(in_order: bool, atom: Atom) -> Cause
     if atom_fits(atom) {
         return judged(in_order, true, true);
     }
-    let names = atom_names(atom);
-    judged(in_order, names, false)
+    judged(in_order, atom_names(atom), false)
 }
 
 fn update_cause(in_order: bool, kind: u8, update: Update) -> Cause
@@ -215,8 +187,7 @@ fn update_cause(in_order: bool, kind: u8, update: Update) -> Cause
     if update_fits(kind, update) {
         return judged(in_order, true, true);
     }
-    let names = update_names(update);
-    judged(in_order, names, false)
+    judged(in_order, update_names(update), false)
 }
 
 fn cause_of(context: Context, found: Record) -> Cause
@@ -225,10 +196,7 @@ fn cause_of(context: Context, found: Record) -> Cause
     let place = context.place;
     match found {
         Record::Initial(initial) => initial_cause(place == 0, context.least, initial),
-        Record::Head(head) => {
-            let fits = head_fits(head);
-            judged(true, true, fits)
-        }
+        Record::Head(head) => judged(true, true, head_fits(head)),
         Record::Clause => judged((place == 1) | (place == 2), true, true),
         Record::Atomic(atom) => atom_cause(place == 2, atom),
         Record::Change(update) => update_cause(0 < place, context.kind, update),
@@ -237,32 +205,33 @@ fn cause_of(context: Context, found: Record) -> Cause
     }
 }
 
-fn placed(place: u8, least: u32, kind: u8) -> Context
-    ensures { result ≡ record { place = place; least = least; kind = kind } }
-{
-    Context {
-        place: place,
-        least: least,
-        kind: kind,
-    }
-}
-
 // Where the reader stands after a record.
 fn next_context(context: Context, found: Record) -> Context
     ensures { result ≡ next_context context found }
 {
     match found {
-        Record::Initial(initial) => {
-            let variable = initial.variable;
-            placed(0, (variable as u32) + 1, context.kind)
-        }
-        Record::Head(head) => {
-            let kind = head.kind;
-            placed(1, context.least, kind)
-        }
-        Record::Clause => placed(2, context.least, context.kind),
-        Record::Atomic(_) => placed(2, context.least, context.kind),
-        Record::Change(_) => placed(3, context.least, context.kind),
+        Record::Initial(initial) => Context {
+            place: 0,
+            least: initial.variable as u32 + 1,
+            ..context
+        },
+        Record::Head(head) => Context {
+            place: 1,
+            kind: head.kind,
+            ..context
+        },
+        Record::Clause => Context {
+            place: 2,
+            ..context
+        },
+        Record::Atomic(_) => Context {
+            place: 2,
+            ..context
+        },
+        Record::Change(_) => Context {
+            place: 3,
+            ..context
+        },
         Record::Cut => context,
         Record::Unknown => context,
     }
@@ -275,19 +244,18 @@ pub fn read_table(table: &[u8]) -> Refusal
     if LONGEST_TABLE < table.len() {
         return records::in_model(Cause::TooMany, 0, table.len());
     }
-    let mut context = placed(0, 1, 0);
-    let mut at: usize = 0;
-    while at < table.len() {
-        let notation = Notation::Table;
-        let size = records::part_length_at(notation, table, at);
-        let next = at + size;
-        let found = table_format::record_of(&table[at..next]);
+    let mut context = Context {
+        place: 0,
+        least: 1,
+        kind: 0,
+    };
+    for part in Parts::new(Notation::Table, table, 0) {
+        let found = table_format::record_of(part.bytes);
         let cause = cause_of(context, found);
         if !records::is_none(cause) {
-            return records::in_model(cause, at, next);
+            return records::in_model(cause, part.start, part.end);
         }
         context = next_context(context, found);
-        at = next;
     }
     records::no_refusal()
 }

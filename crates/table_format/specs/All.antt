@@ -1,7 +1,6 @@
 -- A fact for every element of a list, and its laws for lists that are made of lists.
 use Rattle.std.specs.Prelude.{◌≡◌, refl, Bool, true, false, cond, List, [], ◌∷◌, ◌++◌, get_or, set, replicate, ltb}
-use Prim.Native.Nat.{ℕ, zero, suc, ◌<◌}
-use Rattle.std.proofs.Common.{arith}
+use Rattle.std.proofs.Common.{ℕ, zero, suc, ◌<◌, arith}
 use Rattle.numbers.specs.Lists.{item, store, fold_below, join_below, only}
 
 -- every element of the list has P

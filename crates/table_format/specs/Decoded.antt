@@ -1,10 +1,7 @@
 -- What a part holds: the fields that the code reads are those of the record, and the record is known by its kind.
 use Rattle.std.specs.Prelude.{◌≡◌, Bool, cond, List, get_or, length, eqb, ltb}
-use Rattle.std.proofs.Math.Path.{refl, ap}
-use Rattle.std.proofs.Common.{sym, ◌∙◌, arith}
-use Rattle.std.proofs.Math.Bool.{true, false}
-use Prim.Native.Nat.{ℕ, ◌<◌, ◌≤◌}
-use borrow.Author.Tests.{ne_eqb, lt-ltb, le-ltb, eqb-true, eqb-false}
+use Rattle.std.proofs.Common.{refl, ap, sym, ◌∙◌, arith, true, false, ℕ, ◌<◌, ◌≤◌, ne_eqb, lt-ltb, le-ltb, eqb-true}
+use borrow.Author.Tests.{eqb-false}
 use Rattle.numbers.specs.declared.Value.{Value}
 use Rattle.numbers.specs.Values.{u16_at, u32_at, value_at}
 use Rattle.records.specs.declared.Notation.TheVariants as notations
@@ -128,3 +125,12 @@ module _ (x : List ℕ) where
 
     pub is_head_lem : k ≡ 33 → (y : RuleHead) → y ≡ head_of x → record_of x ≡ Head y
     is_head_lem f y g = by_kind 33 (sym f ∙ e) (omega arith) ∙ ap Head (sym g)
+
+    pub is_clause : k ≡ 34 → record_of x ≡ Clause
+    is_clause f = by_kind 34 (sym f ∙ e) (omega arith)
+
+    pub is_atom : k ≡ 35 → record_of x ≡ Atomic (atom_of x)
+    is_atom f = by_kind 35 (sym f ∙ e) (omega arith)
+
+    pub is_update : k ≡ 36 → record_of x ≡ Change (update_of x)
+    is_update f = by_kind 36 (sym f ∙ e) (omega arith)

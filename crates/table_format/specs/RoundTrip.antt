@@ -1,14 +1,9 @@
 -- A table's bytes are read without refusal, and stand for the table.
 use Rattle.std.specs.Prelude.{◌≡◌, ◌||◌, length, ℤ}
-use Rattle.std.proofs.Math.Path.{refl}
-use Rattle.std.proofs.Common.{◌∙◌, ap, arith, SFits}
-use Rattle.std.proofs.Math.Bool.{true}
-use mathlib.Core.List.{List, [], ◌∷◌}
-use Prim.Native.Nat.{ℕ, zero, suc, ◌+◌, ◌*◌, ◌/◌, ◌%◌, ◌^◌, ◌<◌}
-use Rattle.std.proofs.Math.Dec.{eqb, ltb}
+use Rattle.std.proofs.Common.{refl, ◌∙◌, ap, arith, SFits, true, List, [], ◌∷◌, ℕ, zero, suc, ◌+◌, ◌*◌, ◌/◌, ◌%◌, ◌^◌, ◌<◌, eqb, ltb, le-ltb, lt-ltb}
+use Rattle.std.proofs.lemmas.Int.{to_z-of_z}
 use Rattle.std.specs.Int.{w32}
-use mir.ValLaws.{to_z-of_z, of_z_fits}
-use borrow.Author.Tests.{le-ltb, lt-ltb}
+use mir.ValLaws.{of_z_fits}
 use Rattle.numbers.specs.Values.{signed, bits_of}
 use Rattle.records.specs.declared.Notation.TheVariants as notations
 use Rattle.records.specs.declared.Cause.TheVariants.{None}

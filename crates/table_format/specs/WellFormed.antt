@@ -1,10 +1,7 @@
 -- What a table has whose bytes are accepted and stand for it: each number in its range, and in the bytes that it has.
 use Rattle.std.specs.Prelude.{◌≡◌, Bool, true, false, cond, ◌&&◌, ◌||◌, length, eqb, ltb, leb, pos}
-use Rattle.std.proofs.Math.Path.{refl}
-use Rattle.std.proofs.Common.{sym, ◌∙◌, arith, SFits, le-leb, ltb-true, leb-true, eqb-true}
+use Rattle.std.proofs.Common.{refl, sym, ◌∙◌, arith, SFits, le-leb, ltb-true, leb-true, eqb-true, List, [], ◌∷◌, ◌++◌, append-nil, ℕ, zero, suc, ◌+◌, ◌^◌, ◌<◌, ◌≤◌}
 use Rattle.std.proofs.lemmas.Bool.{false≢true}
-use mathlib.Core.List.{List, [], ◌∷◌, ◌++◌, append-nil}
-use Prim.Native.Nat.{ℕ, zero, suc, ◌+◌, ◌^◌, ◌<◌, ◌≤◌}
 use Rattle.std.specs.Int.Signed.{lt_z}
 use Rattle.std.specs.Int.{w32}
 use Rattle.numbers.specs.declared.Value.{Value}

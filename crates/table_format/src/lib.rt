@@ -9,10 +9,8 @@ ghost use Rattle.std.specs.Prelude.{◌≡◌};
 ghost use Rattle.table_format.specs.Format.{initial_of, head_of, atom_of, update_of, record_of, kind_of};
 
 use numbers::Value;
-pub use ops::{
-    CONSTANT_TAG, COPY, DIFFERS, EQUALS, IS_ABOVE, IS_AT_LEAST, IS_AT_MOST, IS_BELOW, LENGTH_TAG,
-    MULTIPLE_OF, NO_MULTIPLE_OF, SUM, VARIABLE_TAG,
-};
+pub use numbers::{COPY, DIFFERS, EQUALS, IS_ABOVE, IS_AT_LEAST, IS_AT_MOST, IS_BELOW, SUM};
+pub use ops::{CONSTANT_TAG, LENGTH_TAG, MULTIPLE_OF, NO_MULTIPLE_OF, VARIABLE_TAG};
 use records::{Notation, Operand, TABLE_ATOM, TABLE_CLAUSE, TABLE_RULE, TABLE_START};
 pub use variables::{
     ACTIVE, BEHAVIOR, BUFFER, CLOCK_VARIABLES, CPU, DISPATCH_TIME, DUE, END, ENTERED, FLAG, INPUT,
@@ -72,7 +70,7 @@ pub enum Record {
 }
 
 // Where a reader stands. `place`: 0 before rules, 1 after a rule record, 2 in clauses, 3 in updates. `least`: the least variable that a
-// start may name. `kind`: the event kind of the rule.
+// start may name. `kind`: the event kind of the rule. The place is a number in the definitions of reading too.
 #[derive(Clone, Copy)]
 pub struct Context {
     pub place: u8,
@@ -84,58 +82,43 @@ pub struct Context {
 pub fn initial_of(part: &[u8]) -> InitialValue
     ensures { result ≡ initial_of part.now }
 {
-    let variable = numbers::u16_at(part, 1);
-    let value = numbers::value_at(part, 3);
     InitialValue {
-        variable: variable,
-        value: value,
+        variable: numbers::u16_at(part, 1),
+        value: numbers::value_at(part, 3),
     }
 }
 
 pub fn head_of(part: &[u8]) -> RuleHead
     ensures { result ≡ head_of part.now }
 {
-    let kind = numbers::byte_at(part, 1);
-    let id = numbers::byte_at(part, 2);
-    let low = numbers::u32_at(part, 3);
-    let high = numbers::u32_at(part, 7);
     RuleHead {
-        kind: kind,
-        id: id,
-        low: low,
-        high: high,
+        kind: numbers::item_or(part, 1, 0),
+        id: numbers::item_or(part, 2, 0),
+        low: numbers::u32_at(part, 3),
+        high: numbers::u32_at(part, 7),
     }
 }
 
 fn atom_of(part: &[u8]) -> Atom
     ensures { result ≡ atom_of part.now }
 {
-    let op = numbers::byte_at(part, 1);
-    let variable = numbers::u16_at(part, 2);
-    let right = records::operand_at(part, 4);
     Atom {
-        op: op,
-        variable: variable,
-        right: right,
+        op: numbers::item_or(part, 1, 0),
+        variable: numbers::u16_at(part, 2),
+        right: records::operand_at(part, 4),
     }
 }
 
 fn update_of(part: &[u8]) -> Update
     ensures { result ≡ update_of part.now }
 {
-    let condition = numbers::u16_at(part, 1);
-    let wanted = numbers::byte_at(part, 3);
-    let target = numbers::u16_at(part, 4);
-    let op = numbers::byte_at(part, 6);
-    let first = records::operand_at(part, 7);
-    let second = records::operand_at(part, 12);
     Update {
-        condition: condition,
-        wanted: wanted,
-        target: target,
-        op: op,
-        first: first,
-        second: second,
+        condition: numbers::u16_at(part, 1),
+        wanted: numbers::item_or(part, 3, 0),
+        target: numbers::u16_at(part, 4),
+        op: numbers::item_or(part, 6, 0),
+        first: records::operand_at(part, 7),
+        second: records::operand_at(part, 12),
     }
 }
 
@@ -143,9 +126,8 @@ fn update_of(part: &[u8]) -> Update
 pub fn kind_of(part: &[u8]) -> u8
     ensures { result ≡ kind_of (record_of part.now) }
 {
-    let kind = numbers::byte_at(part, 0);
-    let notation = Notation::Table;
-    let size = records::record_size(notation, kind);
+    let kind = numbers::item_or(part, 0, 0);
+    let size = records::record_size(Notation::Table, kind);
     if size == 0 {
         return 0;
     }
@@ -159,9 +141,8 @@ pub fn kind_of(part: &[u8]) -> u8
 pub fn record_of(part: &[u8]) -> Record
     ensures { result ≡ record_of part.now }
 {
-    let kind = numbers::byte_at(part, 0);
-    let notation = Notation::Table;
-    let size = records::record_size(notation, kind);
+    let kind = numbers::item_or(part, 0, 0);
+    let size = records::record_size(Notation::Table, kind);
     if size == 0 {
         return Record::Unknown;
     }
@@ -169,22 +150,10 @@ pub fn record_of(part: &[u8]) -> Record
         return Record::Cut;
     }
     match kind {
-        TABLE_START => {
-            let initial = initial_of(part);
-            Record::Initial(initial)
-        }
-        TABLE_RULE => {
-            let head = head_of(part);
-            Record::Head(head)
-        }
+        TABLE_START => Record::Initial(initial_of(part)),
+        TABLE_RULE => Record::Head(head_of(part)),
         TABLE_CLAUSE => Record::Clause,
-        TABLE_ATOM => {
-            let atom = atom_of(part);
-            Record::Atomic(atom)
-        }
-        _ => {
-            let update = update_of(part);
-            Record::Change(update)
-        }
+        TABLE_ATOM => Record::Atomic(atom_of(part)),
+        _ => Record::Change(update_of(part)),
     }
 }

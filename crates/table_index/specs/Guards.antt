@@ -1,15 +1,9 @@
 -- The guard of a rule: what its first clause asks one variable for. A rule whose guard fails need not be looked at.
 use Rattle.std.specs.Prelude.{◌≡◌, Bool, ◌&&◌, ℕ, suc, ◌+◌, ◌-◌, ◌*◌, ◌/◌, ◌%◌, ◌<◌, ◌≤◌, get_or, length, take, drop, ltb, pos, negsuc}
-use Rattle.std.proofs.Math.Path.{refl, sym, ap}
-use Rattle.std.proofs.Common.{◌∙◌}
-use Rattle.std.proofs.Math.Bool.{true, false, cond}
-use mathlib.Core.List.{List, ◌∷◌}
-use native.Mathlib.Omega.{arith}
-use Rattle.std.proofs.Math.Dec.{eqb, leb}
-use mir.Syntax.{w32}
+use Rattle.std.proofs.Common.{refl, sym, ap, ◌∙◌, true, false, cond, List, ◌∷◌, arith, eqb, leb, w32, ne_eqb, lt-ltb, le-ltb, le-leb, ltb-true, leb-true, eqb-true}
 use mir.Val.{sel}
 use mir.ValLaws.{of_z-to_z}
-use borrow.Author.Tests.{ne_eqb, lt-ltb, le-ltb, le-leb, lt-leb, ltb-true, leb-true, eqb-true}
+use borrow.Author.Tests.{lt-leb}
 use Rattle.numbers.specs.declared.Value.{Value}
 use Rattle.numbers.specs.Values.{u16_at, u32_at, value_at, value, signed, bits_of, compares, same_value}
 use Rattle.records.specs.Format.{operand_at}

@@ -1,18 +1,11 @@
 -- The list made of a table stands for the table's rules. And the laws of the loop that makes it.
 use Rattle.std.specs.Prelude.{◌≡◌, Bool, ◌&&◌, List, [], ◌∷◌, ◌++◌, get_or, set, take, drop, eqb, leb}
-use Rattle.std.proofs.Math.Path.{refl}
-use Rattle.std.proofs.Common.{sym, ◌∙◌, ap}
-use Rattle.std.proofs.Math.Bool.{true, false, cond}
-use Prim.Native.Nat.{ℕ, zero, suc, ◌+◌, ◌-◌, ◌*◌, ◌/◌, ◌%◌, ◌<◌, ◌≤◌, min}
+use Rattle.std.proofs.Common.{refl, sym, ◌∙◌, ap, true, false, cond, ℕ, zero, suc, ◌+◌, ◌-◌, ◌*◌, ◌/◌, ◌%◌, ◌<◌, ◌≤◌, min, arith, add-one, length, length-set, length-take, ltb, eq-eqb, ne_eqb, le-leb, leb-true, eqb-true, lt-ltb, le-ltb, ltb-false}
 use Rattle.std.proofs.Math.Nat.{sub-zero}
-use native.Mathlib.Omega.{arith}
-use Rattle.std.proofs.Math.Numerals.{add-one}
 use Rattle.std.proofs.Math.Decide.{dec_lt, ℕ_discrete}
-use Rattle.std.proofs.Math.ListN.{length, length-set, length-take}
 use Rattle.std.proofs.Math.Seq.{sets, length-sets, take-append_seam}
 use Rattle.std.proofs.lemmas.List.Edits.{sets-eq}
-use Rattle.std.proofs.Math.Dec.{ltb}
-use borrow.Author.Tests.{eq-eqb, ne_eqb, le-leb, lt-leb, leb-true, eqb-true, lt-ltb, le-ltb, ltb-true, ltb-false}
+use borrow.Author.Tests.{lt-leb}
 use Rattle.records.specs.declared.Notation.TheVariants as notations
 use Rattle.records.specs.declared.Event.{Event}
 use Rattle.records.specs.Format.{record_size, part_length_at, parts}

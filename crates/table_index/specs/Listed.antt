@@ -1,11 +1,7 @@
 -- What two words that list a rule have, and words that list none.
-use Rattle.std.specs.Prelude.{◌≡◌, Bool, ◌&&◌, not, List, [], ◌∷◌, ℕ, suc, ◌+◌, ◌-◌, ◌/◌, ◌%◌, ◌<◌, ◌≤◌, get_or, length, drop}
-use Rattle.std.proofs.Math.Path.{refl}
-use Rattle.std.proofs.Common.{sym, ◌∙◌, ap, arith, add-one, length-drop, drop-cons}
-use Rattle.std.proofs.Math.Bool.{true, false}
+use Rattle.std.specs.Prelude.{◌≡◌, Bool, ◌&&◌, List, [], ◌∷◌, ◌++◌, ℕ, suc, ◌+◌, ◌/◌, ◌%◌, ◌<◌, ◌≤◌, get_or, length, drop}
+use Rattle.std.proofs.Common.{refl, sym, ◌∙◌, ap, arith, add-one, length-drop, drop-cons, true, false, eqb, eq-eqb, ne_eqb, eqb-true, lt-ltb, le-ltb}
 use Rattle.std.proofs.Math.Decide.{ℕ_discrete, dec_lt}
-use Rattle.std.proofs.Math.Dec.{eqb}
-use borrow.Author.Tests.{eq-eqb, ne_eqb, eqb-true, lt-ltb, le-ltb}
 use Rattle.numbers.specs.declared.Value.{Value}
 use Rattle.table_format.specs.Variables.{variables}
 use Rattle.table_semantics.specs.Rules.{all_hold}
@@ -98,3 +94,14 @@ listed_over s d i h = go (drop i d) (let q = length-drop i d in omega arith)
     go [] h = refl
     go (w ∷ []) h = refl
     go (w ∷ g ∷ l) h = absurd (omega arith)
+
+-- ---- by the library's chunks: x are two words of those that are left, u, and w what is left then
+pub record IsPair (u x w : List ℕ) : Type 0 where
+  pub size : length x ≡ 2
+  pub words : u ≡ get_or x 0 0 ∷ get_or x 1 0 ∷ w
+
+pub pair_words : (u x w : List ℕ) → u ≡ x ++ w → length x ≡ 2 → IsPair u x w
+pair_words u [] w e h = absurd (omega arith)
+pair_words u (a ∷ []) w e h = absurd (omega arith)
+pair_words u (a ∷ b ∷ []) w e h = record { size = refl; words = e }
+pair_words u (a ∷ b ∷ k ∷ l) w e h = absurd (omega arith)

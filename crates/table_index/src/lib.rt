@@ -2,18 +2,18 @@
 
 #![tactic(auto)]
 
-ghost use Rattle.std.specs.Prelude.{◌≡◌, min, get_or, set, length, ◌&&◌};
+ghost use Rattle.std.specs.Prelude.{◌≡◌, get_or, length, ◌&&◌};
 ghost use Rattle.std.proofs.lemmas.List.Edits.{sets};
 ghost use Rattle.table_semantics.specs.Rules.{all_hold};
 ghost use Rattle.table_semantics.specs.Runs.{values};
 ghost use Rattle.table_rules.specs.At.{clauses_at};
 ghost use Rattle.table_rules.specs.Places.{HeadAt};
-ghost use Rattle.table_index.specs.Index.{is_head, key_of, key_at, asked_in, guard_at, room_for, index_of, index_size, is_listed, listed_in};
+ghost use Rattle.table_index.specs.Index.{is_head, key_of, key_at, asked_in, guard_at, room_for, index_of, index_size, is_listed, listed_in, words_in};
 ghost use Rattle.table_index.specs.IndexLaws.{ListsOne};
 ghost use Rattle.table_index.specs.Guards.{may_hold, untold};
 
-use records::{Notation, RULE_SIZE, TABLE_ATOM, TABLE_CLAUSE, TABLE_RULE};
-use table_format::{LONGEST_TABLE, VARIABLES};
+use records::{Notation, Parts, RULE_SIZE, TABLE_ATOM, TABLE_CLAUSE, TABLE_RULE};
+use table_format::{CONSTANT_TAG, EQUALS, LONGEST_TABLE, VARIABLES};
 
 // An index is a slice of numbers: how many rules are listed, the place from which on the other rules are, and two words for each rule listed.
 // One word is the place of its head times KEYS and its key, the other its guard. An index of any content stands for some rules of the table: words
@@ -50,9 +50,7 @@ pub fn is_head(table: &[u8], at: usize) -> bool
 pub fn key_of(kind: u8, id: u8) -> usize
     ensures { result ≡ key_of kind id }
 {
-    let k = numbers::usize_of_u8(kind);
-    let i = numbers::usize_of_u8(id);
-    256 * (k % 256) + i % 256
+    256 * (usize::from(kind) % 256) + usize::from(id) % 256
 }
 
 fn key_at(table: &[u8], at: usize) -> usize
@@ -66,17 +64,16 @@ fn key_at(table: &[u8], at: usize) -> usize
 fn asked_in(part: &[u8]) -> usize
     ensures { result ≡ asked_in part.now }
 {
-    let op = numbers::byte_at(part, 1);
-    if op != 0 {
+    let op = numbers::item_or(part, 1, 0);
+    if op != EQUALS {
         return 0;
     }
-    let tag = numbers::byte_at(part, 4);
-    if tag != 0 {
+    let tag = numbers::item_or(part, 4, 0);
+    if tag != CONSTANT_TAG {
         return 0;
     }
-    let j = numbers::usize_of_u16(numbers::u16_at(part, 2));
-    let y = numbers::value_at(part, 5);
-    let n = numbers::usize_of_u32(numbers::bits(y));
+    let j = usize::from(numbers::u16_at(part, 2));
+    let n = numbers::bits(numbers::value_at(part, 5)) as usize;
     BITS * j + n
 }
 
@@ -115,7 +112,7 @@ pub fn may_hold(bits: &[u32], guard: usize) -> bool
     }
     let value = table_rules::value_in(bits, j);
     let n = (guard % BITS) as u32;
-    numbers::same(value, numbers::value_of(n))
+    value == numbers::value_of(n)
 }
 
 // From where on the clauses of the rule that two words list are to be read: a guard that asks a variable for a value tells all of the first.
@@ -133,15 +130,6 @@ pub fn untold(word: usize, guard: usize) -> usize
     first + GUARD_SIZE
 }
 
-pub fn fewer(n: usize, m: usize) -> usize
-    ensures { result ≡ min n m }
-{
-    if n < m {
-        return n;
-    }
-    m
-}
-
 // How many rules an index of `size` numbers has room for.
 fn room_for(table: &[u8], size: usize) -> usize
     ensures { result ≡ room_for table.now size }
@@ -153,15 +141,6 @@ fn room_for(table: &[u8], size: usize) -> usize
         return 0;
     }
     (size - WORDS) / 2
-}
-
-fn put_number(index: &mut [usize], i: usize, x: usize)
-    ensures { index.new ≡ set index.old i x }
-{
-    if index.len() <= i {
-        return;
-    }
-    index[i] = x;
 }
 
 // A rule more, whose head stands at `at`: its words, where there is room for them. It tells where the first rule is that there was no room for.
@@ -194,19 +173,14 @@ pub fn list_rules(table: &[u8], index: &mut [usize]) -> usize
     let room = room_for(table, index.len());
     let mut rules: usize = 0;
     let mut rest: usize = table.len();
-    let mut at: usize = 0;
-    while at < table.len() {
-        if !is_head(table, at) {
-            let w = Notation::Table;
-            at += records::part_length_at(w, table, at);
-            continue;
+    for part in Parts::new(Notation::Table, table, 0) {
+        if is_head(table, part.start) {
+            rest = put_rule(table, part.start, index, room, rules, rest);
+            rules += 1;
         }
-        rest = put_rule(table, at, index, room, rules, rest);
-        rules += 1;
-        at += RULE_SIZE;
     }
-    put_number(index, LISTED, fewer(rules, room));
-    put_number(index, REST, rest);
+    numbers::put_item(index, LISTED, rules.min(room));
+    numbers::put_item(index, REST, rest);
     WORDS + 2 * rules
 }
 
@@ -217,17 +191,14 @@ pub fn listed_in(index: &[usize]) -> usize
     if index.len() < WORDS {
         return 0;
     }
-    fewer(index[LISTED], (index.len() - WORDS) / 2)
+    index[LISTED].min((index.len() - WORDS) / 2)
 }
 
 // The place from which on the other rules are.
 pub fn rest_in(index: &[usize]) -> usize
     ensures { result ≡ get_or index.now 1 0 }
 {
-    if index.len() <= REST {
-        return 0;
-    }
-    index[REST]
+    numbers::item_or(index, REST, 0)
 }
 
 // Whether two words list a rule: both are those of the head at their place.
@@ -253,4 +224,27 @@ pub fn rest_holds(table: &[u8], bits: &[u32], word: usize, guard: usize) -> bool
         return false;
     }
     is_listed(table, word, guard)
+}
+
+// ---- the rules that an index stands for
+// Rules of a table: those that words list, and then those of the records from `rest` on.
+#[derive(Clone, Copy)]
+pub struct Rules<'a> {
+    pub table: &'a [u8],
+    pub words: &'a [usize],
+    pub rest: usize,
+}
+
+impl<'a> Rules<'a> {
+    // By an index of any content.
+    pub fn new(table: &'a [u8], index: &'a [usize]) -> Rules<'a>
+        ensures { (result.table.now ≡ table.entry.now) × ((result.words.now ≡ words_in index.entry.now) × (result.rest ≡ get_or index.entry.now 1 0)) }
+    {
+        let from = WORDS.min(index.len());
+        Rules {
+            table,
+            words: &index[from..from + 2 * listed_in(index)],
+            rest: rest_in(index),
+        }
+    }
 }

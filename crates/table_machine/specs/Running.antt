@@ -1,11 +1,10 @@
 -- The machine's answers, in the forms that the code has: one event, and the start.
 use Rattle.std.specs.Prelude.{◌≡◌, refl, Bool, true, false, cond, List, [], ◌∷◌, ◌++◌, ℕ, zero, suc, ◌+◌, ◌-◌, ◌*◌, ◌<◌, ◌≤◌, min, eqb, get_or, length, take, drop, replicate}
 use Rattle.std.proofs.Common.{sym, ◌∙◌, ap, arith}
-use borrow.Author.Tests.{ne_eqb}
 use Rattle.numbers.specs.declared.Value.{Value}
 use Rattle.numbers.specs.Lists.{store}
 use Rattle.numbers.specs.ListLaws.{length_store}
-use Rattle.numbers.specs.Values.{value, natural, plus, less_value}
+use Rattle.numbers.specs.Values.{natural, plus, less_value}
 use Rattle.records.specs.declared.Notation.TheVariants as notations
 use Rattle.records.specs.declared.Cause.{Cause}
 use Rattle.records.specs.declared.Cause.TheVariants.{BrokenEvent, NotEnabled, LastClock, ConflictingRules, InconsistentUpdates}
@@ -25,31 +24,32 @@ use Rattle.table_semantics.specs.Rules.{enabled_rules, Write, writes, inconsiste
 use Rattle.table_semantics.specs.Machine.{begun, start_variables, refuse, accept, allows_length, fire, is_busy, now_in, ticks, step}
 use Rattle.table_semantics.specs.Runs.{values, variables_of, stepped_to}
 use Rattle.table_search.specs.declared.Found.{Found}
+use Rattle.table_search.specs.declared.Found.TheVariants.{Nothing, One, Several}
+use Rattle.table_format.specs.declared.RuleHead.{RuleHead}
 use Rattle.table_rules.specs.At.{rule_at}
 use Rattle.table_rules.specs.Bits.{values_zero, length_values}
-use Rattle.table_index.specs.Index.{listed, rules_in, listed_in, rules_by, step_by}
+use Rattle.table_index.specs.Index.{listed, rules_in, listed_in, words_in, rules_by, step_by}
 use Rattle.table_index.specs.IndexLaws.{words_same, words_within}
 use Rattle.table_semantics.specs.Choices.{choice, firing, one_tick}
-use Rattle.table_semantics.specs.Choices.{none, one, several}
 use Rattle.table_semantics.proofs.MachineLaws.{fire_by_choice}
-use Rattle.table_search.specs.Enabled.{rules_found}
+use Rattle.table_search.specs.Enabled.{choice_found}
 
 -- f is what the walk over the table t has found of the rules l
-module _ (t : List ℕ) (s : Variables) (e : Event) (f : Found) (l : List Rule) (g : choice (rules_found t f) ≡ choice l) where
-  found : firing s e (choice (rules_found t f)) ≡ fire s e l
+module _ (t : List ℕ) (s : Variables) (e : Event) (f : Found) (l : List Rule) (g : choice_found t f ≡ choice l) where
+  found : firing s e (choice_found t f) ≡ fire s e l
   found = ap (firing s e) g ∙ fire_by_choice s e l
 
-  pub fire_none : f.count ≡ 0 → refuse NotEnabled s ≡ fire s e l
-  unfolding rules_found choice firing
-  fire_none z = rw (z) at found
+  pub fire_none : f ≡ Nothing → refuse NotEnabled s ≡ fire s e l
+  unfolding choice_found firing
+  fire_none z = rw z at found
 
-  pub fire_one : f.count ≡ 1 → fire s e (rule_at t f.place f.head ∷ []) ≡ fire s e l
-  unfolding rules_found choice firing
-  fire_one z = rw (z) at found
+  pub fire_one : (p : ℕ) (h : RuleHead) → f ≡ One p h → fire s e (rule_at t p h ∷ []) ≡ fire s e l
+  unfolding choice_found firing
+  fire_one p h z = rw z at found
 
-  pub fire_several : (f.count ≡ 0 → ⊥) → (f.count ≡ 1 → ⊥) → refuse ConflictingRules s ≡ fire s e l
-  unfolding rules_found choice firing
-  fire_several z y = rw (ne_eqb f.count 0 z, ne_eqb f.count 1 y) at found
+  pub fire_several : f ≡ Several → refuse ConflictingRules s ≡ fire s e l
+  unfolding choice_found firing
+  fire_several z = rw z at found
 
 -- no rules stand behind the table's end
 pub rest_none : (s words : List ℕ) (p : ℕ) → length s ≤ p → rules_in s words (length s) ≡ rules_in s words p
@@ -110,6 +110,11 @@ rules_cut s d from n rest e f g = rw (words_same d from (from + 2 * n) e (rw f),
 
 pub cut_within : (d : List ℕ) (from n : ℕ) → from ≡ min 2 (length d) → n ≡ listed_in d → from + 2 * n ≤ length d
 cut_within d from n e f = (words_within d from (from + 2 * n) e (rw f)).1
+
+-- the rules that an index stands for, as they are made of it
+pub rules_new : (s d t words : List ℕ) (rest : ℕ) → t ≡ s → words ≡ words_in d → rest ≡ get_or d 1 0 → rules_in t words rest ≡ rules_by s d
+unfolding rules_by
+rules_new s d t words rest e f g = rw (e, f, g)
 
 -- ---- an event leaves as many variables as there were
 length_ticks : (l : List Rule) (s : Variables) (n : ℕ) (v : List Value) → length s.value ≡ length v → length (ticks l s n v).state.value ≡ length v

@@ -14,41 +14,43 @@ ghost use Rattle.table_semantics.specs.Runs.{values, variables_of, stepped_to};
 ghost use Rattle.table_index.specs.Index.{rules_in, step_by};
 ghost use Rattle.table_machine.specs.Running.{initial_after};
 
-use records::{Cause, Event, Notation, TABLE_START, TICK};
+use records::{Cause, Event, Notation, Parts, TABLE_START, TICK};
 use table_format::{InitialValue, VARIABLES};
-use table_index::WORDS;
+use table_index::Rules;
+use table_search::Found;
 use table_semantics::Variables;
 
 // The enabled rule of an event that is no TICK is fired.
-fn fire_enabled(table: &[u8], words: &[usize], rest: usize, bits: &mut [u32], event: Event) -> Cause
-    ensures { stepped_to result bits.new ≡ machine.fire (variables_of bits.old) event (enabled_rules (values bits.old) event.kind event.id (rules_in table.now words.now rest)) }
+fn fire_enabled(all: Rules, bits: &mut [u32], event: Event) -> Cause
+    ensures { stepped_to result bits.new ≡ machine.fire (variables_of bits.old) event (enabled_rules (values bits.old) event.kind event.id (rules_in all.entry.table.now all.entry.words.now all.entry.rest)) }
 {
-    let found = table_search::find(table, words, rest, bits, event);
-    let count = found.count;
-    if count == 0 {
-        return Cause::NotEnabled;
+    let found = table_search::find(all, bits, event);
+    match found {
+        Found::Nothing => Cause::NotEnabled,
+        Found::One { place, head } => table_updates::fire(all.table, bits, event, place, head),
+        Found::Several => Cause::ConflictingRules,
     }
-    if count == 1 {
-        return table_updates::fire(table, bits, event, found.place, found.head);
-    }
-    Cause::ConflictingRules
 }
 
-// One event by words that list rules, and by the rules of the records from `rest` on. Firing is called from two places, with all rules listed and
-// without, so that it stays a function of its own: its frame, which has a mark for every target, would else be set up for ticks too.
-fn step_listed(table: &[u8], words: &[usize], rest: usize, bits: &mut [u32], event: Event) -> Cause
-    ensures { stepped_to result bits.new ≡ machine.step (rules_in table.now words.now rest) (variables_of bits.old) event }
+// One event. Firing is called from two places, with all rules listed and without, so that it stays a function of its own: its frame, which has a
+// mark for every target, would else be set up for ticks too.
+fn step_listed(all: Rules, bits: &mut [u32], event: Event) -> Cause
+    ensures { stepped_to result bits.new ≡ machine.step (rules_in all.entry.table.now all.entry.words.now all.entry.rest) (variables_of bits.old) event }
 {
     if records::is_broken(event) {
         return Cause::BrokenEvent;
     }
     if event.kind == TICK {
-        return table_ticks::tick(table, words, rest, bits, event.amount);
+        return table_ticks::tick(all, bits, event.amount);
     }
-    if table.len() <= rest {
-        return fire_enabled(table, words, table.len(), bits, event);
+    if all.table.len() <= all.rest {
+        let none = Rules {
+            rest: all.table.len(),
+            ..all
+        };
+        return fire_enabled(none, bits, event);
     }
-    fire_enabled(table, words, rest, bits, event)
+    fire_enabled(all, bits, event)
 }
 
 // One event on the table that the bytes hold, whether or not they were accepted, by an index of any content, on variables in a slice of any length:
@@ -56,10 +58,7 @@ fn step_listed(table: &[u8], words: &[usize], rest: usize, bits: &mut [u32], eve
 pub fn step_by(table: &[u8], index: &[usize], bits: &mut [u32], event: Event) -> Cause
     ensures { stepped_to result bits.new ≡ step_by table.now index.now (variables_of bits.old) event }
 {
-    let from = table_index::fewer(WORDS, index.len());
-    let end = from + 2 * table_index::listed_in(index);
-    let rest = table_index::rest_in(index);
-    step_listed(table, &index[from..end], rest, bits, event)
+    step_listed(Rules::new(table, index), bits, event)
 }
 
 // The same on as many as there are.
@@ -76,9 +75,7 @@ pub const INDEX: usize = 2050;
 fn put_initial(bits: &mut [u32; VARIABLES], y: InitialValue)
     ensures { values bits.new ≡ store variables (values bits.old) y.variable y.value }
 {
-    let j = y.variable;
-    let z = y.value;
-    table_rules::put(bits, j as usize, table_rules::bits_of(z));
+    table_rules::put(bits, y.variable as usize, table_rules::bits_of(y.value));
 }
 
 fn begin_with(bits: &mut [u32; VARIABLES], part: &[u8])
@@ -95,13 +92,8 @@ pub fn start_variables(table: &[u8]) -> Variables
     ensures { result ≡ machine.start_variables (table_of table.now) }
 {
     let mut bits = [0; VARIABLES];
-    let mut at: usize = 0;
-    while at < table.len() {
-        let w = Notation::Table;
-        let n = records::part_length_at(w, table, at);
-        let next = at + n;
-        begin_with(&mut bits, &table[at..next]);
-        at = next;
+    for part in Parts::new(Notation::Table, table, 0) {
+        begin_with(&mut bits, part.bytes);
     }
     table_rules::variables_of(bits)
 }
@@ -110,8 +102,7 @@ pub fn start_variables(table: &[u8]) -> Variables
 pub fn clock_of(s: Variables) -> u32
     ensures { result ≡ machine.clock_of s }
 {
-    let part = s.value[0];
-    numbers::bits(part)
+    numbers::bits(s.value[0])
 }
 
 // And of variables by their bits.

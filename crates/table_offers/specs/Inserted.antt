@@ -1,14 +1,10 @@
 -- One event's numbers put among those of others, in order. And the laws of the loops that find their place and make room.
 use Rattle.std.specs.Prelude.{◌≡◌, Bool, List, [], ◌∷◌, ◌++◌, get_or, set, length, take, drop, ltb}
-use Rattle.std.proofs.Math.Path.{refl, sym, ap}
-use Rattle.std.proofs.Common.{◌∙◌, append_assoc, length-append, drop-cons, take_at, drop_at, get_or-append-add}
-use Rattle.std.proofs.Math.Bool.{true, false, cond}
-use Prim.Native.Nat.{ℕ, zero, suc, ◌+◌, ◌-◌, ◌*◌, ◌<◌, ◌≤◌}
-use native.Mathlib.Omega.{arith}
+use Rattle.std.proofs.Common.{refl, sym, ap, ◌∙◌, append_assoc, length-append, drop-cons, take_at, drop_at, get_or-append-add, true, false, cond, ℕ, zero, suc, ◌+◌, ◌-◌, ◌*◌, ◌<◌, ◌≤◌, arith, lt-ltb, le-ltb}
 use Rattle.std.proofs.Math.ListN.{get_or-append}
 use Rattle.std.proofs.lemmas.List.Edits.{sets, sets-eq}
-use Rattle.std.proofs.lemmas.List.{set_comm}
-use borrow.Author.Tests.{lt-ltb, le-ltb}
+use Rattle.std.proofs.lemmas.List.{set_comm, length-take-le, length-drop}
+use Rattle.std.specs.List.{copy_within}
 use Rattle.numbers.specs.ListLaws.{sets_before, sets_at}
 use Rattle.table_format.specs.All.{All}
 use Rattle.enabled.specs.Enabled.{Offer, ids, numbers_of}
@@ -110,6 +106,13 @@ over_after (x ∷ a) [] b c h =
 over_after (x ∷ a) (z ∷ d) b c h =
     ap (λ (r : List ℕ). sets r (suc (length a)) c) (sets_cons x d (a ++ b) 0) ∙ sets_cons x (sets d 0 (a ++ b)) c (length a) ∙
     ap (λ (r : List ℕ). x ∷ r) (over_after a d b c h) ∙ sym (sets_cons x d (a ++ c) 0)
+
+-- ---- room, by the library's copy
+pub moved_copy : (d : List ℕ) (from end : ℕ) → from ≤ end → end + offer_size ≤ length d → copy_within d from end (from + offer_size) ≡ moved_up d from end
+moved_copy d from end h l =
+    let w = take (end - from) (drop from d) in
+    let e : length w ≡ end - from = length-take-le (end - from) (drop from d) (let q = length-drop from d in omega arith) in
+    sym (sets-eq w d (from + offer_size) (omega arith) ∙ rw e)
 
 -- ---- the loop that makes room, from the end down
 pub move_begin : (d : List ℕ) (end : ℕ) → d ≡ moved_up d end end

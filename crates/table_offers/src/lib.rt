@@ -29,9 +29,9 @@ fn rank_at(output: &[u32], place: usize) -> usize
     requires { offer_size * place < length output.now }
     ensures { result ≡ rank_at output.now place }
 {
-    let kind = numbers::word_at(output, OFFER * place);
-    let id = numbers::word_at(output, OFFER * place + 1);
-    IDS * numbers::usize_of_u32(kind) + numbers::usize_of_u32(id)
+    let kind = numbers::item_or(output, OFFER * place, 0);
+    let id = numbers::item_or(output, OFFER * place + 1, 0);
+    IDS * kind as usize + id as usize
 }
 
 // After how many of the first events one of that rank comes. Rules come mostly in order, so the last are looked at first.
@@ -39,13 +39,10 @@ fn place_in(output: &[u32], count: usize, rank: usize) -> usize
     requires { offer_size * count ≤ length output.now }
     ensures { result ≡ place_in output.now count rank }
 {
-    let mut place = count;
-    while 0 < place {
-        let last = place - 1;
+    for last in (0..count).rev() {
         if rank_at(output, last) <= rank {
-            return place;
+            return last + 1;
         }
-        place = last;
     }
     0
 }
@@ -55,12 +52,7 @@ fn make_room(output: &mut [u32], from: usize, end: usize)
     requires { (from ≤ end) × (end + offer_size ≤ length output.old) }
     ensures { output.new ≡ moved_up output.old from end }
 {
-    let mut next = end;
-    while from < next {
-        let last = next - 1;
-        output[last + OFFER] = output[last];
-        next = last;
-    }
+    output.copy_within(from..end, from + OFFER);
 }
 
 fn length_in(kind: u8, length: u32) -> u32
@@ -75,15 +67,15 @@ fn insert(output: &mut [u32], count: usize, head: RuleHead)
     ensures { output.new ≡ inserted output.old count (offer_by head) }
 {
     let kind = head.kind;
-    let kind_word = numbers::u32_of_u8(kind);
-    let id_word = numbers::u32_of_u8(head.id);
-    let rank = IDS * numbers::usize_of_u32(kind_word) + numbers::usize_of_u32(id_word);
+    let kind_word = u32::from(kind);
+    let id_word = u32::from(head.id);
+    let rank = IDS * kind_word as usize + id_word as usize;
     let at = OFFER * place_in(output, count, rank);
     make_room(output, at, OFFER * count);
-    numbers::put_word(output, at, kind_word);
-    numbers::put_word(output, at + 1, id_word);
-    numbers::put_word(output, at + 2, length_in(kind, head.low));
-    numbers::put_word(output, at + 3, length_in(kind, head.high));
+    numbers::put_item(output, at, kind_word);
+    numbers::put_item(output, at + 1, id_word);
+    numbers::put_item(output, at + 2, length_in(kind, head.low));
+    numbers::put_item(output, at + 3, length_in(kind, head.high));
 }
 
 // An enabled rule more. It stops a tick where it is for another event than REQUEST, and is for an event where its kind is one.
@@ -95,20 +87,17 @@ pub fn add_enabled(output: &mut [u32], seen: Seen, head: RuleHead) -> Seen
     let count = seen.count;
     let busy = seen.busy | (kind != REQUEST);
     if (kind == 0) | (LEAVE < kind) {
-        return Seen {
-            count: count,
-            busy: busy,
-        };
+        return Seen { count, busy };
     }
     if output.len() / OFFER <= count {
         return Seen {
             count: count + 1,
-            busy: busy,
+            busy,
         };
     }
     insert(output, count, head);
     Seen {
         count: count + 1,
-        busy: busy,
+        busy,
     }
 }

@@ -1,12 +1,10 @@
 -- Reading a table one record at a time: what stands at a place, the place after it, and a walk of such steps.
-use Rattle.std.specs.Prelude.{Bool, cond, List, [], ◌∷◌, ℕ, zero, suc, ◌+◌, length, take, drop, ltb, leb}
+use Rattle.std.specs.Prelude.{Option, Some, None, Bool, cond, List, [], ◌∷◌, ℕ, zero, suc, ◌+◌, length, take, drop, ltb, leb}
 use Rattle.records.specs.declared.Notation.TheVariants as notations
 use Rattle.records.specs.Format.{part_length_at}
 use Rattle.table_format.specs.declared.Record.{Record}
 use Rattle.table_format.specs.declared.Record.TheVariants.{Initial, Head, Clause, Atomic, Change, Cut, Unknown}
 use Rattle.table_format.specs.Format.{record_of}
-use Rattle.table_reader.specs.declared.Found.{Found}
-use Rattle.table_reader.specs.declared.Found.TheVariants.{One, End}
 use Rattle.table_reader.specs.declared.Step.{Step}
 
 -- the bytes of the record at p
@@ -14,8 +12,8 @@ unfoldable pub part_at : List ℕ → ℕ → List ℕ
 part_at s p = take (part_length_at notations.Table s p) (drop p s)
 
 -- the record at p, or the end
-unfoldable pub found_at : List ℕ → ℕ → Found
-found_at s p = cond (ltb p (length s)) (One (record_of (part_at s p))) End
+unfoldable pub found_at : List ℕ → ℕ → Option Record
+found_at s p = cond (ltb p (length s)) (Some (record_of (part_at s p))) None
 
 -- the place of the next record; at the end, the same place
 unfoldable pub place_after : List ℕ → ℕ → ℕ
@@ -27,9 +25,9 @@ is_end s p = leb (length s) p
 abbrev pub step_at : List ℕ → ℕ → Step
 step_at s p = record { found = found_at s p; next = place_after s p }
 
-abbrev pub before : Found → List Record → List Record
-before (One x) l = x ∷ l
-before End l = []
+abbrev pub before : Option Record → List Record → List Record
+before (Some x) l = x ∷ l
+before None l = []
 
 -- the records that n steps from p pass
 unfoldable pub walk : ℕ → List ℕ → ℕ → List Record
@@ -46,9 +44,9 @@ rule_in (Change u) = 0
 rule_in Cut = 0
 rule_in Unknown = 0
 
-unfoldable pub rules_in : Found → ℕ
-rules_in (One x) = rule_in x
-rules_in End = 0
+unfoldable pub rules_in : Option Record → ℕ
+rules_in (Some x) = rule_in x
+rules_in None = 0
 
 unfoldable pub count_rules : List Record → ℕ
 count_rules [] = 0

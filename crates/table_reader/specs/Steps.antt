@@ -1,8 +1,6 @@
 -- One step: the place after a place, the part and the record there.
-use Rattle.std.specs.Prelude.{◌≡◌, List, ℕ, ◌+◌, ◌-◌, ◌<◌, ◌≤◌, length, take, drop}
-use Rattle.std.proofs.Math.Path.{refl}
-use Rattle.std.proofs.Common.{ap, drop_of_length-le, lt-ltb, le-ltb}
-use native.Mathlib.Omega.{arith}
+use Rattle.std.specs.Prelude.{Some, None, ◌≡◌, List, ℕ, ◌+◌, ◌-◌, ◌<◌, ◌≤◌, length, take, drop}
+use Rattle.std.proofs.Common.{refl, ap, drop_of_length-le, lt-ltb, le-ltb, arith}
 use Rattle.std.proofs.Math.Decide.{dec_lt}
 use Rattle.std.proofs.Math.Seq.{take-nil}
 use Rattle.records.specs.declared.Notation.TheVariants as notations
@@ -11,7 +9,6 @@ use Rattle.records.specs.Laws.{length_past}
 use Rattle.records.specs.Walk.{next_place, slice_part}
 use Rattle.table_format.specs.declared.Record.{Record}
 use Rattle.table_format.specs.Format.{record_of}
-use Rattle.table_reader.specs.declared.Found.TheVariants.{One, End}
 use Rattle.table_reader.specs.declared.Step.{Step}
 use Rattle.table_reader.specs.Reading.{part_at, found_at, place_after, step_at}
 
@@ -39,11 +36,11 @@ pub part_past : (s : List ℕ) (p : ℕ) → length s ≤ p → take 0 (drop 0 s
 unfolding part_at
 part_past s p h = rw (drop_of_length-le s h, take-nil)
 
-pub found_within : (s : List ℕ) (p : ℕ) (x : Record) → p < length s → x ≡ record_of (part_at s p) → One x ≡ found_at s p
+pub found_within : (s : List ℕ) (p : ℕ) (x : Record) → p < length s → x ≡ record_of (part_at s p) → Some x ≡ found_at s p
 unfolding found_at
 found_within s p x h e = rw (e, lt-ltb p (length s) h)
 
-pub found_past : (s : List ℕ) (p : ℕ) → length s ≤ p → End ≡ found_at s p
+pub found_past : (s : List ℕ) (p : ℕ) → length s ≤ p → None ≡ found_at s p
 unfolding found_at
 found_past s p h = rw (le-ltb p (length s) h)
 

@@ -5,9 +5,9 @@
 
 ghost use Rattle.std.specs.Prelude.{◌≡◌};
 ghost use Rattle.table_format.specs.Format.{records};
-ghost use Rattle.table_reader.specs.Reading.{part_at, found_at, place_after, is_end, step_at, rule_in, rules_in, count_rules};
+ghost use Rattle.table_reader.specs.Reading.{part_at, found_at, place_after, is_end, step_at, rule_in, count_rules};
 
-use records::Notation;
+use records::{Notation, Parts};
 use table_format::Record;
 
 #[derive(Clone, Copy)]
@@ -16,17 +16,10 @@ pub struct Reader<'a> {
     pub at: usize,
 }
 
-// What stands at a place of a table.
-#[derive(Clone, Copy)]
-pub enum Found {
-    One(Record),
-    End,
-}
-
-// What stands at a place, and the place after it.
+// What stands at a place, `None` for the table's end, and the place after it.
 #[derive(Clone, Copy)]
 pub struct Step {
-    pub found: Found,
+    pub found: Option<Record>,
     pub next: usize,
 }
 
@@ -34,29 +27,27 @@ pub struct Step {
 pub fn place_after(table: &[u8], at: usize) -> usize
     ensures { result ≡ place_after table.now at }
 {
-    let notation = Notation::Table;
-    let size = records::part_length_at(notation, table, at);
-    at + size
+    at + records::part_length_at(Notation::Table, table, at)
 }
 
 pub fn part_at(table: &[u8], at: usize) -> &[u8]
     ensures { result.now ≡ part_at table.now at }
 {
     if at < table.len() {
-        let next = place_after(table, at);
-        return &table[at..next];
+        return &table[at..place_after(table, at)];
     }
-    &table[0..0]
+    &[]
 }
 
-pub fn found_at(table: &[u8], at: usize) -> Found
+// The record at a place, if it is not the end.
+pub fn found_at(table: &[u8], at: usize) -> Option<Record>
     ensures { result ≡ found_at table.now at }
 {
     if at < table.len() {
-        let found = table_format::record_of(part_at(table, at));
-        return Found::One(found);
+        Some(table_format::record_of(part_at(table, at)))
+    } else {
+        None
     }
-    Found::End
 }
 
 pub fn is_end(table: &[u8], at: usize) -> bool
@@ -73,7 +64,7 @@ impl<'a> Reader<'a> {
         Reader { table, at: 0 }
     }
 
-    pub fn found(self) -> Found
+    pub fn found(self) -> Option<Record>
         ensures { result ≡ found_at self.entry.table.now self.entry.at }
     {
         found_at(self.table, self.at)
@@ -95,10 +86,9 @@ impl<'a> Reader<'a> {
     pub fn next(self) -> Reader<'a>
         ensures { (result.table ≡ self.entry.table) × (result.at ≡ place_after self.entry.table.now self.entry.at) }
     {
-        let at = place_after(self.table, self.at);
         Reader {
             table: self.table,
-            at: at,
+            at: place_after(self.table, self.at),
         }
     }
 }
@@ -107,12 +97,9 @@ impl<'a> Reader<'a> {
 pub fn step_at(table: &[u8], at: usize) -> Step
     ensures { result ≡ step_at table.now at }
 {
-    let reader = Reader { table, at };
-    let found = reader.found();
-    let next = reader.next();
     Step {
-        found: found,
-        next: next.at,
+        found: found_at(table, at),
+        next: place_after(table, at),
     }
 }
 
@@ -120,22 +107,8 @@ fn rule_in(found: Record) -> usize
     ensures { result ≡ rule_in found }
 {
     match found {
-        Record::Initial(_) => 0,
         Record::Head(_) => 1,
-        Record::Clause => 0,
-        Record::Atomic(_) => 0,
-        Record::Change(_) => 0,
-        Record::Cut => 0,
-        Record::Unknown => 0,
-    }
-}
-
-fn rules_in(found: Found) -> usize
-    ensures { result ≡ rules_in found }
-{
-    match found {
-        Found::One(one) => rule_in(one),
-        Found::End => 0,
+        _ => 0,
     }
 }
 
@@ -144,12 +117,8 @@ pub fn count_rules(table: &[u8]) -> usize
     ensures { result ≡ count_rules (records table.now) }
 {
     let mut count: usize = 0;
-    let mut at: usize = 0;
-    while at < table.len() {
-        let step = step_at(table, at);
-        let found = step.found;
-        count += rules_in(found);
-        at = step.next;
+    for part in Parts::new(Notation::Table, table, 0) {
+        count += rule_in(table_format::record_of(part.bytes));
     }
     count
 }

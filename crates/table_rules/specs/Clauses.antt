@@ -1,9 +1,8 @@
 -- Walks over the clauses of a rule, record by record. That a walk says what the clauses as data say, whatever the bytes.
 use Rattle.std.specs.Prelude.{◌≡◌, refl, Bool, true, false, cond, ◌&&◌, ◌||◌, not, List, [], ◌∷◌, ℕ, ◌+◌, ◌-◌, ◌<◌, ◌≤◌, get_or, length, drop, eqb}
-use Rattle.std.proofs.Common.{◌∙◌, arith}
+use Rattle.std.proofs.Common.{◌∙◌, arith, ne_eqb}
 use Rattle.std.proofs.Math.Bool.{or_assoc}
 use Rattle.std.proofs.Math.Decide.{dec_lt}
-use borrow.Author.Tests.{ne_eqb}
 use Rattle.numbers.specs.declared.Value.{Value}
 use Rattle.numbers.specs.Values.{u16_at, value_at, bits_of}
 use Rattle.records.specs.declared.Notation.TheVariants as notations
@@ -14,11 +13,11 @@ use Rattle.table_format.specs.declared.Record.TheVariants.{Initial, Head, Clause
 use Rattle.table_format.specs.Variables.{now_var}
 use Rattle.table_format.specs.Format.{record_of, records, atom_of, kind_of}
 use Rattle.table_format.specs.Table.{gather}
-use Rattle.table_format.specs.RecordsAt.{records_end}
+use Rattle.records.specs.declared.walks.Part.{Part}
+use Rattle.table_format.specs.RecordsAt.{records_end, IsTablePart, records_step}
 use Rattle.table_semantics.specs.Rules.{value_of, operand_value, holds_op, holds, clause_holds, all_hold}
 use Rattle.table_rules.specs.At.{bytes_at, clauses_at}
 use Rattle.table_rules.specs.Places.{clause_records, head_records, atom_records, head_cut, atom_cut, other_records, other_kind}
-use Rattle.table_semantics.specs.Choices.{one}
 
 -- ---- clauses
 unfoldable pub reads_clock : Atom → Bool
@@ -76,7 +75,7 @@ held_after free v b (Change u) = b
 held_after free v b Cut = b
 held_after free v b Unknown = b
 
-held_other : (free : Bool) (v : List Value) (b : Bool) (x : Record) → (kind_of x ≡ 34 → ⊥) → (kind_of x ≡ 35 → ⊥) → b ≡ held_after free v b x
+pub held_other : (free : Bool) (v : List Value) (b : Bool) (x : Record) → (kind_of x ≡ 34 → ⊥) → (kind_of x ≡ 35 → ⊥) → b ≡ held_after free v b x
 unfolding kind_of held_after
 held_other free v b (Initial x) h k = refl
 held_other free v b (Head x) h k = refl
@@ -154,3 +153,25 @@ module _ (free : Bool) (v : List Value) (b : Bool) (s : List ℕ) (p : ℕ) (h :
       let x = record_of (bytes_at s p m) in
       let o = held_other free v b x (other_kind s p m h e 34 j (omega arith)) (other_kind s p m h e 35 k (omega arith)) in
       rw (other_records s p m h e, ne_eqb (kind_of x) 33 (other_kind s p m h e 33 i (omega arith)), ne_eqb (kind_of x) 34 (other_kind s p m h e 34 j (omega arith)), ← o)
+
+-- ---- the same, by the kind of the record x that a part gives; l are those behind it
+module _ (free : Bool) (v : List Value) (b : Bool) (x : Record) where
+  pub held_clause : x ≡ Clause → false ≡ held_after free v b x
+  unfolding held_after
+  held_clause e = rw e
+
+  pub held_atom : (a : Atom) → x ≡ Atomic a → (r : Bool) → r ≡ (b || passes free v a) → r ≡ held_after free v b x
+  unfolding held_after
+  held_atom a e r q = rw (e, q)
+
+-- the part y that a walk gives at p, and k its kind
+module _ (free : Bool) (v : List Value) (b : Bool) (s : List ℕ) (p : ℕ) (y : Part) (q : ℕ) (w : IsTablePart s p y q) (k : ℕ)
+    (e : k ≡ kind_of (record_of y.bytes.now)) (d : Bool) (f : d ≡ is_decided b k) where
+  pub pass_decided : d ≡ true → b ≡ pass_from free v b (records (drop p s))
+  unfolding pass_from
+  pass_decided t = rw (records_step s p y q w, ← e, ← f, t)
+
+  pub pass_on : d ≡ false → (r : Bool) → r ≡ held_after free v b (record_of y.bytes.now) →
+      pass_from free v r (records (drop q s)) ≡ pass_from free v b (records (drop p s))
+  unfolding pass_from
+  pass_on t r g = rw (records_step s p y q w, ← e, ← f, t, g)

@@ -1,10 +1,7 @@
 -- What stands at a place of a table, by its kind byte: for walks that decode no more than they need.
 use Rattle.std.specs.Prelude.{◌≡◌, List, [], ◌∷◌, ℕ, ◌+◌, ◌-◌, ◌<◌, ◌≤◌, get_or, length, drop}
-use Rattle.std.proofs.Math.Path.{refl}
-use Rattle.std.proofs.Common.{sym, ◌∙◌, ap}
-use native.Mathlib.Omega.{arith}
+use Rattle.std.proofs.Common.{refl, sym, ◌∙◌, ap, arith, ne_eqb, lt-ltb, le-ltb}
 use Rattle.std.proofs.Math.Decide.{dec_lt, ℕ_discrete}
-use borrow.Author.Tests.{ne_eqb, lt-ltb, le-ltb}
 use Rattle.records.specs.declared.Notation.TheVariants as notations
 use Rattle.records.specs.Format.{record_size, part_length, part_length_at}
 use Rattle.records.specs.Walk.{part_size, part_byte, next_place}

@@ -6,15 +6,15 @@ ghost use Rattle.std.specs.Prelude.{◌≡◌};
 ghost use Rattle.numbers.specs.Lists.{store};
 ghost use Rattle.numbers.specs.Values.{value, signed};
 ghost use Rattle.table_format.specs.Variables.{variables};
-ghost use Rattle.table_format.specs.Format.{atom_of};
+ghost use Rattle.table_format.specs.Format.{atom_of, record_of};
 ghost use Rattle.table_semantics.specs.Rules as rules;
 ghost use Rattle.table_semantics.specs.Runs.{values};
 ghost use Rattle.table_rules.specs.At.{clauses_at};
-ghost use Rattle.table_rules.specs.Clauses.{passes, all_pass};
+ghost use Rattle.table_rules.specs.Clauses.{passes, is_decided, held_after, all_pass};
 
 use numbers::Value;
-use records::{CLAUSE_SIZE, Notation, TABLE_ATOM, TABLE_ATOM_SIZE, TABLE_CLAUSE, TABLE_RULE};
-use table_format::VARIABLES;
+use records::{Notation, Parts, TABLE_ATOM, TABLE_CLAUSE, TABLE_RULE};
+use table_format::{CONSTANT_TAG, EQUALS, MULTIPLE_OF, VARIABLE_TAG, VARIABLES};
 use table_semantics::Variables;
 
 // ---- the variables as bits
@@ -30,55 +30,35 @@ pub fn bits_of(x: Value) -> u32
 pub fn all_bits(s: Variables) -> [u32; VARIABLES]
     ensures { values result ≡ s.value }
 {
-    let mut bits = [0; VARIABLES];
-    let mut j: usize = 0;
-    while j < VARIABLES {
-        let x = s.value[j];
-        bits[j] = bits_of(x);
-        j += 1;
-    }
-    bits
+    s.value.map(|x| bits_of(x))
 }
 
 pub fn variables_of(bits: [u32; VARIABLES]) -> Variables
     ensures { result ≡ record { value = values bits } }
 {
-    let zero = numbers::value_of(0);
-    let mut a = [zero; VARIABLES];
-    let mut j: usize = 0;
-    while j < VARIABLES {
-        let n = bits[j];
-        a[j] = numbers::value_of(n);
-        j += 1;
+    Variables {
+        value: bits.map(|n| numbers::value_of(n)),
     }
-    Variables { value: a }
 }
 
 // A variable; one that is not there reads 0.
 pub fn value_in(bits: &[u32], j: usize) -> Value
     ensures { result ≡ rules.value_of (values bits.now) j }
 {
-    if VARIABLES <= j {
-        return numbers::value_of(0);
+    if j < VARIABLES {
+        numbers::value_of(numbers::item_or(bits, j, 0))
+    } else {
+        numbers::value_of(0)
     }
-    if bits.len() <= j {
-        return numbers::value_of(0);
-    }
-    let n = bits[j];
-    numbers::value_of(n)
 }
 
 // The bits of a variable; one that is not there is not written.
 pub fn put(bits: &mut [u32], j: usize, n: u32)
     ensures { bits.new ≡ store variables bits.old j n }
 {
-    if VARIABLES <= j {
-        return;
+    if j < VARIABLES {
+        numbers::put_item(bits, j, n);
     }
-    if bits.len() <= j {
-        return;
-    }
-    bits[j] = n;
 }
 
 // ---- rules
@@ -86,44 +66,41 @@ pub fn put(bits: &mut [u32], j: usize, n: u32)
 pub fn operand_value(n: u32, bits: &[u32], tag: u8, x: Value) -> Value
     ensures { result ≡ rules.operand_value n (values bits.now) (record { tag = tag; value = x }) }
 {
-    if tag == 0 {
-        return x;
+    match tag {
+        CONSTANT_TAG => x,
+        VARIABLE_TAG => value_in(bits, numbers::bits(x) as usize),
+        _ => numbers::value_of(n),
     }
-    if tag == 1 {
-        let j = numbers::bits(x);
-        return value_in(bits, j as usize);
-    }
-    numbers::value_of(n)
 }
 
 // Most atoms ask whether two values are the same.
 fn holds_op(op: u8, x: Value, y: Value) -> bool
     ensures { result ≡ rules.holds_op op x y }
 {
-    if op == 0 {
-        return numbers::same(x, y);
+    if op == EQUALS {
+        return x == y;
     }
-    if op < 6 {
+    if op < MULTIPLE_OF {
         return numbers::compares(op, x, y);
     }
-    let m = numbers::magnitude(x);
-    let p = numbers::bits(y);
-    if op == 6 {
-        return numbers::is_multiple(m, p);
+    let is_multiple = numbers::is_multiple(numbers::magnitude(x), numbers::bits(y));
+    if op == MULTIPLE_OF {
+        is_multiple
+    } else {
+        !is_multiple
     }
-    !numbers::is_multiple(m, p)
 }
 
 // Whether the atom that a part holds does. `free`: one that reads the clock, as its variable or as its operand, passes, whatever the clock is.
 fn passes(free: bool, bits: &[u32], part: &[u8]) -> bool
     ensures { result ≡ passes free (values bits.now) (atom_of part.now) }
 {
-    let op = numbers::byte_at(part, 1);
+    let op = numbers::item_or(part, 1, 0);
     let j = numbers::u16_at(part, 2);
-    let tag = numbers::byte_at(part, 4);
+    let tag = numbers::item_or(part, 4, 0);
     let y = numbers::value_at(part, 5);
     let n = numbers::bits(y);
-    if free & ((j == 0) | ((tag == 1) & (n == 0))) {
+    if free & ((j == 0) | ((tag == VARIABLE_TAG) & (n == 0))) {
         return true;
     }
     let a = value_in(bits, j as usize);
@@ -131,40 +108,34 @@ fn passes(free: bool, bits: &[u32], part: &[u8]) -> bool
     holds_op(op, a, b)
 }
 
-// Whether all clauses hold of the rule whose records after its head begin at `from`. An atom is decoded only where its clause does not hold
-// yet. A record that is cut is the last.
+// Whether a walk over clauses ends at a record of a kind: at a rule's head they are over, at a clause the one before may have failed.
+fn is_decided(held: bool, kind: u8) -> bool
+    ensures { result ≡ is_decided held kind }
+{
+    (kind == TABLE_RULE) | ((kind == TABLE_CLAUSE) & !held)
+}
+
+// Whether the last clause holds after one record more. An atom is decoded only where it does not hold yet.
+fn held_after(free: bool, bits: &[u32], held: bool, part: &[u8]) -> bool
+    ensures { result ≡ held_after free (values bits.now) held (record_of part.now) }
+{
+    match table_format::kind_of(part) {
+        TABLE_CLAUSE => false,
+        TABLE_ATOM => held || passes(free, bits, part),
+        _ => held,
+    }
+}
+
+// Whether all clauses hold of the rule whose records after its head begin at `from`. A record that is cut is the last.
 pub fn all_pass(table: &[u8], from: usize, free: bool, bits: &[u32]) -> bool
     ensures { result ≡ all_pass free (values bits.now) (clauses_at table.now from) }
 {
-    let mut at: usize = from;
     let mut held = true;
-    while at < table.len() {
-        let k = table[at];
-        if k == TABLE_CLAUSE {
-            if !held {
-                return false;
-            }
-            held = false;
-            at += CLAUSE_SIZE;
-            continue;
-        }
-        if k == TABLE_ATOM {
-            if table.len() - at < TABLE_ATOM_SIZE {
-                return held;
-            }
-            if held {
-                at += TABLE_ATOM_SIZE;
-                continue;
-            }
-            held = passes(free, bits, &table[at..at + TABLE_ATOM_SIZE]);
-            at += TABLE_ATOM_SIZE;
-            continue;
-        }
-        if k == TABLE_RULE {
+    for part in Parts::new(Notation::Table, table, from) {
+        if is_decided(held, table_format::kind_of(part.bytes)) {
             return held;
         }
-        let w = Notation::Table;
-        at += records::part_length_at(w, table, at);
+        held = held_after(free, bits, held, part.bytes);
     }
     held
 }

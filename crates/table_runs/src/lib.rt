@@ -6,7 +6,7 @@ ghost use Rattle.std.specs.Prelude.{◌≡◌};
 ghost use Rattle.table_semantics.specs.Machine as machine;
 ghost use Rattle.table_semantics.specs.Runs.{variables_of, ended_of, tally_of};
 
-use records::Refusal;
+use records::{Events, Refusal};
 use table_format::VARIABLES;
 use table_machine::INDEX;
 use table_semantics::{Ran, Tallied};
@@ -14,11 +14,10 @@ use table_semantics::{Ran, Tallied};
 fn ended(taken: usize, refusal: Refusal, bits: [u32; VARIABLES]) -> Ran
     ensures { ended_of result ≡ record { taken = taken; refusal = refusal; state = variables_of bits } }
 {
-    let state = table_rules::variables_of(bits);
     Ran {
-        taken: taken,
-        refusal: refusal,
-        state: state,
+        taken,
+        refusal,
+        state: table_rules::variables_of(bits),
     }
 }
 
@@ -30,17 +29,12 @@ pub fn run_table(table: &[u8], script: &[u8]) -> Ran
     table_index::list_rules(table, &mut index);
     let mut bits = table_rules::all_bits(table_machine::start_variables(table));
     let mut taken: usize = 0;
-    let mut at: usize = 0;
-    while at < script.len() {
-        let listed = records::event_at(script, at);
-        let event = listed.event;
-        let end = listed.end;
-        let answer = table_machine::step_on(table, &index, &mut bits, event);
+    for (at, listed) in Events::new(script) {
+        let answer = table_machine::step_on(table, &index, &mut bits, listed.event);
         if !records::is_none(answer) {
-            return ended(taken, records::in_script(answer, at, end), bits);
+            return ended(taken, records::in_script(answer, at, listed.end), bits);
         }
         taken += 1;
-        at = end;
     }
     ended(taken, records::no_refusal(), bits)
 }
@@ -54,22 +48,17 @@ pub fn run_on(table: &[u8], script: &[u8]) -> Tallied
     let mut bits = table_rules::all_bits(table_machine::start_variables(table));
     let mut taken: usize = 0;
     let mut refused: usize = 0;
-    let mut at: usize = 0;
-    while at < script.len() {
-        let listed = records::event_at(script, at);
-        let event = listed.event;
-        let answer = table_machine::step_on(table, &index, &mut bits, event);
-        at = listed.end;
+    for (_, listed) in Events::new(script) {
+        let answer = table_machine::step_on(table, &index, &mut bits, listed.event);
         if records::is_none(answer) {
             taken += 1;
         } else {
             refused += 1;
         }
     }
-    let state = table_rules::variables_of(bits);
     Tallied {
-        taken: taken,
-        refused: refused,
-        state: state,
+        taken,
+        refused,
+        state: table_rules::variables_of(bits),
     }
 }

@@ -1,24 +1,22 @@
 -- The enabled rules of an event among the words that list rules. Words of another key, or with a guard that fails, are passed over without a
 -- look at the table: listed or not, their rule is not for the event, or not enabled.
 use Rattle.std.specs.Prelude.{◌≡◌, Bool, ◌&&◌, List, ◌∷◌, ◌++◌, ℕ, ◌+◌, ◌/◌, ◌%◌, ◌<◌, ◌≤◌, get_or, length, drop, eqb}
-use Rattle.std.proofs.Math.Path.{refl}
-use Rattle.std.proofs.Common.{sym, ◌∙◌}
-use Rattle.std.proofs.Math.Bool.{true, false, cond}
-use borrow.Author.Tests.{eq-eqb, eqb-true}
+use Rattle.std.proofs.Common.{arith, refl, sym, ◌∙◌, true, false, cond, eqb-true}
 use Rattle.numbers.specs.declared.Value.{Value}
 use Rattle.records.specs.declared.Event.{Event}
 use Rattle.table_format.specs.declared.RuleHead.{RuleHead}
 use Rattle.table_format.specs.Table.{Rule}
 use Rattle.table_semantics.specs.Rules.{all_hold, enabled_rules}
 use Rattle.table_search.specs.declared.Found.{Found}
+use Rattle.table_search.specs.declared.Found.TheVariants.{Nothing}
 use Rattle.table_rules.specs.At.{head_in, clauses_at, rule_at}
 use Rattle.table_index.specs.Index.{key_of, key_at, is_listed, listed}
 use Rattle.table_rules.specs.Places.{HeadAt, head_kind, head_id}
-use Rattle.table_search.specs.Enabled.{is_asked, found_one_more, found_rule, rules_found, FindsIn, find_rule}
+use Rattle.table_search.specs.Enabled.{is_asked, found_one_more, found_rule, choice_found, both, FindsIn, find_rule}
 use Rattle.table_semantics.specs.Choices.{choice}
 use Rattle.table_index.specs.IndexLaws.{and_false}
 use Rattle.table_index.specs.Guards.{may_hold, untold, never}
-use Rattle.table_index.specs.Listed.{parts_of, guard_disables, rest_is_all, dropped, listed_over}
+use Rattle.table_index.specs.Listed.{parts_of, guard_disables, rest_is_all, dropped, listed_over, IsPair}
 
 -- what is found where the rule that two words list is looked at too
 unfoldable pub found_listed : List ℕ → List Value → Event → Found → ℕ → ℕ → Found
@@ -111,6 +109,17 @@ module _ (s : List ℕ) (v : List Value) (e : Event) (f₀ : Found) (d : List �
       let b : FindsIn s v e f (listed s (get_or d i 0 ∷ get_or d (i + 1) 0 ∷ drop (i + 2) d) ++ r) ≡ FindsIn s v e f₀ (listed s d ++ r) = rw (dropped d i h) at (a r) in
       rw x (find_listed s v e f (get_or d i 0) (get_or d (i + 1) 0) (drop (i + 2) d) r ∙ b)
 
-  pub finds_end : (f : Found) (i : ℕ) → length d ≤ i + 1 → f₀.count ≡ 0 → FindsBy s v e f (drop i d) f₀ d → FindsListed s v e f d
-  unfolding rules_found
-  finds_end f i h z a r = rw (listed_over s d i h, eq-eqb f₀.count 0 z) at (a r)
+  pub finds_end : (f : Found) (i : ℕ) → length d ≤ i + 1 → f₀ ≡ Nothing → FindsBy s v e f (drop i d) f₀ d → FindsListed s v e f d
+  unfolding choice_found both
+  finds_end f i h z a r = rw (listed_over s d i h, z) at (a r)
+
+-- the same, two words x at a time: u are those that are left, then w
+module _ (s : List ℕ) (v : List Value) (e : Event) (f₀ : Found) (d : List ℕ) (f : Found) (u w x : List ℕ) (i : IsPair u x w) where
+  pub finds_pair : (q : Found) → q ≡ found_listed s v e f (get_or x 0 0) (get_or x 1 0) → FindsBy s v e f u f₀ d → FindsBy s v e q w f₀ d
+  finds_pair q y a r =
+      let b : FindsIn s v e f (listed s (get_or x 0 0 ∷ get_or x 1 0 ∷ w) ++ r) ≡ FindsIn s v e f₀ (listed s d ++ r) = rw i.words at (a r) in
+      rw y (find_listed s v e f (get_or x 0 0) (get_or x 1 0) w r ∙ b)
+
+pub finds_all : (s : List ℕ) (v : List Value) (e : Event) (d : List ℕ) (f : Found) (u : List ℕ) → length u < 2 → FindsBy s v e f u Nothing d → FindsListed s v e f d
+unfolding choice_found both
+finds_all s v e d f u h a r = rw (listed_over s u 0 (omega arith)) at (a r)

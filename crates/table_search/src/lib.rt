@@ -7,45 +7,34 @@ ghost use Rattle.table_format.specs.Format.{record_of};
 ghost use Rattle.table_semantics.specs.Rules as rules;
 ghost use Rattle.table_semantics.specs.Runs.{values};
 ghost use Rattle.table_index.specs.Index.{rules_in};
-ghost use Rattle.table_search.specs.Enabled.{is_asked, found_one_more, rules_found, found_rule, found_after, Finds};
+ghost use Rattle.table_search.specs.Enabled.{is_asked, found_one_more, choice_found, found_rule, found_after, Finds};
 ghost use Rattle.table_semantics.specs.Choices.{choice};
 ghost use Rattle.table_search.specs.FindListed.{found_listed, FindsListed};
 
-use records::{Event, Notation, RULE_SIZE, TABLE_RULE};
+use records::{Event, Notation, Parts, RULE_SIZE, TABLE_RULE};
 use table_format::RuleHead;
-use table_index::KEYS;
+use table_index::{KEYS, Rules};
 
-// Those of its kind and id: none, one or more (`count` 0, 1, 2). Of the last one its head, and the place after that.
+// Those of its kind and id: of one its head, and the place after that.
 #[derive(Clone, Copy)]
-pub struct Found {
-    pub count: usize,
-    pub place: usize,
-    pub head: RuleHead,
+pub enum Found {
+    Nothing,
+    One { place: usize, head: RuleHead },
+    Several,
 }
 
 fn is_asked(event: Event, head: RuleHead) -> bool
     ensures { result ≡ is_asked event head }
 {
-    let k = head.kind;
-    let i = head.id;
-    (k == event.kind) & (i == event.id)
+    (head.kind == event.kind) & (head.id == event.id)
 }
 
 fn found_one_more(found: Found, place: usize, head: RuleHead) -> Found
     ensures { result ≡ found_one_more found place head }
 {
-    let n = found.count;
-    if n == 0 {
-        return Found {
-            count: 1,
-            place: place,
-            head: head,
-        };
-    }
-    Found {
-        count: 2,
-        place: place,
-        head: head,
+    match found {
+        Found::Nothing => Found::One { place, head },
+        _ => Found::Several,
     }
 }
 
@@ -87,16 +76,11 @@ fn found_after(
 
 // The enabled rules of an event among those from a place on, beside those found before.
 fn find_from(table: &[u8], from: usize, bits: &[u32], event: Event, before: Found) -> Found
-    ensures { choice (rules_found table.now result) ≡ Finds table.now (values bits.now) event before from }
+    ensures { choice_found table.now result ≡ Finds table.now (values bits.now) event before from }
 {
     let mut found = before;
-    let mut at: usize = from;
-    while at < table.len() {
-        let w = Notation::Table;
-        let n = records::part_length_at(w, table, at);
-        let next = at + n;
-        found = found_after(table, bits, event, found, next, &table[at..next]);
-        at = next;
+    for part in Parts::new(Notation::Table, table, from) {
+        found = found_after(table, bits, event, found, part.end, part.bytes);
     }
     found
 }
@@ -131,35 +115,20 @@ fn found_listed(
 fn find_listed(table: &[u8], words: &[usize], bits: &[u32], event: Event) -> Found
     ensures { FindsListed table.now (values bits.now) event result words.now }
 {
-    let head = RuleHead {
-        kind: 0,
-        id: 0,
-        low: 0,
-        high: 0,
-    };
-    let mut found = Found {
-        count: 0,
-        place: 0,
-        head: head,
-    };
+    let mut found = Found::Nothing;
     let key = table_index::key_of(event.kind, event.id);
-    let mut i: usize = 0;
-    while i + 1 < words.len() {
-        let word = words[i];
-        if word % KEYS != key {
-            i += 2;
-            continue;
+    for pair in words.chunks_exact(2) {
+        if pair[0] % KEYS == key {
+            found = found_listed(table, bits, event, found, pair[0], pair[1]);
         }
-        found = found_listed(table, bits, event, found, word, words[i + 1]);
-        i += 2;
     }
     found
 }
 
-// The enabled rules of an event, among those that words list and those from `rest` on.
-pub fn find(table: &[u8], words: &[usize], rest: usize, bits: &[u32], event: Event) -> Found
-    ensures { choice (rules_found table.now result) ≡ choice (rules.enabled_rules (values bits.now) event.kind event.id (rules_in table.now words.now rest)) }
+// The enabled rules of an event among all.
+pub fn find(all: Rules, bits: &[u32], event: Event) -> Found
+    ensures { choice_found all.entry.table.now result ≡ choice (rules.enabled_rules (values bits.now) event.kind event.id (rules_in all.entry.table.now all.entry.words.now all.entry.rest)) }
 {
-    let found = find_listed(table, words, bits, event);
-    find_from(table, rest, bits, event, found)
+    let found = find_listed(all.table, all.words, bits, event);
+    find_from(all.table, all.rest, bits, event, found)
 }

@@ -1,23 +1,20 @@
 -- The machine's answers: how the enabled rules decide, one event, and a refused event.
 use Rattle.std.specs.Prelude.{◌≡◌, refl, Bool, true, false, cond, List, [], ◌∷◌, ℕ, zero, suc, eqb}
-use Rattle.std.proofs.Common.{◌∙◌, ap, arith}
-use borrow.Author.Tests.{ne_eqb}
+use Rattle.std.proofs.Common.{◌∙◌, ap, arith, ne_eqb}
 use Rattle.numbers.specs.declared.Value.{Value}
 use Rattle.records.specs.declared.Event.{Event}
 use Rattle.table_format.specs.Table.{Rule}
 use Rattle.table_semantics.specs.Rules.{enabled_rules, Write, writes, inconsistent, written}
 use Rattle.table_semantics.specs.Machine.{is_busy, refuse, accept, allows_length, fire, now_in, ticks, step}
-use Rattle.numbers.specs.Lists.{store}
-use Rattle.numbers.specs.Values.{natural, plus, less_value}
+use Rattle.numbers.specs.Values.{natural, less_value}
 use Rattle.records.specs.declared.Cause.{Cause}
-use Rattle.records.specs.declared.Cause.TheVariants.{BrokenEvent, NotEnabled, LastClock, ConflictingRules, InconsistentUpdates}
+use Rattle.records.specs.declared.Cause.TheVariants.{BrokenEvent, NotEnabled, LastClock, InconsistentUpdates}
 use Rattle.records.specs.Events.{tick_kind, is_broken, last_clock}
 use Rattle.records.specs.Refusals.{number_of, is_none}
-use Rattle.table_format.specs.Variables.{variables, now_var}
 use Rattle.table_semantics.specs.declared.Variables.{Variables}
 use Rattle.table_semantics.specs.declared.Stepped.{Stepped}
 use Rattle.table_semantics.specs.Runs.{variables_of, stepped_to}
-use Rattle.table_semantics.specs.Choices.{Choice, none, one, several, choice, firing, one_tick}
+use Rattle.table_semantics.specs.Choices.{choice, firing, one_tick}
 
 -- ---- the enabled rules decide
 pub fire_by_choice : (s : Variables) (e : Event) (l : List Rule) → firing s e (choice l) ≡ fire s e l

@@ -1,8 +1,7 @@
 -- Laws of the rules' meaning, one for each way in which the code returns.
 use Rattle.std.specs.Prelude.{◌≡◌, refl, Bool, true, false, cond, not, List, [], ◌∷◌, ◌++◌, ℕ, ◌^◌, ◌<◌, ◌≤◌, get_or, nat_abs}
-use mir.Syntax.{w32}
+use Rattle.std.proofs.Common.{w32, eq-eqb, ne_eqb, lt-ltb, le-ltb}
 use mir.ValLaws.{of_z-to_z}
-use borrow.Author.Tests.{eq-eqb, ne_eqb, lt-ltb, le-ltb}
 use Rattle.numbers.specs.declared.Value.{Value}
 use Rattle.numbers.specs.Values.{u16_at, value_at, value, signed, bits_of, combine, compares, same_value}
 use Rattle.numbers.specs.Multiples.{is_multiple}

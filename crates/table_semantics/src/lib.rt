@@ -13,6 +13,7 @@ pub struct Variables {
 }
 
 // The answer to an event, and the variables one event further, or as they were where it is refused.
+// Kept as one struct: the definition `step` gives it, and a refused event has a state too.
 #[derive(Clone, Copy)]
 pub struct Stepped {
     pub answer: Cause,
@@ -20,6 +21,7 @@ pub struct Stepped {
 }
 
 // What a run came to: the events taken, the refusal that stopped it, and the variables.
+// Kept as one struct: the definition of a run gives it, and events are taken before the refusal too.
 #[derive(Clone, Copy)]
 pub struct Ran {
     pub taken: usize,

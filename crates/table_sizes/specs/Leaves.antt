@@ -1,6 +1,7 @@
 -- What one item adds, as the code tells it.
-use Rattle.std.specs.Prelude.{◌≡◌, Bool, true, false, not, ℕ, ◌+◌, ◌*◌, ◌≤◌, eqb}
+use Rattle.std.specs.Prelude.{◌≡◌, refl, Bool, true, false, not, ℕ, ◌+◌, ◌*◌, ◌≤◌, eqb}
 use Rattle.std.proofs.Math.Path.{sym, ap}
+use Rattle.std.specs.Int.{from_bool}
 use Rattle.std.proofs.Common.{◌∙◌, arith}
 use borrow.Author.Tests.{ne_eqb}
 use Rattle.numbers.specs.declared.Value.{Value}
@@ -80,6 +81,18 @@ module _ (m : Timing) (i : ℕ) {x : Owned} {n : ℕ} (h : n ≡ bit (not (same_
   pub local_begun : x ≡ local_at m i → n ≡ local_starts m i
   unfolding local_starts
   local_begun e = h ∙ rw (← e)
+
+-- a test as the number that the code makes of it
+pub bit_told : (p : Bool) → from_bool p ≡ bit p
+bit_told true = refl
+bit_told false = refl
+
+pub value_told : (x : Value) {p : Bool} {n : ℕ} → p ≡ not (same_value x (natural 0)) → n ≡ from_bool p → (n ≡ bit (not (same_value x (natural 0)))) × (n ≤ 1)
+value_told x {p} h e = (e ∙ (bit_told p ∙ ap bit h), rw e (few p))
+  where
+    few : (p : Bool) → from_bool p ≤ 1
+    few true = omega arith
+    few false = omega arith
 
 pub within_two : {n : ℕ} → n ≤ 1 → n ≤ 2
 within_two h = omega arith

@@ -50,7 +50,7 @@ fn size_by(starts: usize, x: Counts) -> TableSize
         + TABLE_ATOM_SIZE * x.atoms
         + UPDATE_SIZE * x.updates;
     TableSize {
-        bytes: bytes,
+        bytes,
         rules: x.rules,
         clauses: x.clauses,
         atoms: x.atoms,
@@ -63,9 +63,7 @@ pub fn size_of(model: &[u32]) -> TableSize
     requires { WellFormed (model_in model.now) }
     ensures { result ≡ size_of (table_bytes (model_in model.now)) }
 {
-    let starts = item_starts(model);
-    let counts = item_counts(model);
-    size_by(starts, counts)
+    size_by(item_starts(model), item_counts(model))
 }
 
 fn no_size() -> TableSize
@@ -88,16 +86,14 @@ pub fn foretell(model: &[u8]) -> Sized
     let refusal = model_reader::read_records(model, &mut words);
     let cause = refusal.cause;
     if !is_none(cause) {
-        let none = no_size();
         return Sized {
-            refusal: refusal,
-            size: none,
+            refusal,
+            size: no_size(),
         };
     }
     let size = size_of(&words);
-    let accepted = no_refusal();
     Sized {
-        refusal: accepted,
-        size: size,
+        refusal: no_refusal(),
+        size,
     }
 }

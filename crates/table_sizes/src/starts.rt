@@ -14,17 +14,10 @@ use model_words::{
 };
 use numbers::Value;
 
-fn bit_of(b: bool) -> usize
-    ensures { (result ≡ bit b) × (result ≤ 1) }
-{
-    if b { 1 } else { 0 }
-}
-
 fn head_starts(model: &[u32]) -> usize
     ensures { result ≡ items.head_starts (timing_in model.now) }
 {
-    let mode = initial(model);
-    2 + bit_of(mode != 0)
+    2 + usize::from(initial(model) != 0)
 }
 
 fn thread_starts(model: &[u32], t: usize) -> usize
@@ -32,62 +25,44 @@ fn thread_starts(model: &[u32], t: usize) -> usize
 {
     let thread = thread_at(model, t);
     let mode = initial(model);
-    bit_of(in_mode(thread.modes, mode)) + bit_of(thread.first != 0)
+    usize::from(in_mode(thread.modes, mode)) + usize::from(thread.first != 0)
 }
 
 fn threads_starts(model: &[u32]) -> usize
     requires { GoodTiming (timing_in model.now) }
     ensures { result ≡ sum_below (timing_in model.now).threads (items.thread_starts (timing_in model.now)) }
 {
-    let n = threads(model);
-    let mut sum: usize = 0;
-    let mut t: usize = 0;
-    while t < n {
-        sum += thread_starts(model, t);
-        t += 1;
-    }
-    sum
+    (0..threads(model)).map(|t| thread_starts(model, t)).sum()
 }
 
 fn connection_starts(model: &[u32], c: usize) -> usize
     ensures { result ≡ items.connection_starts (timing_in model.now) c }
 {
     let connection = connection_at(model, c);
-    let mode = initial(model);
-    bit_of(in_mode(connection.modes, mode))
+    usize::from(in_mode(connection.modes, initial(model)))
 }
 
 fn connections_starts(model: &[u32]) -> usize
     requires { GoodTiming (timing_in model.now) }
     ensures { result ≡ sum_below (timing_in model.now).connections (items.connection_starts (timing_in model.now)) }
 {
-    let n = connections(model);
-    let mut sum: usize = 0;
-    let mut c: usize = 0;
-    while c < n {
-        sum += connection_starts(model, c);
-        c += 1;
-    }
-    sum
+    (0..connections(model))
+        .map(|c| connection_starts(model, c))
+        .sum()
 }
 
 // A start value that is not 0.
 fn value_starts(start: Value) -> usize
     ensures { (result ≡ bit (not (same_value start (natural 0)))) × (result ≤ 1) }
 {
-    let zero = Value(0);
-    if numbers::same(start, zero) {
-        return 0;
-    }
-    1
+    usize::from(start != Value(0))
 }
 
 // Of an input port, and as many of its buffer.
 fn input_starts(model: &[u32], i: usize) -> usize
     ensures { result ≡ items.input_starts (timing_in model.now) i }
 {
-    let input = input_at(model, i);
-    let own = value_starts(input.start);
+    let own = value_starts(input_at(model, i).start);
     own + own
 }
 
@@ -95,35 +70,20 @@ fn inputs_starts(model: &[u32]) -> usize
     requires { GoodTiming (timing_in model.now) }
     ensures { result ≡ sum_below (timing_in model.now).inputs (items.input_starts (timing_in model.now)) }
 {
-    let n = inputs(model);
-    let mut sum: usize = 0;
-    let mut i: usize = 0;
-    while i < n {
-        sum += input_starts(model, i);
-        i += 1;
-    }
-    sum
+    (0..inputs(model)).map(|i| input_starts(model, i)).sum()
 }
 
 fn local_starts(model: &[u32], v: usize) -> usize
     ensures { result ≡ items.local_starts (timing_in model.now) v }
 {
-    let local = local_at(model, v);
-    value_starts(local.start)
+    value_starts(local_at(model, v).start)
 }
 
 fn locals_starts(model: &[u32]) -> usize
     requires { GoodTiming (timing_in model.now) }
     ensures { result ≡ sum_below (timing_in model.now).locals (items.local_starts (timing_in model.now)) }
 {
-    let n = locals(model);
-    let mut sum: usize = 0;
-    let mut v: usize = 0;
-    while v < n {
-        sum += local_starts(model, v);
-        v += 1;
-    }
-    sum
+    (0..locals(model)).map(|v| local_starts(model, v)).sum()
 }
 
 pub fn item_starts(model: &[u32]) -> usize

@@ -1,11 +1,9 @@
 -- A copy of the variables, on which the clock goes on: what the rules say of it they say of the variables.
-use Rattle.std.specs.Prelude.{◌≡◌, Bool, true, false, ℕ, zero, suc, ◌+◌, ◌<◌, ◌≤◌, min, ltb, eqb, get_or, set, length, replicate}
-use Rattle.std.proofs.Math.Path.{refl, ap}
-use Rattle.std.proofs.Common.{sym, ◌∙◌, arith, get_or-set_same, get_or-set_other, lt-ltb, le-ltb}
-use Rattle.std.proofs.Math.Bool.{cond}
-use mathlib.Core.List.{List, [], ◌∷◌}
+use Rattle.std.specs.Prelude.{take, drop, ◌++◌, ◌-◌, ◌≡◌, Bool, true, false, ℕ, zero, suc, ◌+◌, ◌<◌, ◌≤◌, min, eqb, get_or, set, length, replicate}
+use Rattle.std.proofs.Common.{refl, ap, sym, ◌∙◌, arith, get_or-set_same, get_or-set_other, cond, List, [], ◌∷◌}
 use Rattle.std.proofs.Math.Decide.{dec_lt, ℕ_discrete}
-use Rattle.std.proofs.Math.ListN.{get_or-eq_default}
+use Rattle.std.proofs.Math.ListN.{get_or-eq_default, get_or-append}
+use Rattle.std.proofs.lemmas.List.{length-replicate, length-append, length-take, length-drop, get_or-append-add, get_or-take, get_or-drop}
 use Rattle.numbers.specs.declared.Value.{Value}
 use Rattle.numbers.specs.Lists.{first_below}
 use Rattle.numbers.specs.ListLaws.{length_store, item_store_same, item_store_other, first_none, first_found, first_within}
@@ -13,7 +11,7 @@ use Rattle.numbers.specs.Values.{natural, plus, value, signed, bits_of}
 use Rattle.records.specs.declared.Operand.{Operand}
 use Rattle.table_format.specs.declared.Atom.{Atom}
 use Rattle.table_format.specs.Variables.{variables, now_var}
-use Rattle.table_semantics.specs.Rules.{value_of, operand_value, holds_op, holds, clause_holds, all_hold}
+use Rattle.table_semantics.specs.Rules.{value_of, operand_value, holds, clause_holds, all_hold}
 use Rattle.table_semantics.specs.Machine.{now_in}
 use Rattle.table_semantics.specs.Choices.{one_tick}
 use Rattle.table_semantics.specs.Runs.{values}
@@ -59,6 +57,27 @@ copying_end v n w j i e h = record { size = i.size; same = λ k b. go k b (dec_l
     go : (k : ℕ) → k < variables → Dec (k < j) → get_or w k 0 ≡ get_or v k 0
     go k b (yes q) = i.done k q
     go k b (no q) = i.left k (omega arith) ∙ sym (get_or-eq_default v 0 (let o = i.over in omega arith))
+
+-- by the library's copy: the first n are those of v, the others as they were
+pub copied_front : (v w : List ℕ) (n : ℕ) → n ≡ min (length v) variables → w ≡ take n v → Copied v (w ++ drop n (replicate variables 0))
+copied_front v w n e f = record { size = size; same = λ k b. go k b (dec_lt k n) }
+  where
+    long : length w ≡ n
+    long = ap length f ∙ length-take n v ∙ omega arith
+
+    size : length (w ++ drop n (replicate variables 0)) ≡ variables
+    size =
+        let d : length {A = ℕ} (drop n (replicate variables 0)) ≡ variables - n =
+        length-drop n (replicate variables 0) ∙ ap (λ (m : ℕ). m - n) (length-replicate {A = ℕ} variables 0) in
+        length-append w (drop n (replicate variables 0)) ∙ omega (arith, long, d)
+
+    go : (k : ℕ) → k < variables → Dec (k < n) → get_or (w ++ drop n (replicate variables 0)) k 0 ≡ get_or v k 0
+    go k b (yes q) =
+        get_or-append w (drop n (replicate variables 0)) 0 k (omega (arith, long)) ∙ ap (λ (l : List ℕ). get_or l k 0) f ∙ get_or-take n v k 0 q
+    go k b (no q) =
+        let m : length w + (k - n) ≡ k = omega (arith, long) in
+        (rw m at (get_or-append-add w (drop n (replicate variables 0)) (k - n) 0)) ∙ get_or-drop n (replicate variables 0) (k - n) 0 ∙
+        zeros variables (n + (k - n)) ∙ sym (get_or-eq_default v 0 (omega arith))
 
 -- ---- variables that read the same
 abbrev Alike : List Value → List Value → Type 0

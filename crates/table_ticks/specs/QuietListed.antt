@@ -1,10 +1,7 @@
 -- Quiet ticks by the words that list rules. Words with a guard that fails are passed over without a look at the table: listed or not, their
 -- rule stops no tick.
-use Rattle.std.specs.Prelude.{◌≡◌, refl, Bool, cond, ◌&&◌, ◌||◌, not, List, ◌∷◌, ◌++◌, ℕ, ◌+◌, ◌-◌, ◌/◌, ◌%◌, ◌<◌, ◌≤◌, get_or, length, drop, eqb, ltb}
-use Rattle.std.proofs.Common.{◌∙◌, ap, arith}
-use Rattle.std.proofs.Math.Path.{sym}
-use Rattle.std.proofs.Math.Bool.{true, false}
-use borrow.Author.Tests.{ne_eqb}
+use Rattle.std.specs.Prelude.{◌≡◌, refl, Bool, cond, ◌&&◌, ◌||◌, not, List, ◌∷◌, ◌++◌, ℕ, ◌+◌, ◌/◌, ◌%◌, ◌<◌, ◌≤◌, get_or, length, drop, eqb, ltb}
+use Rattle.std.proofs.Common.{◌∙◌, ap, arith, sym, true, false, ne_eqb}
 use Rattle.numbers.specs.declared.Value.{Value}
 use Rattle.numbers.specs.Values.{value, signed, same_value}
 use Rattle.table_format.specs.Variables.{variables}
@@ -21,7 +18,7 @@ use Rattle.table_index.specs.Index.{is_head, is_listed, listed}
 use Rattle.table_rules.specs.Places.{HeadAt, head_kind}
 use Rattle.table_ticks.specs.Stops.{rule_stops}
 use Rattle.table_index.specs.Guards.{may_hold, untold}
-use Rattle.table_index.specs.Listed.{listed_no_head, listed_head, guard_disables, rest_is_all, dropped, listed_over}
+use Rattle.table_index.specs.Listed.{listed_no_head, listed_head, guard_disables, rest_is_all, dropped, listed_over, IsPair}
 
 -- ---- only the clock changes with the ticks, so a guard that fails fails at every one of them
 pub later_may : (i : ℕ) (v : List Value) (g : ℕ) → may_hold (later i v) g ≡ may_hold v g
@@ -147,3 +144,13 @@ module _ (s : List ℕ) (v : List Value) (n : ℕ) (d : List ℕ) where
 
   pub quiet_over : (k i : ℕ) → length d ≤ i + 1 → QuietBy s v k (drop i d) n d → QuietListed s v n d k
   quiet_over k i h a r = rw (listed_over s d i h) at (a r)
+
+-- the same, two words x at a time: u are those that are left, then w
+pub quiet_pair : (s : List ℕ) (v : List Value) (n : ℕ) (d : List ℕ) (k : ℕ) (u w x : List ℕ) → IsPair u x w → (q : ℕ) →
+    q ≡ first_below k (λ j. listed_stops s (later j v) (get_or x 0 0) (get_or x 1 0)) → QuietBy s v k u n d → QuietBy s v q w n d
+quiet_pair s v n d k u w x i q e a r =
+    let b : quiet_in v k (listed s (get_or x 0 0 ∷ get_or x 1 0 ∷ w) ++ r) ≡ quiet_in v n (listed s d ++ r) = rw i.words at (a r) in
+    quiet_listed s v (get_or x 0 0) (get_or x 1 0) w r k q e ∙ b
+
+pub quiet_all : (s : List ℕ) (v : List Value) (n : ℕ) (d : List ℕ) (k : ℕ) (u : List ℕ) → length u < 2 → QuietBy s v k u n d → QuietListed s v n d k
+quiet_all s v n d k u h a r = rw (listed_over s u 0 (omega arith)) at (a r)

@@ -1,5 +1,5 @@
 -- Rules that stop a tick.
-use Rattle.std.specs.Prelude.{◌≡◌, refl, Bool, false, ◌&&◌, ◌||◌, not, List, ◌∷◌, ℕ, ◌-◌, drop, eqb}
+use Rattle.std.specs.Prelude.{◌≡◌, refl, Bool, false, ◌&&◌, ◌||◌, not, List, ◌∷◌, ℕ, drop, eqb}
 use Rattle.numbers.specs.declared.Value.{Value}
 use Rattle.records.specs.Events.{request_kind}
 use Rattle.table_format.specs.declared.Record.{Record}

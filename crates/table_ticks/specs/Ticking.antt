@@ -1,8 +1,6 @@
 -- TICK without a walk over the table at each tick: only the clock changes, so each rule tells by itself when it stops the ticks.
 use Rattle.std.specs.Prelude.{◌≡◌, refl, Bool, true, cond, ◌&&◌, ◌||◌, List, [], ◌∷◌, ℕ, zero, suc, ◌+◌, ◌-◌, ◌<◌, ◌≤◌, length, take, drop, eqb, ltb}
-use Rattle.std.proofs.Math.Path.{sym}
-use Rattle.std.proofs.Common.{◌∙◌, ap, arith, add-one, ne_eqb, ltb-true, ltb-false, below_more}
-use Rattle.std.proofs.Math.Bool.{false}
+use Rattle.std.proofs.Common.{sym, ◌∙◌, ap, arith, add-one, ne_eqb, ltb-true, ltb-false, below_more, false}
 use Rattle.std.proofs.Math.Decide.{dec_lt, ℕ_discrete}
 use Rattle.std.proofs.lemmas.Bool.{eqb-false}
 use Rattle.numbers.specs.declared.Value.{Value}

@@ -19,9 +19,9 @@ ghost use Rattle.table_ticks.specs.Copies.{Copied};
 ghost use Rattle.table_ticks.specs.QuietListed.{listed_stops, QuietListed};
 
 use numbers::Value;
-use records::{Cause, LAST_CLOCK, Notation, REQUEST, RULE_SIZE, TABLE_RULE};
+use records::{Cause, LAST_CLOCK, Notation, Parts, REQUEST, RULE_SIZE, TABLE_RULE};
 use table_format::VARIABLES;
-use table_index::KEYS;
+use table_index::{KEYS, Rules};
 
 // The variable that is the clock.
 const CLOCK: usize = 0;
@@ -29,15 +29,13 @@ const CLOCK: usize = 0;
 fn is_last_clock(now: Value) -> bool
     ensures { result ≡ not (less_value now (natural last_clock)) }
 {
-    let last = numbers::value_of(LAST_CLOCK);
-    !numbers::less(now, last)
+    now >= numbers::value_of(LAST_CLOCK)
 }
 
 fn one_later(now: Value) -> Value
     ensures { result ≡ plus now (natural 1) }
 {
-    let one = numbers::value_of(1);
-    numbers::plus(now, one)
+    numbers::plus(now, numbers::value_of(1))
 }
 
 // The bits one tick later.
@@ -52,13 +50,9 @@ fn advance(bits: &mut [u32])
 fn copied(bits: &[u32]) -> [u32; VARIABLES]
     ensures { Copied bits.now result }
 {
-    let count = table_index::fewer(bits.len(), VARIABLES);
+    let count = bits.len().min(VARIABLES);
     let mut copy = [0; VARIABLES];
-    let mut j: usize = 0;
-    while j < count {
-        copy[j] = bits[j];
-        j += 1;
-    }
+    copy[..count].copy_from_slice(&bits[..count]);
     copy
 }
 
@@ -66,15 +60,13 @@ fn copied(bits: &[u32]) -> [u32; VARIABLES]
 fn advance_to_enabled(table: &[u8], from: usize, bits: &mut [u32], limit: u32) -> u32
     ensures { result ≡ first_below limit (λ i. rules.all_hold (later i (values bits.old)) (clauses_at table.now from)) }
 {
-    let mut i: u32 = 0;
-    while i < limit {
+    for i in 0..limit {
         if table_rules::is_enabled(table, from, bits) {
             return i;
         }
         advance(bits);
-        i += 1;
     }
-    i
+    limit
 }
 
 // The same on variables that stay as they are. Where there is no clock, nothing changes with the ticks.
@@ -131,13 +123,8 @@ fn quiet_from(table: &[u8], from: usize, bits: &[u32], n: u32) -> u32
     ensures { result ≡ quiet_from table.now (values bits.now) n from }
 {
     let mut limit = n;
-    let mut at: usize = from;
-    while at < table.len() {
-        let w = Notation::Table;
-        let m = records::part_length_at(w, table, at);
-        let next = at + m;
-        limit = ticks_to_record(table, bits, limit, next, &table[at..next]);
-        at = next;
+    for part in Parts::new(Notation::Table, table, from) {
+        limit = ticks_to_record(table, bits, limit, part.end, part.bytes);
     }
     limit
 }
@@ -179,39 +166,34 @@ fn quiet_listed(table: &[u8], words: &[usize], bits: &[u32], n: u32) -> u32
     ensures { QuietListed table.now (values bits.now) n words.now result }
 {
     let mut limit = n;
-    let mut i: usize = 0;
-    while i + 1 < words.len() {
-        let guard = words[i + 1];
-        limit = ticks_to_listed(table, bits, limit, words[i], guard);
-        i += 2;
+    for pair in words.chunks_exact(2) {
+        limit = ticks_to_listed(table, bits, limit, pair[0], pair[1]);
     }
     limit
 }
 
 // How many of n ticks pass before some rule stops them.
-fn quiet_ticks(table: &[u8], words: &[usize], rest: usize, bits: &[u32], n: u32) -> u32
-    ensures { result ≡ quiet_in (values bits.now) n (rules_in table.now words.now rest) }
+fn quiet_ticks(all: Rules, bits: &[u32], n: u32) -> u32
+    ensures { result ≡ quiet_in (values bits.now) n (rules_in all.entry.table.now all.entry.words.now all.entry.rest) }
 {
-    let m = quiet_listed(table, words, bits, n);
-    quiet_from(table, rest, bits, m)
+    let m = quiet_listed(all.table, all.words, bits, n);
+    quiet_from(all.table, all.rest, bits, m)
 }
 
 // n ticks: the quiet ones, as far as the clock goes. Where they are refused, the clock is set back.
-pub fn tick(table: &[u8], words: &[usize], rest: usize, bits: &mut [u32], n: u32) -> Cause
-    ensures { stepped_to result bits.new ≡ machine.ticks (rules_in table.now words.now rest) (variables_of bits.old) n (values bits.old) }
+pub fn tick(all: Rules, bits: &mut [u32], n: u32) -> Cause
+    ensures { stepped_to result bits.new ≡ machine.ticks (rules_in all.entry.table.now all.entry.words.now all.entry.rest) (variables_of bits.old) n (values bits.old) }
 {
-    let quiet = quiet_ticks(table, words, rest, bits, n);
+    let quiet = quiet_ticks(all, bits, n);
     let first = table_rules::value_in(bits, CLOCK);
-    let mut i: u32 = 0;
-    while i < quiet {
+    for _tick in 0..quiet {
         if is_last_clock(table_rules::value_in(bits, CLOCK)) {
             table_rules::put(bits, CLOCK, table_rules::bits_of(first));
             return Cause::LastClock;
         }
         advance(bits);
-        i += 1;
     }
-    if i < n {
+    if quiet < n {
         table_rules::put(bits, CLOCK, table_rules::bits_of(first));
         return Cause::NotEnabled;
     }

@@ -1,16 +1,12 @@
 -- The walk over the updates of a rule: what they write is gathered before any of it is written. Variables are marked, so that one written twice
 -- is seen at once; for any other target the updates behind are searched.
-use Rattle.std.specs.Prelude.{◌≡◌, Bool, true, false, cond, ◌&&◌, ◌||◌, ℕ, zero, suc, ◌+◌, ◌-◌, ◌<◌, ◌≤◌, min, get_or, set, drop, replicate, leb}
-use Rattle.std.proofs.Math.Path.{refl, sym, ap}
-use Rattle.std.proofs.Common.{◌∙◌, add-one, get_or-set_same, get_or-set_other, drop-cons, eq-eqb, ne_eqb}
+use Rattle.std.specs.Prelude.{◌≡◌, Bool, true, false, cond, ◌&&◌, ◌||◌, ℕ, zero, suc, ◌+◌, ◌-◌, ◌<◌, ◌≤◌, get_or, set, drop, replicate, leb}
+use Rattle.std.proofs.Common.{Result, Ok, Err, MatchResult, take, drop_of_length-le, refl, sym, ap, ◌∙◌, add-one, get_or-set_same, get_or-set_other, drop-cons, eq-eqb, ne_eqb, List, [], ◌∷◌, ◌++◌, arith, length, length-set, eqb}
 use Rattle.std.proofs.Math.Bool.{or_assoc}
-use mathlib.Core.List.{List, [], ◌∷◌, ◌++◌}
-use native.Mathlib.Omega.{arith}
-use Rattle.std.proofs.Math.Nat.{sub-zero}
 use Rattle.std.proofs.Math.Decide.{ℕ_discrete, dec_lt}
-use Rattle.std.proofs.Math.ListN.{length, length-set, get_or-eq_default}
+use Rattle.std.proofs.Math.ListN.{get_or-eq_default}
 use Rattle.std.proofs.lemmas.List.{length-replicate}
-use Rattle.std.proofs.Math.Dec.{eqb}
+use Rattle.std.proofs.Math.Seq.{take-suc-set}
 use Rattle.numbers.specs.declared.Value.{Value}
 use Rattle.numbers.specs.Lists.{store}
 use Rattle.numbers.specs.ListLaws.{store_past, length_store}
@@ -26,17 +22,18 @@ use Rattle.table_format.specs.declared.Record.TheVariants.{Initial, Head, Clause
 use Rattle.table_format.specs.Variables.{variables}
 use Rattle.table_format.specs.Format.{record_of, records, update_of, kind_of}
 use Rattle.table_format.specs.Table.{gather}
-use Rattle.table_format.specs.RecordsAt.{records_end}
+use Rattle.records.specs.declared.walks.Part.{Part}
+use Rattle.table_format.specs.Decoded.{is_head_lem, is_update}
+use Rattle.table_format.specs.RecordsAt.{records_end, IsTablePart, records_step}
+use Rattle.table_updates.specs.declared.Held.{Held}
+use Rattle.table_updates.specs.declared.Stop.{Stop}
+use Rattle.table_updates.specs.declared.Stop.TheVariants.{Twice, NoRoom}
 use Rattle.table_semantics.specs.Rules.{applies, new_value, Write, writes, written_to, inconsistent, written}
 use Rattle.table_semantics.proofs.RuleLaws.{writes_first}
 use Rattle.table_semantics.specs.Runs.{values}
 use Rattle.table_rules.specs.Bits.{values_store, length_values, put_length}
 use Rattle.table_rules.specs.At.{bytes_at}
 use Rattle.table_rules.specs.Places.{head_records, head_cut, update_records, update_cut, other_records, other_kind}
-
--- how many updates most rules have at most
-abbrev pub few_updates : ℕ
-few_updates = 64
 
 -- ---- targets written twice, or marked before
 unfoldable pub clashes : (ℕ → Bool) → List Write → Bool
@@ -116,24 +113,23 @@ unfolding written
 written_append [] b v = refl
 written_append (w ∷ a) b v = written_append a b (store variables v w.target w.value)
 
--- ---- the writes that are held: the first k targets and new values
-unfoldable pub pending : ℕ → List ℕ → List ℕ → List Write
-pending zero t n = []
-pending (suc k) [] n = []
-pending (suc k) (j ∷ t) [] = []
-pending (suc k) (j ∷ t) (x ∷ n) = record { target = j; value = value (signed x) } ∷ pending k t n
+-- ---- the writes that are held
+abbrev pub write_of : Held → Write
+write_of h = record { target = h.target; value = value (signed h.bits) }
 
-pending_more : (k : ℕ) (t n : List ℕ) (j x : ℕ) → k < length t → k < length n →
-    pending (k + 1) (set t k j) (set n k x) ≡ pending k t n ++ (record { target = j; value = value (signed x) } ∷ [])
+unfoldable pub pending : List Held → List Write
+pending [] = []
+pending (h ∷ l) = write_of h ∷ pending l
+
+pending_append : (a b : List Held) → pending (a ++ b) ≡ pending a ++ pending b
 unfolding pending
-pending_more k t n j x h l = rw (add-one k) (go k t n h l)
-  where
-    go : (k : ℕ) (t n : List ℕ) → k < length t → k < length n →
-        pending (suc k) (set t k j) (set n k x) ≡ pending k t n ++ (record { target = j; value = value (signed x) } ∷ [])
-    go k [] n h l = absurd (omega arith)
-    go k (a ∷ t) [] h l = absurd (omega arith)
-    go zero (a ∷ t) (b ∷ n) h l = refl
-    go (suc k) (a ∷ t) (b ∷ n) h l = ap (λ (r : List Write). record { target = a; value = value (signed b) } ∷ r) (go k t n (omega arith) (omega arith))
+pending_append [] b = refl
+pending_append (h ∷ a) b = ap (λ (l : List Write). write_of h ∷ l) (pending_append a b)
+
+-- one more of those at the front
+pending_more : (k : ℕ) (l : List Held) (h : Held) → k < length l → pending (take (k + 1) (set l k h)) ≡ pending (take k l) ++ (write_of h ∷ [])
+unfolding pending
+pending_more k l h b = rw (add-one k, take-suc-set l k h b) (pending_append (take k l) (h ∷ []))
 
 -- ---- how many of the first n numbers are marked
 unfoldable pub marked_below : ℕ → List Bool → ℕ
@@ -173,34 +169,27 @@ below_none zero k = refl
 below_none (suc n) zero = refl
 below_none (suc n) (suc k) = let i = below_none n k in omega arith
 
--- ---- one update: w is what it writes, l what the updates behind it write; r is 0, or 1 where a target is written twice, or 2 where there is no room
-pub record Gathers (w l : List Write) (r k' k : ℕ) (t t' n n' : List ℕ) (m m' : List Bool) : Type 0 where
-  pub small : r < 3
-  pub same_targets : length t' ≡ length t
-  pub same_news : length n' ≡ length n
-  pub same_marks : length m' ≡ length m
-  pub wide : r ≡ 2 → k ≡ marked_below variables m → variables ≤ length t → variables ≤ length n → ⊥
-  pub twice : r ≡ 1 → clashes (is_marked m) (w ++ l) ≡ true
-  pub once : r ≡ 0 → clashes (is_marked m) (w ++ l) ≡ clashes (is_marked m') l
-  pub held : r ≡ 0 → k ≡ marked_below variables m → k' ≡ marked_below variables m'
-  pub bits : r ≡ 0 → (v : List Value) → written (pending k' t' n') v ≡ written w (written (pending k t n) v)
+-- ---- one update: w is what it writes, l what the updates behind it write; k of the writes h were held before it
+-- k' are held after it
+pub record HoldsOn (w l : List Write) (k k' : ℕ) (h h' : List Held) (m m' : List Bool) : Type 0 where
+  pub once : clashes (is_marked m) (w ++ l) ≡ clashes (is_marked m') l
+  pub held : k ≡ marked_below variables m → k' ≡ marked_below variables m'
+  pub room : k ≤ length h → k' ≤ length h'
+  pub bits : (v : List Value) → written (pending (take k' h')) v ≡ written w (written (pending (take k h)) v)
 
-module _ (n : ℕ) (old : List Value) (u : Update) (b : Bool) (e : b ≡ applies old u) (l : List Write) (k : ℕ) (t x : List ℕ) (m : List Bool) where
-  pub update_left : b ≡ false → Gathers (writes n old (u ∷ [])) l 0 k k t t x x m m
+-- why it is not held
+unfoldable pub StopsAt : List Write → List Write → ℕ → List Held → List Bool → Stop → Type 0
+StopsAt w l k h m Twice = clashes (is_marked m) (w ++ l) ≡ true
+StopsAt w l k h m NoRoom = k ≡ marked_below variables m → variables ≤ length h → ⊥
+
+abbrev pub Gathers : List Write → List Write → Result ℕ Stop → ℕ → List Held → List Held → List Bool → List Bool → Type 0
+Gathers w l r k h h' m m' =
+    (length h' ≡ length h) × (length m' ≡ length m) × MatchResult r (λ k'. HoldsOn w l k k' h h' m m') (λ q. StopsAt w l k h m q)
+
+module _ (n : ℕ) (old : List Value) (u : Update) (b : Bool) (e : b ≡ applies old u) (l : List Write) (k : ℕ) (t : List Held) (m : List Bool) where
+  pub update_left : b ≡ false → Gathers (writes n old (u ∷ [])) l (Ok k) k t t m m
   unfolding writes written
-  update_left h =
-      rw (← e, h)
-      (record {
-        small = omega arith;
-        same_targets = refl;
-        same_news = refl;
-        same_marks = refl;
-        wide = λ z. absurd (omega arith);
-        twice = λ z. absurd (omega arith);
-        once = λ z. refl;
-        held = λ z q. q;
-        bits = λ z v. refl;
-      })
+  update_left h = rw (← e, h) (refl, refl, record { once = refl; held = λ q. q; room = λ q. q; bits = λ v. refl })
 
   module _ (h : b ≡ true) (j : ℕ) (ej : j ≡ u.target) where
     clashes_here : clashes (is_marked m) (writes n old (u ∷ []) ++ l) ≡ (is_marked m j || clashes (λ i. eqb i j || is_marked m i) l)
@@ -214,88 +203,57 @@ module _ (n : ℕ) (old : List Value) (u : Update) (b : Bool) (e : b ≡ applies
           let f : is_marked m j ≡ false = get_or-eq_default m false (omega arith) in
           clashes_here ∙ rw (f, eg) (clashes_more l (is_marked m) j)
 
-      pub update_past_again : g ≡ true → Gathers (writes n old (u ∷ [])) l 1 k k t t x x m m
-      update_past_again y = record {
-        small = omega arith;
-        same_targets = refl;
-        same_news = refl;
-        same_marks = refl;
-        wide = λ z. absurd (omega arith);
-        twice = λ z. clashes_past ∙ rw y;
-        once = λ z. absurd (omega arith);
-        held = λ z. absurd (omega arith);
-        bits = λ z. absurd (omega arith);
-      }
+      pub update_past_again : g ≡ true → Gathers (writes n old (u ∷ [])) l (Err Twice) k t t m m
+      unfolding StopsAt
+      update_past_again y = (refl, refl, clashes_past ∙ rw y)
 
-      pub update_past : g ≡ false → Gathers (writes n old (u ∷ [])) l 0 k k t t x x m m
+      pub update_past : g ≡ false → Gathers (writes n old (u ∷ [])) l (Ok k) k t t m m
       unfolding writes written
-      update_past y = record {
-        small = omega arith;
-        same_targets = refl;
-        same_news = refl;
-        same_marks = refl;
-        wide = λ z. absurd (omega arith);
-        twice = λ z. absurd (omega arith);
-        once = λ z. clashes_past ∙ rw y;
-        held = λ z q. q;
-        bits = λ z v. rw (← e, h, ← ej) (sym (store_past variables (written (pending k t x) v) j (new_value n old u) p));
-      }
+      update_past y = (
+        refl,
+        refl,
+        record {
+          once = clashes_past ∙ rw y;
+          held = λ q. q;
+          room = λ q. q;
+          bits = λ v. rw (← e, h, ← ej) (sym (store_past variables (written (pending (take k t)) v) j (new_value n old u) p));
+        },
+      )
 
     -- a variable; g tells whether it was marked before
     module _ (p : j < variables) (c : length m ≡ variables) (g : Bool) (eg : g ≡ is_marked m j) (m' : List Bool) (em : m' ≡ set m j true) where
       size_marks : length m' ≡ length m
       size_marks = ap length em ∙ length-set m j true
 
-      pub update_twice : g ≡ true → Gathers (writes n old (u ∷ [])) l 1 k k t t x x m m'
-      update_twice y = record {
-        small = omega arith;
-        same_targets = refl;
-        same_news = refl;
-        same_marks = size_marks;
-        wide = λ z. absurd (omega arith);
-        twice = λ z. clashes_here ∙ rw (← eg, y);
-        once = λ z. absurd (omega arith);
-        held = λ z. absurd (omega arith);
-        bits = λ z. absurd (omega arith);
-      }
+      pub update_twice : g ≡ true → Gathers (writes n old (u ∷ [])) l (Err Twice) k t t m m'
+      unfolding StopsAt
+      update_twice y = (refl, size_marks, clashes_here ∙ rw (← eg, y))
 
       module _ (y : g ≡ false) where
         free : is_marked m j ≡ false
         free = sym eg ∙ y
 
-        pub update_full : (k < length t → k < length x → ⊥) → Gathers (writes n old (u ∷ [])) l 2 k k t t x x m m'
-        update_full f = record {
-          small = omega arith;
-          same_targets = refl;
-          same_news = refl;
-          same_marks = size_marks;
-          wide = λ z q a d. let i = below_free variables m j p free in f (omega arith) (omega arith);
-          twice = λ z. absurd (omega arith);
-          once = λ z. absurd (omega arith);
-          held = λ z. absurd (omega arith);
-          bits = λ z. absurd (omega arith);
-        }
+        pub update_full : length t ≤ k → Gathers (writes n old (u ∷ [])) l (Err NoRoom) k t t m m'
+        unfolding StopsAt
+        update_full f = (refl, size_marks, λ q a. let i = below_free variables m j p free in absurd (omega arith))
 
-        pub update_held : k < length t → k < length x → (o : ℕ) → value (signed o) ≡ new_value n old u →
-            Gathers (writes n old (u ∷ [])) l 0 (k + 1) k t (set t k j) x (set x k o) m m'
+        pub update_held : k < length t → (o : ℕ) → value (signed o) ≡ new_value n old u →
+            Gathers (writes n old (u ∷ [])) l (Ok (k + 1)) k t (set t k (record { target = j; bits = o })) m m'
         unfolding writes written
-        update_held a d o eo =
+        update_held a o eo =
             let w : j < length m = omega arith in
-            record {
-              small = omega arith;
-              same_targets = length-set t k j;
-              same_news = length-set x k o;
-              same_marks = size_marks;
-              wide = λ z. absurd (omega arith);
-              twice = λ z. absurd (omega arith);
-              once = λ z.
-                  clashes_here ∙
-                  rw (free, em) (clashes_same l (λ i. eqb i j || is_marked m i) (is_marked (set m j true)) (λ i. sym (marked_one m j w i)));
-              held = λ z q. ap (λ (i : ℕ). i + 1) q ∙ sym (ap (marked_below variables) em ∙ below_mark variables m j p w free);
-              bits = λ z v.
-                  ap (λ (q : List Write). written q v) (pending_more k t x j o a d) ∙
-                  written_append (pending k t x) (record { target = j; value = value (signed o) } ∷ []) v ∙ rw (← e, h, ← ej, eo);
-            }
+            let x : Held = record { target = j; bits = o } in (
+              length-set t k x,
+              size_marks,
+              record {
+                once = clashes_here ∙ rw (free, em) (clashes_same l (λ i. eqb i j || is_marked m i) (is_marked (set m j true)) (λ i. sym (marked_one m j w i)));
+                held = λ q. ap (λ (i : ℕ). i + 1) q ∙ sym (ap (marked_below variables) em ∙ below_mark variables m j p w free);
+                room = λ q. rw (length-set t k x) (omega arith);
+                bits = λ v.
+                    ap (λ (q : List Write). written q v) (pending_more k t x a) ∙
+                    written_append (pending (take k t)) (write_of x ∷ []) v ∙ rw (← e, h, ← ej, eo);
+              },
+            )
 
 -- ---- what is still to be written, from the record at p on
 abbrev pub writes_from : ℕ → List Value → List ℕ → ℕ → List Write
@@ -395,169 +353,176 @@ module _ (v : List Value) (s : List ℕ) (f j p : ℕ) (i : Looking v s f j p) w
       pub looking_on : b ≡ false → Looking v s f j (p + 17)
       looking_on y n = rw y at (here_or_behind n)
 
+-- ---- what a part tells of the rest: y is the part at p, q the place after it, k its kind
+module _ (n : ℕ) (v : List Value) (s : List ℕ) (p : ℕ) (y : Part) (q : ℕ) (w : IsTablePart s p y q) (k : ℕ) (e : k ≡ kind_of (record_of y.bytes.now)) where
+  pub part_head : k ≡ 33 → writes_from n v s p ≡ []
+  unfolding gather writes
+  part_head z = rw (records_step s p y q w, is_head_lem y.bytes.now k e z _ refl)
+
+  pub part_update : k ≡ 36 → writes_from n v s p ≡ writes n v (update_of y.bytes.now ∷ []) ++ writes_from n v s q
+  part_update z =
+      ap (λ (r : List Record). writes n v (gather r).updates) (records_step s p y q w ∙ ap (λ (x : Record). x ∷ records (drop q s)) (is_update y.bytes.now k e z)) ∙
+      writes_step n v (update_of y.bytes.now) (records (drop q s))
+
+  pub part_other : (k ≡ 33 → ⊥) → (k ≡ 36 → ⊥) → writes_from n v s q ≡ writes_from n v s p
+  part_other f g =
+      no_writes n v (record_of y.bytes.now) (records (drop q s)) (λ z. f (e ∙ z)) (λ z. g (e ∙ z)) ∙
+      ap (λ (r : List Record). writes n v (gather r).updates) (sym (records_step s p y q w))
+
+-- the search for a target, by such parts
+module _ (v : List Value) (s : List ℕ) (f j p : ℕ) (i : Looking v s f j p) (y : Part) (q : ℕ) (w : IsTablePart s p y q) (k : ℕ)
+    (e : k ≡ kind_of (record_of y.bytes.now)) where
+  pub sees_head : k ≡ 33 → WritesTo v s f j false
+  unfolding written_to
+  sees_head z n = rw (part_head n v s p y q w k e z) at (i n)
+
+  pub sees_other : (k ≡ 33 → ⊥) → (k ≡ 36 → ⊥) → Looking v s f j q
+  sees_other g h n = ap (written_to j) (part_other n v s p y q w k e g h) ∙ i n
+
+  module _ (z : k ≡ 36) (b : Bool) (g : b ≡ (applies v (update_of y.bytes.now) && eqb (update_of y.bytes.now).target j)) where
+    here_or_later : (n : ℕ) → (b || written_to j (writes_from n v s q)) ≡ written_to j (writes_from n v s f)
+    here_or_later n =
+        sym (ap (written_to j) (part_update n v s p y q w k e z) ∙ first_write n v (update_of y.bytes.now) (writes_from n v s q) j b g) ∙ i n
+
+    pub sees_write : b ≡ true → WritesTo v s f j true
+    sees_write t n = rw t at (here_or_later n)
+
+    pub sees_none : b ≡ false → Looking v s f j q
+    sees_none t n = rw t at (here_or_later n)
+
 -- ---- the loop
--- w is all that is to be written, l what is left of it; k writes are held, in a room of so many targets and new values
-pub record Gathering (w : List Write) (v : List Value) (l : List Write) (k : ℕ) (t n : List ℕ) (m : List Bool) (a b : ℕ) : Type 0 where
-  pub targets : length t ≡ a
-  pub news : length n ≡ b
+-- w is all that is to be written, l what is left of it; k writes are held, in a room for so many
+pub record Gathering (w : List Write) (v : List Value) (l : List Write) (k : ℕ) (h : List Held) (m : List Bool) (a : ℕ) : Type 0 where
+  pub size : length h ≡ a
   pub marks : length m ≡ variables
   pub held : k ≡ marked_below variables m
+  pub room : k ≤ length h
   pub twice : clashes (is_marked m) l ≡ inconsistent w
-  pub bits : written l (written (pending k t n) v) ≡ written w v
+  pub bits : written l (written (pending (take k h)) v) ≡ written w v
 
--- the answer of the walk: 0, or 1 where a target is written twice, or 2 where there is no room
-pub record Collected (w : List Write) (v : List Value) (r k : ℕ) (t n : List ℕ) (a b : ℕ) : Type 0 where
-  pub small : r < 3
-  pub targets : length t ≡ a
-  pub news : length n ≡ b
-  pub wide : r ≡ 2 → variables ≤ a → variables ≤ b → ⊥
-  pub twice : (r ≡ 2 → ⊥) → eqb r 1 ≡ inconsistent w
-  pub bits : r ≡ 0 → written (pending k t n) v ≡ written w v
+-- all are held: k of them
+pub record HoldsAll (w : List Write) (v : List Value) (k : ℕ) (h : List Held) : Type 0 where
+  pub room : k ≤ length h
+  pub once : inconsistent w ≡ false
+  pub bits : written (pending (take k h)) v ≡ written w v
+
+-- or a target is written twice, or the room is less than for all variables
+unfoldable pub Stops : List Write → ℕ → Stop → Type 0
+Stops w a Twice = inconsistent w ≡ true
+Stops w a NoRoom = variables ≤ a → ⊥
+
+abbrev pub Collected : List Write → List Value → Result ℕ Stop → List Held → ℕ → Type 0
+Collected w v r h a = (length h ≡ a) × MatchResult r (λ k. HoldsAll w v k h) (λ q. Stops w a q)
 
 pub unmarked_size : (m : List Bool) → m ≡ replicate variables false → variables ≡ length m
 unmarked_size m e = sym (ap length e ∙ length-replicate variables false)
 
-pub gathering_begin : (w : List Write) (v : List Value) (t n : List ℕ) (m : List Bool) → m ≡ replicate variables false →
-    Gathering w v w 0 t n m (length t) (length n)
+pub gathering_begin : (w : List Write) (v : List Value) (h : List Held) (m : List Bool) → m ≡ replicate variables false → Gathering w v w 0 h m (length h)
 unfolding pending written
-gathering_begin w v t n m e = record {
-  targets = refl;
-  news = refl;
+gathering_begin w v h m e = record {
+  size = refl;
   marks = sym (unmarked_size m e);
   held = sym (ap (marked_below variables) e ∙ below_none variables variables);
+  room = omega arith;
   twice = clashes_all w (is_marked m) ∙ rw (unmarked w (is_marked m) (λ j. ap (λ (l : List Bool). get_or l j false) e ∙ none_marked variables j));
   bits = refl;
 }
 
-module _ (w : List Write) (v : List Value) (k : ℕ) (t x : List ℕ) (m : List Bool) (a b : ℕ) where
-  gathered : (l : List Write) → Gathering w v l k t x m a b → l ≡ [] → Collected w v 0 k t x a b
+module _ (w : List Write) (v : List Value) (k : ℕ) (h : List Held) (m : List Bool) (a : ℕ) where
+  gathered : (l : List Write) → Gathering w v l k h m a → l ≡ [] → Collected w v (Ok k) h a
   unfolding clashes written
-  gathered l i e = record {
-    small = omega arith;
-    targets = i.targets;
-    news = i.news;
-    wide = λ z. absurd (omega arith);
-    twice = λ z. rw e at i.twice;
-    bits = λ z. rw e at i.bits;
-  }
+  gathered l i e = (i.size, record { room = i.room; once = sym (rw e at i.twice); bits = rw e at i.bits })
 
-  module _ (n : ℕ) (s : List ℕ) (p : ℕ) (i : Gathering w v (writes_from n v s p) k t x m a b) where
-    pub gathering_end : length s ≤ p → Collected w v 0 k t x a b
-    gathering_end h = gathered (writes_from n v s p) i (from_end n v s p h)
+  module _ (n : ℕ) (s : List ℕ) (p : ℕ) (i : Gathering w v (writes_from n v s p) k h m a) where
+    pub gathering_end : length s ≤ p → Collected w v (Ok k) h a
+    gathering_end b = gathered (writes_from n v s p) i (from_end n v s p b)
 
-    module _ (h : p < length s) where
-      pub gathering_cut : get_or s p 0 ≡ 36 → length s - p < 17 → Collected w v 0 k t x a b
-      gathering_cut q l = gathered (writes_from n v s p) i (from_cut n v s p h q l)
+    module _ (y : Part) (q : ℕ) (o : IsTablePart s p y q) (c : ℕ) (e : c ≡ kind_of (record_of y.bytes.now)) where
+      pub gathering_head : c ≡ 33 → Collected w v (Ok k) h a
+      gathering_head z = gathered (writes_from n v s p) i (part_head n v s p y q o c e z)
 
-      pub gathering_head : get_or s p 0 ≡ 33 → Collected w v 0 k t x a b
-      gathering_head q = gathered (writes_from n v s p) i (from_head n v s p h q)
+      pub gathering_other : (c ≡ 33 → ⊥) → (c ≡ 36 → ⊥) → Gathering w v (writes_from n v s q) k h m a
+      gathering_other f g = rw (part_other n v s p y q o c e f g) i
 
-      pub gathering_other : (j : ℕ) → j ≡ part_length_at notations.Table s p → (get_or s p 0 ≡ 33 → ⊥) → (get_or s p 0 ≡ 36 → ⊥) →
-          Gathering w v (writes_from n v s (p + j)) k t x m a b
-      gathering_other j e q r = rw (from_other n v s p h j e q r) i
-
-      module _ (q : get_or s p 0 ≡ 36) (l : 17 ≤ length s - p) (r k' : ℕ) (t' x' : List ℕ) (m' : List Bool)
-          (o : Gathers (writes n v (update_of (bytes_at s p 17) ∷ [])) (writes_from n v s (p + 17)) r k' k t t' x x' m m') where
+      module _ (z : c ≡ 36) (h' : List Held) (m' : List Bool) (sh : length h' ≡ length h) (sm : length m' ≡ length m) where
         abbrev here : List Write
-        here = writes n v (update_of (bytes_at s p 17) ∷ [])
+        here = writes n v (update_of y.bytes.now ∷ [])
 
-        clash_left : clashes (is_marked m) (here ++ writes_from n v s (p + 17)) ≡ inconsistent w
-        clash_left = rw (from_update n v s p h q l) at i.twice
+        clash_left : clashes (is_marked m) (here ++ writes_from n v s q) ≡ inconsistent w
+        clash_left = rw (part_update n v s p y q o c e z) at i.twice
 
-        pub gathering_stops : (r ≡ 0 → ⊥) → Collected w v r k' t' x' a b
-        gathering_stops z = record {
-          small = o.small;
-          targets = o.same_targets ∙ i.targets;
-          news = o.same_news ∙ i.news;
-          wide = λ y g d. o.wide y i.held (rw i.targets g) (rw i.news d);
-          twice = λ y. let u = o.small in let e : r ≡ 1 = omega arith in eq-eqb r 1 e ∙ sym (o.twice e) ∙ clash_left;
-          bits = λ y. absurd (z y);
-        }
+        pub gathering_stops : (r : Stop) → StopsAt here (writes_from n v s q) k h m r → Collected w v (Err r) h' a
+        unfolding StopsAt Stops
+        gathering_stops Twice t = (sh ∙ i.size, sym clash_left ∙ t)
+        gathering_stops NoRoom t = (sh ∙ i.size, λ x. t i.held (rw i.size x))
 
-        pub gathering_on : r ≡ 0 → Gathering w v (writes_from n v s (p + 17)) k' t' x' m' a b
-        gathering_on z = record {
-          targets = o.same_targets ∙ i.targets;
-          news = o.same_news ∙ i.news;
-          marks = o.same_marks ∙ i.marks;
-          held = o.held z i.held;
-          twice = sym (o.once z) ∙ clash_left;
+        pub gathering_on : (k' : ℕ) → HoldsOn here (writes_from n v s q) k k' h h' m m' → Gathering w v (writes_from n v s q) k' h' m' a
+        gathering_on k' g = record {
+          size = sh ∙ i.size;
+          marks = sm ∙ i.marks;
+          held = g.held i.held;
+          room = g.room i.room;
+          twice = sym g.once ∙ clash_left;
           bits =
-              rw (o.bits z v)
-              (sym (written_append here (writes_from n v s (p + 17)) (written (pending k t x) v)) ∙ (rw (from_update n v s p h q l) at i.bits));
+              rw (g.bits v)
+              (sym (written_append here (writes_from n v s q) (written (pending (take k h)) v)) ∙ (rw (part_update n v s p y q o c e z) at i.bits));
         }
 
 -- "length outside", by the rule's head
 unfoldable pub head_allows : Event → RuleHead → Bool
 head_allows e h = cond (eqb e.kind start_kind) (leb h.low e.amount && leb e.amount h.high) true
 
--- ---- writing them: i of k are written
-pub record Writing (k : ℕ) (t n : List ℕ) (v₀ v : List ℕ) (i : ℕ) : Type 0 where
-  pub over : i ≤ k
+-- ---- writing them: those of t from i on are left
+pub record Writing (t : List Held) (v₀ v : List ℕ) (i : ℕ) : Type 0 where
   pub size : length v ≡ length v₀
-  pub left : written (pending (k - i) (drop i t) (drop i n)) (values v) ≡ written (pending k t n) (values v₀)
+  pub left : written (pending (drop i t)) (values v) ≡ written (pending t) (values v₀)
 
-pub writing_begin : (k : ℕ) (t n v : List ℕ) → Writing k t n v v 0
-writing_begin k t n v = record { over = omega arith; size = refl; left = rw (sub-zero k) }
+pub writing_begin : (t : List Held) (v : List ℕ) → Writing t v v 0
+writing_begin t v = record { size = refl; left = refl }
 
-pub writing_on : (k : ℕ) (t n v₀ v : List ℕ) (i : ℕ) → Writing k t n v₀ v i → i < k → i < length t → i < length n → (v' : List ℕ) →
-    v' ≡ store variables v (get_or t i 0) (get_or n i 0) → Writing k t n v₀ v' (i + 1)
+pub writing_on : (t : List Held) (v₀ v : List ℕ) (i : ℕ) (x : Held) → Writing t v₀ v i → i < length t → (v' : List ℕ) →
+    v' ≡ store variables v (get_or t i x).target (get_or t i x).bits → Writing t v₀ v' (i + 1)
 unfolding pending written
-writing_on k t n v₀ v i w h a b v' e =
-    let d : k - i ≡ suc (k - (i + 1)) = omega arith in
+writing_on t v₀ v i x w a v' e =
+    let y : Held = get_or t i x in
+    let d : drop i t ≡ y ∷ drop (i + 1) t = rw (add-one i) (drop-cons t i x a) in
     record {
-      over = omega arith;
-      size = put_length v v' (get_or t i 0) (get_or n i 0) e ∙ w.size;
-      left = rw (e, values_store v (get_or t i 0) (get_or n i 0), add-one i) (rw (d, drop-cons t i 0 a, drop-cons n i 0 b, add-one i) at w.left);
+      size = put_length v v' y.target y.bits e ∙ w.size;
+      left = rw (e, values_store v y.target y.bits) (rw d at w.left);
     }
 
--- past the end of either list nothing is held
-pub writing_end : (k m : ℕ) (t n v₀ v : List ℕ) (i : ℕ) → m ≡ min (length t) (length n) → (q : ℕ) → q ≡ min k m → Writing q t n v₀ v i → q ≤ i →
-    values v ≡ written (pending k t n) (values v₀)
+pub writing_end : (t : List Held) (v₀ v : List ℕ) (i : ℕ) → length t ≤ i → Writing t v₀ v i → values v ≡ written (pending t) (values v₀)
 unfolding pending written
-writing_end k m t n v₀ v i em q eq w h =
-    let d : q - i ≡ 0 = omega arith in
-    (rw d at w.left) ∙ ap (λ (l : List Write). written l (values v₀)) (clipped k t n q (eq ∙ rw em))
-  where
-    clipped : (k : ℕ) (t n : List ℕ) (q : ℕ) → q ≡ min k (min (length t) (length n)) → pending q t n ≡ pending k t n
-    clipped zero t n q e = let z : q ≡ 0 = omega arith in rw z
-    clipped (suc k) [] n q e = let z : q ≡ 0 = omega arith in rw z
-    clipped (suc k) (j ∷ t) [] q e = let z : q ≡ 0 = omega arith in rw z
-    clipped (suc k) (j ∷ t) (x ∷ n) zero e = absurd (omega arith)
-    clipped (suc k) (j ∷ t) (x ∷ n) (suc q) e = ap (λ (r : List Write). record { target = j; value = value (signed x) } ∷ r) (clipped k t n q (omega arith))
+writing_end t v₀ v i h w = rw (drop_of_length-le t h) at w.left
 
--- ---- a rule fired, as far as there is room
-pub record Fired (w : List Write) (v : List ℕ) (r : ℕ) (v' : List ℕ) (a b : ℕ) : Type 0 where
-  pub small : r < 3
-  pub size : length v' ≡ length v
-  pub wide : r ≡ 2 → variables ≤ a → variables ≤ b → ⊥
-  pub twice : (r ≡ 2 → ⊥) → eqb r 1 ≡ inconsistent w
-  pub same : (r ≡ 0 → ⊥) → v' ≡ v
-  pub taken : r ≡ 0 → values v' ≡ written w (values v)
+-- ---- a rule fired, as far as there is room for so many writes
+pub record Takes (w : List Write) (v v' : List ℕ) : Type 0 where
+  pub once : inconsistent w ≡ false
+  pub taken : values v' ≡ written w (values v)
 
-module _ (w : List Write) (v : List ℕ) (r k : ℕ) (t n : List ℕ) (a b : ℕ) (o : Collected w (values v) r k t n a b) where
-  pub fired_not : (r ≡ 0 → ⊥) → Fired w v r v a b
-  fired_not z = record { small = o.small; size = refl; wide = o.wide; twice = o.twice; same = λ y. refl; taken = λ y. absurd (z y) }
+abbrev pub Fired : List Write → List ℕ → Result Unit Stop → List ℕ → ℕ → Type 0
+Fired w v r v' a = (length v' ≡ length v) × MatchResult r (λ _. Takes w v v') (λ q. (v' ≡ v) × Stops w a q)
 
-  pub fired_all : r ≡ 0 → (v' : List ℕ) → values v' ≡ written (pending k t n) (values v) → Fired w v r v' a b
+module _ (w : List Write) (v : List ℕ) (h : List Held) where
+  pub fired_all : (k : ℕ) → HoldsAll w (values v) k h → (v' : List ℕ) → values v' ≡ written (pending (take k h)) (values v) → Fired w v (Ok tt) v' (length h)
   unfolding written
-  fired_all z v' e = record {
-    small = o.small;
-    size = sym (length_values v') ∙ ap length e ∙ length_written (pending k t n) (values v) ∙ length_values v;
-    wide = o.wide;
-    twice = o.twice;
-    same = λ y. absurd (y z);
-    taken = λ y. e ∙ o.bits y;
-  }
+  fired_all k o v' e = (
+    sym (length_values v') ∙ ap length e ∙ length_written (pending (take k h)) (values v) ∙ length_values v,
+    record { once = o.once; taken = e ∙ o.bits },
+  )
     where
       length_written : (l : List Write) (v : List Value) → length (written l v) ≡ length v
       length_written [] v = refl
       length_written (x ∷ l) v = length_written l (store variables v x.target x.value) ∙ length_store variables v x.target x.value
 
 -- how much room there was matters only where it was not enough
-pub fired_room : (w : List Write) (v : List ℕ) (r : ℕ) (v' : List ℕ) (a b a' b' : ℕ) → (r ≡ 2 → ⊥) → Fired w v r v' a b → Fired w v r v' a' b'
-fired_room w v r v' a b a' b' h f = record { small = f.small; size = f.size; wide = λ y. absurd (h y); twice = f.twice; same = f.same; taken = f.taken }
+pub fired_room : (w : List Write) (v : List ℕ) (r : Result Unit Stop) (v' : List ℕ) (a b : ℕ) → (r ≡ Err NoRoom → ⊥) → Fired w v r v' a → Fired w v r v' b
+unfolding Stops
+fired_room w v (Ok x) v' a b n f = f
+fired_room w v (Err Twice) v' a b n f = f
+fired_room w v (Err NoRoom) v' a b n f = absurd (n refl)
 
 -- a second try, with more room: the first left the bits as they were
-pub fired_again : (w : List ℕ → List Write) (v u : List ℕ) (q r : ℕ) (v' : List ℕ) (a b a' b' : ℕ) → q ≡ 2 → Fired (w v) v q u a b →
-    Fired (w u) u r v' a' b' → Fired (w v) v r v' a' b'
-fired_again w v u q r v' a b a' b' h f g = let e : u ≡ v = f.same (λ z. omega arith) in rw e at g
+pub fired_again : (w : List ℕ → List Write) (v u : List ℕ) (r : Result Unit Stop) (v' : List ℕ) (a b : ℕ) → Fired (w v) v (Err NoRoom) u a →
+    Fired (w u) u r v' b → Fired (w v) v r v' b
+fired_again w v u r v' a b f g = let e : u ≡ v = f.1.0 in rw e at g

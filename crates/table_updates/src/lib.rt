@@ -2,17 +2,17 @@
 
 #![tactic(auto)]
 
-ghost use Rattle.std.specs.Prelude.{◌≡◌, true, false, ◌&&◌, [], ◌∷◌, ◌<◌, eqb, get_or, set, length, replicate};
+ghost use Rattle.std.specs.Prelude.{◌≡◌, true, false, ◌&&◌, [], ◌∷◌, ◌<◌, ◌≤◌, eqb, get_or, set, length, replicate};
 ghost use Rattle.table_format.specs.Variables.{variables};
 ghost use Rattle.table_format.specs.Format.{update_of};
 ghost use Rattle.table_semantics.specs.Rules as rules;
 ghost use Rattle.table_semantics.specs.Machine as machine;
 ghost use Rattle.table_semantics.specs.Runs.{values, variables_of, stepped_to};
 ghost use Rattle.table_rules.specs.At.{rule_at};
-ghost use Rattle.table_updates.specs.Applied.{writes_from, WritesTo, pending, Gathers, Collected, few_updates, Fired, head_allows};
+ghost use Rattle.table_updates.specs.Applied.{writes_from, WritesTo, pending, Gathers, Collected, Fired, head_allows};
 
 use numbers::Value;
-use records::{Cause, Event, Notation, START, TABLE_RULE, TABLE_UPDATE, UPDATE_SIZE};
+use records::{Cause, Event, Notation, Parts, START, TABLE_RULE, TABLE_UPDATE};
 use table_format::{NO_VARIABLE, RuleHead, VARIABLES};
 
 // ---- updates
@@ -20,27 +20,25 @@ use table_format::{NO_VARIABLE, RuleHead, VARIABLES};
 fn applies(bits: &[u32], part: &[u8]) -> bool
     ensures { result ≡ rules.applies (values bits.now) (update_of part.now) }
 {
-    let c = numbers::u16_at(part, 1);
-    if c == NO_VARIABLE {
+    let condition = numbers::u16_at(part, 1);
+    if condition == NO_VARIABLE {
         return true;
     }
-    let w = numbers::byte_at(part, 3);
-    let a = table_rules::value_in(bits, c as usize);
-    let b = numbers::value_of(w as u32);
-    numbers::same(a, b)
+    let wanted = numbers::item_or(part, 3, 0);
+    table_rules::value_in(bits, condition as usize) == numbers::value_of(wanted as u32)
 }
 
 // The value that it writes. A copy has no second operand.
 fn new_value(n: u32, bits: &[u32], part: &[u8]) -> Value
     ensures { result ≡ rules.new_value n (values bits.now) (update_of part.now) }
 {
-    let op = numbers::byte_at(part, 6);
-    let s = numbers::byte_at(part, 7);
+    let op = numbers::item_or(part, 6, 0);
+    let s = numbers::item_or(part, 7, 0);
     let a = table_rules::operand_value(n, bits, s, numbers::value_at(part, 8));
     if op == 0 {
         return a;
     }
-    let table = numbers::byte_at(part, 12);
+    let table = numbers::item_or(part, 12, 0);
     let b = table_rules::operand_value(n, bits, table, numbers::value_at(part, 13));
     numbers::combine(op, a, b)
 }
@@ -48,7 +46,7 @@ fn new_value(n: u32, bits: &[u32], part: &[u8]) -> Value
 fn target_of(part: &[u8]) -> usize
     ensures { result ≡ (update_of part.now).target }
 {
-    numbers::usize_of_u16(numbers::u16_at(part, 4))
+    usize::from(numbers::u16_at(part, 4))
 }
 
 fn writes_to(bits: &[u32], part: &[u8], target: usize) -> bool
@@ -61,95 +59,78 @@ fn writes_to(bits: &[u32], part: &[u8], target: usize) -> bool
 fn is_written(table: &[u8], from: usize, bits: &[u32], target: usize) -> bool
     ensures { WritesTo (values bits.now) table.now from target result }
 {
-    let mut at: usize = from;
-    while at < table.len() {
-        let k = table[at];
-        if k == TABLE_RULE {
+    for part in Parts::new(Notation::Table, table, from) {
+        let kind = table_format::kind_of(part.bytes);
+        if kind == TABLE_RULE {
             return false;
         }
-        if k == TABLE_UPDATE {
-            if table.len() - at < UPDATE_SIZE {
-                return false;
-            }
-            if writes_to(bits, &table[at..at + UPDATE_SIZE], target) {
-                return true;
-            }
-            at += UPDATE_SIZE;
-            continue;
+        if kind == TABLE_UPDATE && writes_to(bits, part.bytes, target) {
+            return true;
         }
-        let w = Notation::Table;
-        at += records::part_length_at(w, table, at);
     }
     false
 }
 
-// How many updates of a rule there is room for at first.
-const FEW: usize = 64;
+// A write that is held: a variable, and the bits of its new value.
+#[derive(Clone, Copy)]
+struct Held {
+    target: usize,
+    bits: u32,
+}
+
+// Why the writes of a rule are not all held: a target is written twice, or there is no room for one more.
+#[derive(Clone, Copy)]
+enum Stop {
+    Twice,
+    NoRoom,
+}
 
 // Marks a target; tells whether it was marked before.
-fn mark(m: &mut [bool], j: usize) -> bool
-    requires { j < length m.old }
-    ensures { (result ≡ get_or m.old j false) × (m.new ≡ set m.old j true) }
+fn mark(marks: &mut [bool], target: usize) -> bool
+    requires { target < length marks.old }
+    ensures { (result ≡ get_or marks.old target false) × (marks.new ≡ set marks.old target true) }
 {
-    let b = m[j];
-    m[j] = true;
-    b
-}
-
-// What is gathered of the updates of a rule: how many writes are held, and 0, or 1 where a target is written twice, or 2 where there is no room.
-#[derive(Clone, Copy)]
-struct Gathered {
-    answer: u8,
-    held: usize,
-}
-
-fn tell(answer: u8, held: usize) -> Gathered
-    ensures { result ≡ record { answer = answer; held = held } }
-{
-    Gathered {
-        answer: answer,
-        held: held,
-    }
+    let before = marks[target];
+    marks[target] = true;
+    before
 }
 
 // Where an update applies, its target is marked, and held with the new value. A target past the last variable has no mark and is not held: the
-// updates from `next` on are searched for it. Tables that reading accepts have none.
+// updates from `next` on are searched for it. Tables that reading accepts have none. It tells how many writes are held then.
 fn gather_update(
     table: &[u8],
     next: usize,
     n: u32,
     bits: &[u32],
-    held: usize,
-    targets: &mut [usize],
-    news: &mut [u32],
+    count: usize,
+    held: &mut [Held],
     marks: &mut [bool],
     part: &[u8],
-) -> Gathered
+) -> Result<usize, Stop>
     requires { length marks.old ≡ variables }
-    ensures { Gathers (rules.writes n (values bits.now) (update_of part.now ∷ [])) (writes_from n (values bits.now) table.now next) result.answer result.held held targets.old targets.new news.old news.new marks.old marks.new }
+    ensures { Gathers (rules.writes n (values bits.now) (update_of part.now ∷ [])) (writes_from n (values bits.now) table.now next) result count held.old held.new marks.old marks.new }
 {
     if !applies(bits, part) {
-        return tell(0, held);
+        return Ok(count);
     }
-    let j = target_of(part);
-    if VARIABLES <= j {
-        if is_written(table, next, bits, j) {
-            return tell(1, held);
+    let target = target_of(part);
+    if VARIABLES <= target {
+        if is_written(table, next, bits, target) {
+            return Err(Stop::Twice);
         }
-        return tell(0, held);
+        return Ok(count);
     }
-    if mark(marks, j) {
-        return tell(1, held);
+    if mark(marks, target) {
+        return Err(Stop::Twice);
     }
-    if targets.len() <= held {
-        return tell(2, held);
+    if held.len() <= count {
+        return Err(Stop::NoRoom);
     }
-    if news.len() <= held {
-        return tell(2, held);
-    }
-    targets[held] = j;
-    news[held] = table_rules::bits_of(new_value(n, bits, part));
-    tell(0, held + 1)
+    held[count] = Held {
+        target,
+        bits: table_rules::bits_of(new_value(n, bits, part)),
+    };
+    Ok(count + 1)
 }
 
 // The updates of the rule whose records after its head begin at `from`.
@@ -158,60 +139,31 @@ fn gather_updates(
     from: usize,
     n: u32,
     bits: &[u32],
-    targets: &mut [usize],
-    news: &mut [u32],
+    held: &mut [Held],
     marks: &mut [bool],
-) -> Gathered
+) -> Result<usize, Stop>
     requires { marks.old ≡ replicate variables false }
-    ensures { (length marks.new ≡ length marks.old) × Collected (writes_from n (values bits.now) table.now from) (values bits.now) result.answer result.held targets.new news.new (length targets.old) (length news.old) }
+    ensures { (length marks.new ≡ length marks.old) × Collected (writes_from n (values bits.now) table.now from) (values bits.now) result held.new (length held.old) }
 {
-    let mut held: usize = 0;
-    let mut at: usize = from;
-    while at < table.len() {
-        let k = table[at];
-        if k == TABLE_RULE {
-            return tell(0, held);
+    let mut count: usize = 0;
+    for part in Parts::new(Notation::Table, table, from) {
+        let kind = table_format::kind_of(part.bytes);
+        if kind == TABLE_RULE {
+            return Ok(count);
         }
-        if k == TABLE_UPDATE {
-            if table.len() - at < UPDATE_SIZE {
-                return tell(0, held);
-            }
-            let next = at + UPDATE_SIZE;
-            let one = gather_update(
-                table,
-                next,
-                n,
-                bits,
-                held,
-                targets,
-                news,
-                marks,
-                &table[at..next],
-            );
-            let answer = one.answer;
-            held = one.held;
-            if answer != 0 {
-                return one;
-            }
-            at = next;
-            continue;
+        if kind == TABLE_UPDATE {
+            count = gather_update(table, part.end, n, bits, count, held, marks, part.bytes)?;
         }
-        let w = Notation::Table;
-        at += records::part_length_at(w, table, at);
     }
-    tell(0, held)
+    Ok(count)
 }
 
 // The writes that are held.
-fn write(bits: &mut [u32], held: usize, targets: &[usize], news: &[u32])
-    ensures { values bits.new ≡ rules.written (pending held targets.now news.now) (values bits.old) }
+fn write(bits: &mut [u32], held: &[Held])
+    ensures { values bits.new ≡ rules.written (pending held.now) (values bits.old) }
 {
-    let within = table_index::fewer(targets.len(), news.len());
-    let count = table_index::fewer(held, within);
-    let mut i: usize = 0;
-    while i < count {
-        table_rules::put(bits, targets[i], news[i]);
-        i += 1;
+    for one in held {
+        table_rules::put(bits, one.target, one.bits);
     }
 }
 
@@ -222,61 +174,37 @@ fn allows_length(event: Event, head: RuleHead) -> bool
     if event.kind != START {
         return true;
     }
-    let l = head.low;
-    let m = head.high;
-    (l <= event.amount) & (event.amount <= m)
+    (head.low <= event.amount) & (event.amount <= head.high)
 }
 
-// The updates of a rule, with room for as many of them as the scratch has.
-fn fire_within(
+// The updates of a rule, with room for N of them.
+fn fire_with<const N: usize>(
     table: &[u8],
     place: usize,
     n: u32,
     bits: &mut [u32],
-    targets: &mut [usize],
-    news: &mut [u32],
-    marks: &mut [bool],
-) -> u8
-    requires { marks.old ≡ replicate variables false }
-    ensures { Fired (writes_from n (values bits.old) table.now place) bits.old result bits.new (length targets.old) (length news.old) }
+) -> Result<(), Stop>
+    requires { N ≤ variables }
+    ensures { Fired (writes_from n (values bits.old) table.now place) bits.old result bits.new N }
 {
-    let all = gather_updates(table, place, n, bits, targets, news, marks);
-    let answer = all.answer;
-    if answer != 0 {
-        return answer;
-    }
-    write(bits, all.held, targets, news);
-    answer
-}
-
-// Most rules have few updates.
-fn fire_few(table: &[u8], place: usize, n: u32, bits: &mut [u32]) -> u8
-    ensures { Fired (writes_from n (values bits.old) table.now place) bits.old result bits.new few_updates few_updates }
-{
-    let mut targets = [0; FEW];
-    let mut news = [0; FEW];
+    let mut held = [Held { target: 0, bits: 0 }; N];
     let mut marks = [false; VARIABLES];
-    fire_within(table, place, n, bits, &mut targets, &mut news, &mut marks)
+    let count = gather_updates(table, place, n, bits, &mut held, &mut marks)?;
+    write(bits, &held[..count]);
+    Ok(())
 }
 
-// As many as there are variables always do.
-fn fire_many(table: &[u8], place: usize, n: u32, bits: &mut [u32]) -> u8
-    ensures { Fired (writes_from n (values bits.old) table.now place) bits.old result bits.new variables variables }
-{
-    let mut targets = [0; VARIABLES];
-    let mut news = [0; VARIABLES];
-    let mut marks = [false; VARIABLES];
-    fire_within(table, place, n, bits, &mut targets, &mut news, &mut marks)
-}
+// How many updates of a rule there is room for at first: most have no more.
+const FEW: usize = 64;
 
-fn fire_updates(table: &[u8], place: usize, n: u32, bits: &mut [u32]) -> u8
-    ensures { Fired (writes_from n (values bits.old) table.now place) bits.old result bits.new variables variables }
+// As many as there are variables always have room.
+fn fire_updates(table: &[u8], place: usize, n: u32, bits: &mut [u32]) -> Result<(), Stop>
+    ensures { Fired (writes_from n (values bits.old) table.now place) bits.old result bits.new variables }
 {
-    let few = fire_few(table, place, n, bits);
-    if few != 2 {
-        return few;
+    match fire_with::<FEW>(table, place, n, bits) {
+        Err(Stop::NoRoom) => fire_with::<VARIABLES>(table, place, n, bits),
+        few => few,
     }
-    fire_many(table, place, n, bits)
 }
 
 // The one enabled rule of an event: its head, and the place after that.
@@ -286,8 +214,8 @@ pub fn fire(table: &[u8], bits: &mut [u32], event: Event, place: usize, head: Ru
     if !allows_length(event, head) {
         return Cause::NotEnabled;
     }
-    if fire_updates(table, place, event.amount, bits) == 1 {
-        return Cause::InconsistentUpdates;
+    match fire_updates(table, place, event.amount, bits) {
+        Ok(()) => Cause::None,
+        Err(_) => Cause::InconsistentUpdates,
     }
-    Cause::None
 }

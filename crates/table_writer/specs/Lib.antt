@@ -4,3 +4,6 @@ pub mod WroteRules
 pub mod Lists
 pub mod Operands
 pub mod SameBytes
+pub mod Writes
+pub mod WritesLaws
+pub mod WritesSame

@@ -1,10 +1,10 @@
 // A table's records, written into a lent slice.
 
-ghost use Rattle.std.specs.Prelude.{◌≤◌, ◌≡◌, ◌+◌, min, [], ◌∷◌, true, length};
+ghost use Rattle.std.specs.Prelude.{◌≤◌, ◌≡◌, ◌+◌, [], ◌∷◌, true, length};
 ghost use Rattle.std.proofs.lemmas.List.Edits.{sets};
 ghost use Rattle.numbers.specs.Values.{u16_to, u32_to, bits_of};
 ghost use Rattle.table_format.specs.Format.{operand_to, record_to};
-ghost use Rattle.table_writer.specs.Wrote.{farthest, Wrote};
+ghost use Rattle.table_writer.specs.Lists.{Counted};
 
 use numbers::Value;
 use records::{
@@ -12,82 +12,13 @@ use records::{
 };
 use table_format::{Atom, InitialValue, Record, RuleHead, Update};
 
-// The farthest place that can be told.
-const FARTHEST: usize = 18446744073709551615;
-
-// The place so many bytes further.
-fn advance(at: usize, count: usize) -> usize
-    ensures { result ≡ min (at + count) farthest }
-{
-    if FARTHEST - count < at {
-        FARTHEST
-    } else {
-        at + count
-    }
-}
-
-pub fn put_byte(output: &mut [u8], at: usize, byte: u8) -> usize
-    ensures { Wrote output.old at (byte ∷ []) output.new result }
-{
-    if at < output.len() {
-        output[at] = byte;
-        advance(at, 1)
-    } else {
-        advance(at, 1)
-    }
-}
-
-fn put_u16(output: &mut [u8], at: usize, number: u16) -> usize
-    ensures { Wrote output.old at (u16_to number []) output.new result }
-{
-    numbers::put16(output, at, number);
-    advance(at, 2)
-}
-
-fn put_u32(output: &mut [u8], at: usize, number: u32) -> usize
-    ensures { Wrote output.old at (u32_to number []) output.new result }
-{
-    numbers::put32(output, at, number);
-    advance(at, 4)
-}
-
-fn put_value(output: &mut [u8], at: usize, value: Value) -> usize
-    ensures { Wrote output.old at (u32_to (bits_of value.0) []) output.new result }
-{
-    put_u32(output, at, numbers::bits(value))
-}
-
-fn put_operand(output: &mut [u8], at: usize, operand: Operand) -> usize
-    ensures { Wrote output.old at (operand_to operand []) output.new result }
-{
-    let value = operand.value;
-    let at = put_byte(output, at, operand.tag);
-    put_value(output, at, value)
-}
-
-pub fn put_initial(output: &mut [u8], at: usize, initial: InitialValue) -> usize
-    ensures { Wrote output.old at (record_to (Record.Initial initial) []) output.new result }
-{
-    let value = initial.value;
-    let at = put_byte(output, at, TABLE_START);
-    let at = put_u16(output, at, initial.variable);
-    put_value(output, at, value)
-}
-
-pub fn put_head(output: &mut [u8], at: usize, head: RuleHead) -> usize
-    ensures { Wrote output.old at (record_to (Record.Head head) []) output.new result }
-{
-    let at = put_byte(output, at, TABLE_RULE);
-    let at = put_byte(output, at, head.kind);
-    let at = put_byte(output, at, head.id);
-    let at = put_u32(output, at, head.low);
-    put_u32(output, at, head.high)
-}
-
-pub fn put_clause(output: &mut [u8], at: usize) -> usize
-    ensures { Wrote output.old at (record_to Record.Clause []) output.new result }
-{
-    put_byte(output, at, TABLE_CLAUSE)
+// Bytes written one after the other into a lent slice, from a place on. What would lie past its end is counted and not written.
+#[derive(Drop)]
+pub struct Writer<'a> {
+    pub bytes: &'a mut [u8],
+    pub at: usize,
+    ghost place: { Counted at },
+    ghost size: { Counted (length bytes.now) },
 }
 
 // Most of a table are atoms: each is stored at once where it has room.
@@ -113,33 +44,104 @@ fn store_atom(output: &mut [u8], at: usize, atom: Atom)
 fn has_room(end: usize, at: usize, size: usize) -> bool
     ensures { result ≡ true → at + size ≤ end }
 {
-    if at < end { size <= end - at } else { false }
+    at < end && size <= end - at
 }
 
-pub fn put_atom(output: &mut [u8], at: usize, atom: Atom) -> usize
-    ensures { Wrote output.old at (record_to (Record.Atomic atom) []) output.new result }
-{
-    if has_room(output.len(), at, TABLE_ATOM_SIZE) {
-        store_atom(output, at, atom);
-        return at + TABLE_ATOM_SIZE;
+impl<'a> Writer<'a> {
+    pub fn new(bytes: &'a mut [u8], at: usize) -> Writer<'a>
+        ensures lender { result.bytes.ghost_name ≡ bytes.entry.ghost_name }
+        ensures held { result.bytes.now ≡ bytes.old }
+        ensures place { result.at ≡ at }
+    {
+        Writer { bytes, at }
     }
-    let right = atom.right;
-    let at = put_byte(output, at, TABLE_ATOM);
-    let at = put_byte(output, at, atom.op);
-    let at = put_u16(output, at, atom.variable);
-    put_operand(output, at, right)
 }
 
-pub fn put_update(output: &mut [u8], at: usize, update: Update) -> usize
-    ensures { Wrote output.old at (record_to (Record.Change update) []) output.new result }
-{
-    let first = update.first;
-    let second = update.second;
-    let at = put_byte(output, at, TABLE_UPDATE);
-    let at = put_u16(output, at, update.condition);
-    let at = put_byte(output, at, update.wanted);
-    let at = put_u16(output, at, update.target);
-    let at = put_byte(output, at, update.op);
-    let at = put_operand(output, at, first);
-    put_operand(output, at, second)
+impl Writer<'_> {
+    ghost use Rattle.table_writer.specs.Writes.{Writes};
+
+    // The place moves no farther than a place can be told.
+    pub fn byte(&mut self, byte: u8)
+        ensures { Writes self.old (byte ∷ []) self.new }
+    {
+        numbers::put_item(self.bytes, self.at, byte);
+        self.at = self.at.saturating_add(1);
+    }
+
+    fn u16(&mut self, number: u16)
+        ensures { Writes self.old (u16_to number []) self.new }
+    {
+        numbers::put16(self.bytes, self.at, number);
+        self.at = self.at.saturating_add(2);
+    }
+
+    fn u32(&mut self, number: u32)
+        ensures { Writes self.old (u32_to number []) self.new }
+    {
+        numbers::put32(self.bytes, self.at, number);
+        self.at = self.at.saturating_add(4);
+    }
+
+    fn value(&mut self, value: Value)
+        ensures { Writes self.old (u32_to (bits_of value.0) []) self.new }
+    {
+        self.u32(numbers::bits(value));
+    }
+
+    fn operand(&mut self, operand: Operand)
+        ensures { Writes self.old (operand_to operand []) self.new }
+    {
+        self.byte(operand.tag);
+        self.value(operand.value);
+    }
+
+    pub fn initial(&mut self, initial: InitialValue)
+        ensures { Writes self.old (record_to (Record.Initial initial) []) self.new }
+    {
+        self.byte(TABLE_START);
+        self.u16(initial.variable);
+        self.value(initial.value);
+    }
+
+    pub fn head(&mut self, head: RuleHead)
+        ensures { Writes self.old (record_to (Record.Head head) []) self.new }
+    {
+        self.byte(TABLE_RULE);
+        self.byte(head.kind);
+        self.byte(head.id);
+        self.u32(head.low);
+        self.u32(head.high);
+    }
+
+    pub fn clause(&mut self)
+        ensures { Writes self.old (record_to Record.Clause []) self.new }
+    {
+        self.byte(TABLE_CLAUSE);
+    }
+
+    pub fn atom(&mut self, atom: Atom)
+        ensures { Writes self.old (record_to (Record.Atomic atom) []) self.new }
+    {
+        if has_room(self.bytes.len(), self.at, TABLE_ATOM_SIZE) {
+            store_atom(self.bytes, self.at, atom);
+            self.at += TABLE_ATOM_SIZE;
+            return;
+        }
+        self.byte(TABLE_ATOM);
+        self.byte(atom.op);
+        self.u16(atom.variable);
+        self.operand(atom.right);
+    }
+
+    pub fn update(&mut self, update: Update)
+        ensures { Writes self.old (record_to (Record.Change update) []) self.new }
+    {
+        self.byte(TABLE_UPDATE);
+        self.u16(update.condition);
+        self.byte(update.wanted);
+        self.u16(update.target);
+        self.byte(update.op);
+        self.operand(update.first);
+        self.operand(update.second);
+    }
 }

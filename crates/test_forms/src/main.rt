@@ -9,11 +9,10 @@ ghost use Rattle.command.specs.Counts.{IsPrefixLen};
 use checking_loop::View;
 use model_by_value::{ModelWords, StateWords};
 use model_words::MODEL_WORDS;
-use records::Cause;
+use records::{Cause, Events};
 use std::fs::File;
 use std::io;
 use table_format::Record;
-use table_reader::Found;
 
 // A file's bytes, as far as the buffer holds them.
 fn read_file(rt: &HostRuntime, path: &str, buffer: &mut [u8]) -> io::Result<usize>
@@ -23,37 +22,26 @@ fn read_file(rt: &HostRuntime, path: &str, buffer: &mut [u8]) -> io::Result<usiz
     Ok(command::read_full(&mut file, buffer))
 }
 
-fn print_name(rt: &HostRuntime, found: Found) -> io::Result<()> {
+fn name_of(found: Option<Record>) -> &'static str {
     match found {
-        Found::One(record) => print_kind(rt, record),
-        Found::End => println!(rt; " end"),
+        None => "end",
+        Some(Record::Initial(_)) => "start",
+        Some(Record::Head(_)) => "rule",
+        Some(Record::Clause) => "clause",
+        Some(Record::Atomic(_)) => "atom",
+        Some(Record::Change(_)) => "update",
+        Some(Record::Cut) => "cut",
+        Some(Record::Unknown) => "unknown",
     }
 }
 
-fn print_kind(rt: &HostRuntime, record: Record) -> io::Result<()> {
-    match record {
-        Record::Initial(_) => println!(rt; " start"),
-        Record::Head(_) => println!(rt; " rule"),
-        Record::Clause => println!(rt; " clause"),
-        Record::Atomic(_) => println!(rt; " atom"),
-        Record::Change(_) => println!(rt; " update"),
-        Record::Cut => println!(rt; " cut"),
-        Record::Unknown => println!(rt; " unknown"),
-    }
-}
-
-fn print_record(rt: &HostRuntime, at: usize, found: Found) -> io::Result<()> {
-    print!(rt; "{at}")?;
-    print_name(rt, found)
-}
-
-// A line for each record: its place and its kind.
+// A line for each record: its place and its kind. Kept: a walk over places, since `step_at` is what is tried here.
 fn walk(rt: &HostRuntime, table: &[u8]) -> io::Result<()> {
     let mut at: usize = 0;
     while at < table.len() {
         let step = table_reader::step_at(table, at);
-        let found = step.found;
-        print_record(rt, at, found)?;
+        let name = name_of(step.found);
+        println!(rt; "{at} {name}")?;
         at = step.next;
     }
     Ok(())
@@ -77,12 +65,14 @@ fn walk_file(rt: &HostRuntime, path: &str) -> io::Result<()> {
 
 // The answer's number, then the view's clock, mode, phase and count.
 fn print_turn(rt: &HostRuntime, answer: Cause, view: View) -> io::Result<()> {
+    let View {
+        clock,
+        mode,
+        phase,
+        taken,
+    } = view;
     let number = records::number_of(answer);
-    let clock = view.clock;
     let now = clock.0;
-    let mode = view.mode;
-    let phase = view.phase;
-    let taken = view.taken;
     println!(rt; "{number} {now} {mode} {phase} {taken}")
 }
 
@@ -90,18 +80,11 @@ fn print_turn(rt: &HostRuntime, answer: Cause, view: View) -> io::Result<()> {
 fn check(rt: &HostRuntime, model: ModelWords, start: StateWords, script: &[u8]) -> io::Result<()> {
     let mut state = start;
     let mut view = checking_loop::view_of(state);
-    let mut at: usize = 0;
-    while at < script.len() {
-        let listed = records::event_at(script, at);
-        let event = listed.event;
-        let end = listed.end;
-        let turn = checking_loop::take_turn(view, model, state, event);
-        let answered = turn.answered;
+    for (_, listed) in Events::new(script) {
+        let turn = checking_loop::take_turn(view, model, state, listed.event);
         view = turn.view;
-        state = answered.state;
-        let answer = answered.answer;
-        print_turn(rt, answer, view)?;
-        at = end;
+        state = turn.answered.state;
+        print_turn(rt, turn.answered.answer, view)?;
     }
     Ok(())
 }

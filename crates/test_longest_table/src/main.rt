@@ -7,6 +7,7 @@ ghost use Rattle.std.specs.Prelude.{◌≡◌, length};
 use records::{Operand, Refusal};
 use std::io;
 use table_format::{Atom, InitialValue, RuleHead, Update};
+use table_writer::Writer;
 
 // ---- the table: a start record, rules of 38 bytes, one of 61
 // Variable 1 has the number of the rule that comes next.
@@ -16,91 +17,80 @@ const RULES: u32 = 26314;
 const FIRST: u32 = 26311;
 
 fn operand(tag: u8, n: u32) -> Operand {
-    let v = numbers::value_of(n);
-    Operand { tag: tag, value: v }
+    let value = numbers::value_of(n);
+    Operand { tag, value }
 }
 
-fn put_start(out: &mut [u8], at: usize, n: u32) -> usize {
-    let v = numbers::value_of(n);
-    let start = InitialValue {
-        variable: 1,
-        value: v,
-    };
-    table_writer::put_initial(out, at, start)
+fn put_start(out: &mut Writer<'_>, n: u32) {
+    let value = numbers::value_of(n);
+    out.initial(InitialValue { variable: 1, value });
 }
 
-fn put_head(out: &mut [u8], at: usize, kind: u8, rule: u32) -> usize {
-    let head = RuleHead {
-        kind: kind,
+fn put_head(out: &mut Writer<'_>, kind: u8, rule: u32) {
+    out.head(RuleHead {
+        kind,
         id: (rule % 256) as u8,
         low: 0,
         high: 0,
-    };
-    table_writer::put_head(out, at, head)
+    });
 }
 
 // A clause: variable 1 is the rule's number.
-fn put_turn(out: &mut [u8], at: usize, rule: u32) -> usize {
-    let right = operand(0, rule);
-    let atom = Atom {
+fn put_turn(out: &mut Writer<'_>, rule: u32) {
+    out.clause();
+    out.atom(Atom {
         op: 0,
         variable: 1,
-        right: right,
-    };
-    let at = table_writer::put_clause(out, at);
-    table_writer::put_atom(out, at, atom)
+        right: operand(0, rule),
+    });
 }
 
 // Variable 1 gets 1 more.
-fn put_next(out: &mut [u8], at: usize) -> usize {
-    let first = operand(1, 1);
-    let second = operand(0, 1);
-    let update = Update {
+fn put_next(out: &mut Writer<'_>) {
+    out.update(Update {
         condition: table_format::NO_VARIABLE,
         wanted: 0,
         target: 1,
         op: 1,
-        first: first,
-        second: second,
-    };
-    table_writer::put_update(out, at, update)
+        first: operand(1, 1),
+        second: operand(0, 1),
+    });
 }
 
 // Rules of REQUEST, which do not stop TICK.
-fn put_rules(out: &mut [u8], from: usize, n: u32) -> usize {
-    let mut at: usize = from;
-    let mut rule: u32 = 0;
-    while rule < n {
-        at = put_head(out, at, records::REQUEST, rule);
-        at = put_turn(out, at, rule);
-        at = put_next(out, at);
-        rule += 1;
+fn put_rules(out: &mut Writer<'_>, n: u32) {
+    for rule in 0..n {
+        put_head(out, records::REQUEST, rule);
+        put_turn(out, rule);
+        put_next(out);
     }
-    at
 }
 
 // A rule of ACTIVATE with the same clause five times and no update.
-fn put_last(out: &mut [u8], at: usize, rule: u32) -> usize {
-    let at = put_head(out, at, records::ACTIVATE, rule);
-    let at = put_turn(out, at, rule);
-    let at = put_turn(out, at, rule);
-    let at = put_turn(out, at, rule);
-    let at = put_turn(out, at, rule);
-    put_turn(out, at, rule)
+fn put_last(out: &mut Writer<'_>, rule: u32) {
+    put_head(out, records::ACTIVATE, rule);
+    for _ in 0..5 {
+        put_turn(out, rule);
+    }
 }
 
-fn put_table(out: &mut [u8]) -> usize {
-    let at = put_start(out, 0, FIRST);
-    let at = put_rules(out, at, RULES);
-    put_last(out, at, RULES)
+fn put_table(bytes: &mut [u8]) -> usize {
+    let mut out = Writer::new(bytes, 0);
+    put_start(&mut out, FIRST);
+    put_rules(&mut out, RULES);
+    put_last(&mut out, RULES);
+    out.at
 }
 
 // ---- what it answers
 fn print_refusal(rt: &HostRuntime, refusal: Refusal) -> io::Result<()> {
-    let cause = refusal.cause;
+    let Refusal {
+        cause,
+        start,
+        end,
+        ..
+    } = refusal;
     let number = records::number_of(cause);
-    let start = refusal.start;
-    let end = refusal.end;
     println!(rt; " {number} {start} {end}")
 }
 
@@ -119,17 +109,15 @@ fn print_run(rt: &HostRuntime, table: &[u8], script: &[u8]) -> io::Result<()> {
     let ran = table_runs::run_table(table, script);
     let taken = ran.taken;
     print!(rt; "taken {taken} stopped")?;
-    let refusal = ran.refusal;
-    print_refusal(rt, refusal)
+    print_refusal(rt, ran.refusal)
 }
 
 fn print_run_on(rt: &HostRuntime, table: &[u8], script: &[u8]) -> io::Result<()> {
     let tally = table_runs::run_on(table, script);
     let taken = tally.taken;
     let refused = tally.refused;
-    let variables = tally.state;
-    let clock = table_machine::clock_of(variables);
-    let next = numbers::bits(variables.value[1]);
+    let clock = table_machine::clock_of(tally.state);
+    let next = numbers::bits(tally.state.value[1]);
     println!(rt; "taken {taken} refused {refused} clock {clock} variable 1 {next}")
 }
 

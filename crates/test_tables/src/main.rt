@@ -2,38 +2,21 @@
 
 #![tactic(auto)]
 
-ghost use Rattle.std.specs.Prelude.{◌<◌, ◌≤◌, length};
+ghost use Rattle.std.specs.Prelude.{◌≡◌, ◌-◌, length};
 
-use numbers::Value;
-use records::Cause;
+use numbers::item_or;
+use records::{Cause, Events};
 use std::fs::File;
 use std::io;
-use table_format::VARIABLES;
 use table_semantics::Variables;
 
-fn print_value(rt: &HostRuntime, x: Value) -> io::Result<()> {
-    if numbers::less(x, numbers::value_of(0)) {
-        print!(rt; "-")?;
-    }
-    let magnitude = numbers::magnitude(x);
-    print!(rt; "{magnitude}")
-}
-
-// A variable that is not 0.
-fn print_variable(rt: &HostRuntime, j: usize, x: Value) -> io::Result<()> {
-    if numbers::bits(x) == 0 {
-        return Ok(());
-    }
-    print!(rt; " {j}=")?;
-    print_value(rt, x)
-}
-
+// The variables that are not 0.
 fn print_variables(rt: &HostRuntime, s: Variables) -> io::Result<()> {
-    let mut j: usize = 0;
-    while j < VARIABLES {
-        let x = s.value[j];
-        print_variable(rt, j, x)?;
-        j += 1;
+    for (j, x) in s.value.iter().enumerate() {
+        let value = x.0;
+        if value != 0 {
+            print!(rt; " {j}={value}")?;
+        }
     }
     println!(rt)
 }
@@ -49,15 +32,10 @@ fn print_trace(rt: &HostRuntime, table: &[u8], script: &[u8]) -> io::Result<()> 
     let mut bits = table_rules::all_bits(table_machine::start_variables(table));
     print!(rt; "- 0 0")?;
     print_variables(rt, table_rules::variables_of(bits))?;
-    let mut at: usize = 0;
-    while at < script.len() {
-        let listed = records::event_at(script, at);
-        let event = listed.event;
-        let end = listed.end;
-        let answer = table_machine::step_on(table, &none, &mut bits, event);
-        print_answer(rt, answer, at, end)?;
+    for (at, listed) in Events::new(script) {
+        let answer = table_machine::step_on(table, &none, &mut bits, listed.event);
+        print_answer(rt, answer, at, listed.end)?;
         print_variables(rt, table_rules::variables_of(bits))?;
-        at = end;
     }
     Ok(())
 }
@@ -71,36 +49,29 @@ fn print_runs(rt: &HostRuntime, table: &[u8], script: &[u8]) -> io::Result<()> {
     let taken = tally.taken;
     let refused = tally.refused;
     print!(rt; "on {taken} {refused}")?;
-    let variables = tally.state;
-    print_variables(rt, variables)
+    print_variables(rt, tally.state)
 }
 
 fn print_case(rt: &HostRuntime, name: &[u8], table: &[u8], script: &[u8]) -> io::Result<()> {
     rt.write_all(name)?;
     println!(rt)?;
     let refusal = table_faults::read_table(table);
-    let cause = refusal.cause;
-    if records::is_none(cause) {
+    if records::is_none(refusal.cause) {
         println!(rt; "ok")?;
         print_trace(rt, table, script)?;
         print_runs(rt, table, script)
     } else {
         print!(rt; "refused ")?;
-        print_answer(rt, cause, refusal.start, refusal.end)?;
+        print_answer(rt, refusal.cause, refusal.start, refusal.end)?;
         println!(rt)
     }
 }
 
-// The end of the n bytes from `at` on, or of as many as there are.
-fn end_of(cases: &[u8], at: usize, n: usize) -> usize
-    requires { at ≤ length cases.now }
-    ensures { (at ≤ result) × (result ≤ length cases.now) × (0 < n → at < length cases.now → at < result) }
+// The first n bytes, or as many as there are, and the others.
+fn cut(bytes: &[u8], n: usize) -> (&[u8], &[u8])
+    ensures { length result.1.now ≡ length bytes.now - n }
 {
-    if n < cases.len() - at {
-        at + n
-    } else {
-        cases.len()
-    }
+    bytes.split_at(n.min(bytes.len()))
 }
 
 // The bytes of the three lengths of a case.
@@ -108,20 +79,14 @@ const LENGTHS: usize = 9;
 
 // A case: the lengths of its name (u8), table and script (u32 each), then these.
 fn print_cases(rt: &HostRuntime, cases: &[u8]) -> io::Result<()> {
-    let mut at: usize = 0;
-    while at < cases.len() {
-        let name = end_of(cases, at, LENGTHS);
-        let lengths = &cases[at..name];
-        let table = end_of(cases, name, numbers::byte_at(lengths, 0) as usize);
-        let script = end_of(cases, table, numbers::u32_at(lengths, 1) as usize);
-        let end = end_of(cases, script, numbers::u32_at(lengths, 5) as usize);
-        print_case(
-            rt,
-            &cases[name..table],
-            &cases[table..script],
-            &cases[script..end],
-        )?;
-        at = end;
+    let mut rest = cases;
+    while !rest.is_empty() {
+        let (lengths, tail) = cut(rest, LENGTHS);
+        let (name, tail) = cut(tail, usize::from(item_or(lengths, 0, 0)));
+        let (table, tail) = cut(tail, numbers::u32_at(lengths, 1) as usize);
+        let (script, tail) = cut(tail, numbers::u32_at(lengths, 5) as usize);
+        print_case(rt, name, table, script)?;
+        rest = tail;
     }
     Ok(())
 }

@@ -15,8 +15,10 @@ use Rattle.table_format.specs.declared.Update.{Update}
 use Rattle.table_format.specs.Variables.{flag_var, buffer_var, output_var, input_room, output_room}
 use Rattle.translation.specs.Parts.{constant, variable, Expression, update_when, update}
 use Rattle.translation.specs.Rules.{variable_of, operand_of, assigned_expression, assignment_updates, sent_expression, send_updates, assignment_update, old_output, sent_after, send_update, where_sent}
-use Rattle.table_writer.specs.Lists.{Counted, joins_updates, wrote_none, loop_ends}
-use Rattle.table_writer.specs.WroteRules.{WroteUpdates}
+use Rattle.table_writer.specs.Lists.{joins_updates}
+use Rattle.table_writer.specs.Writes.{WritesUpdates}
+use Rattle.table_writer.specs.WritesLaws.{writes_none, writes_end}
+use Rattle.table_writer.specs.declared.encoding.Writer.{Writer}
 use Rattle.translate_complete.specs.declared.updates.Expression as held
 
 -- an expression as the code holds it
@@ -40,16 +42,16 @@ module _ (a : Assignment) (f s : Operand) (h : f ≡ operand_of a.first) where
 abbrev pub assignment_of : Behavior → ℕ → ℕ → List Update
 assignment_of b k j = assignment_update (assignment_at b k j)
 
-pub assignment_written : {d e : List ℕ} {at p : ℕ} (a : Assignment) (target : ℕ) (x : Expression) → target ≡ variable_of a.tag a.number → x ≡ assigned_expression a →
-    WroteUpdates d at (update target x ∷ []) e p → WroteUpdates d at (assignment_update a) e p
+pub assignment_written : {u v : Writer} (a : Assignment) (target : ℕ) (x : Expression) → target ≡ variable_of a.tag a.number → x ≡ assigned_expression a →
+    WritesUpdates u (update target x ∷ []) v → WritesUpdates u (assignment_update a) v
 assignment_written a target x h g w = rw (← h, ← g) w
 
-pub assignment_one : {d e : List ℕ} {at p : ℕ} (b : Behavior) (k j : ℕ) (a : Assignment) → a ≡ assignment_at b k j → WroteUpdates d at (assignment_update a) e p → WroteUpdates d at (assignment_of b k j) e p
+pub assignment_one : {u v : Writer} (b : Behavior) (k j : ℕ) (a : Assignment) → a ≡ assignment_at b k j → WritesUpdates u (assignment_update a) v → WritesUpdates u (assignment_of b k j) v
 assignment_one b k j a h w = rw (← h) w
 
-pub assignments_end : {d e : List ℕ} {at p : ℕ} (b : Behavior) (k n j : ℕ) → j ≤ n → n ≤ j → WroteUpdates d at (join_below j (assignment_of b k)) e p → WroteUpdates d at (assignment_updates b k n) e p
+pub assignments_end : {u v : Writer} (b : Behavior) (k n j : ℕ) → j ≤ n → n ≤ j → WritesUpdates u (join_below j (assignment_of b k)) v → WritesUpdates u (assignment_updates b k n) v
 unfolding assignment_updates
-assignments_end b k n j h l w = loop_ends joins_updates (assignment_of b k) n j h l w
+assignments_end b k n j h l w = writes_end joins_updates (assignment_of b k) n j h l w
 
 -- ---- what an output port holds after the assignments
 module _ (a : Assignment) (o : ℕ) (x : Expression) where
@@ -84,18 +86,18 @@ module _ (m : Timing) (g : GoodTiming m) (c : ℕ) (h : c < m.connections) (x : 
   target_small = rw e (omega (arith, g.target c h, g.inputs))
 
 -- f is its Flag, v the buffer that it fills, z what it sends
-pub send_written : {d e : List ℕ} {at p : ℕ} (m : Timing) (c : ℕ) (from : ℕ → Expression) (x : Connection) (f v : ℕ) (z : Expression) → x ≡ connection_at m c → f ≡ flag_var c →
-    v ≡ buffer_var x.target → z ≡ from x.source → WroteUpdates d at (update_when f 1 v z ∷ []) e p → WroteUpdates d at (send_update c (connection_at m c) from ∷ []) e p
+pub send_written : {u w : Writer} (m : Timing) (c : ℕ) (from : ℕ → Expression) (x : Connection) (f v : ℕ) (z : Expression) → x ≡ connection_at m c → f ≡ flag_var c →
+    v ≡ buffer_var x.target → z ≡ from x.source → WritesUpdates u (update_when f 1 v z ∷ []) w → WritesUpdates u (send_update c (connection_at m c) from ∷ []) w
 send_written m c from x f v z xe fe ve ze k = rw (← xe) (rw (fe, ve, ze) at k)
 
 -- r says whether it is sent
 module _ (m : Timing) (t c : ℕ) (from : ℕ → Expression) (r : Bool) (k : r ≡ is_sent m t c) where
-  pub sent_over : {d e : List ℕ} {at p : ℕ} → r ≡ true → WroteUpdates d at (send_update c (connection_at m c) from ∷ []) e p → WroteUpdates d at (where_sent m immediate t from c) e p
+  pub sent_over : {u v : Writer} → r ≡ true → WritesUpdates u (send_update c (connection_at m c) from ∷ []) v → WritesUpdates u (where_sent m immediate t from c) v
   sent_over s w = rw (← k, s) w
 
-  pub sent_not : {d : List ℕ} {at : ℕ} → r ≡ false → Counted at → WroteUpdates d at (where_sent m immediate t from c) d at
-  sent_not s h = rw (← k, s) (wrote_none joins_updates h)
+  pub sent_not : {u : Writer} → r ≡ false → WritesUpdates u (where_sent m immediate t from c) u
+  sent_not s = rw (← k, s) (writes_none joins_updates)
 
-pub sends_end : {d e : List ℕ} {at p : ℕ} (m : Timing) (t : ℕ) (from : ℕ → Expression) (c n : ℕ) → n ≡ m.connections → c ≤ n → n ≤ c →
-    WroteUpdates d at (join_below c (where_sent m immediate t from)) e p → WroteUpdates d at (send_updates m immediate t from) e p
-sends_end m t from c n q h l w = loop_ends joins_updates (where_sent m immediate t from) m.connections c (rw (← q) h) (rw (← q) l) w
+pub sends_end : {u v : Writer} (m : Timing) (t : ℕ) (from : ℕ → Expression) (c n : ℕ) → n ≡ m.connections → c ≤ n → n ≤ c →
+    WritesUpdates u (join_below c (where_sent m immediate t from)) v → WritesUpdates u (send_updates m immediate t from) v
+sends_end m t from c n q h l w = writes_end joins_updates (where_sent m immediate t from) m.connections c (rw (← q) h) (rw (← q) l) w

@@ -1,2 +1,4 @@
 pub mod Assigned
+pub mod AssignedOverLists
 pub mod Complete
+pub mod CompleteOverLists

@@ -5,84 +5,72 @@ ghost use Rattle.model_format.specs.WellFormed.{WellFormed};
 ghost use Rattle.model_words.specs.Words.{behavior_in, model_in};
 ghost use Rattle.translation.specs.Parts.{plain, negated_op};
 ghost use Rattle.translation.specs.Rules.{atom_with, guard_clauses, negated_guard, shut_clause, per_transition, earlier_clause, otherwise_clause};
-ghost use Rattle.table_writer.specs.WroteRules.{WroteAtoms, WroteClauses};
+ghost use Rattle.table_writer.specs.Writes.{WritesAtoms, WritesClauses};
 ghost use Rattle.translate_guards.specs.Named.{NamedAtom};
 ghost use Rattle.translate_guards.specs.Guards.{starts_from, earlier_at, otherwise_at};
 
-use crate::parts::{negated_op, operand_of, put_compare, variable_of};
+use crate::parts::{negated_op, operand_of, variable_of};
 use model_format::{Atom, Transition};
 use model_words::{atom_at, transition_at};
 use table_format::{DIFFERS, behavior_var};
-use table_writer::{put_clause, put_compared};
+use table_writer::Writer;
 
 // An atom with the comparison given.
-fn put_with(output: &mut [u8], at: usize, op: u8, atom: Atom) -> usize
+fn put_with(out: &mut Writer<'_>, op: u8, atom: Atom)
     requires { NamedAtom atom }
-    ensures { WroteAtoms output.old at (plain (atom_with (λ k. op) atom)) output.new result }
+    ensures { WritesAtoms out.old (plain (atom_with (λ k. op) atom)) out.new }
 {
-    let operand = atom.right;
     let left = variable_of(atom.tag, atom.number);
-    let right = operand_of(operand);
-    put_compare(output, at, op, left, right)
+    let right = operand_of(atom.right);
+    out.compare(op, left, right);
 }
 
-fn put_plain(output: &mut [u8], at: usize, atom: Atom) -> usize
+fn put_plain(out: &mut Writer<'_>, atom: Atom)
     requires { NamedAtom atom }
-    ensures { WroteClauses output.old at (plain (atom_with (λ op. op) atom) ∷ []) output.new result }
+    ensures { WritesClauses out.old (plain (atom_with (λ op. op) atom) ∷ []) out.new }
 {
-    let op = atom.op;
-    let at = put_clause(output, at);
-    put_with(output, at, op, atom)
+    out.clause();
+    put_with(out, atom.op, atom);
 }
 
-fn put_opposite(output: &mut [u8], at: usize, atom: Atom) -> usize
+fn put_opposite(out: &mut Writer<'_>, atom: Atom)
     requires { NamedAtom atom }
-    ensures { WroteAtoms output.old at (plain (atom_with negated_op atom)) output.new result }
+    ensures { WritesAtoms out.old (plain (atom_with negated_op atom)) out.new }
 {
     let opposite = negated_op(atom.op);
-    put_with(output, at, opposite, atom)
+    put_with(out, opposite, atom);
 }
 
 // The guard of a transition holds.
-pub fn put_guard(output: &mut [u8], at: usize, model: &[u32], transition: usize) -> usize
+pub fn put_guard(out: &mut Writer<'_>, model: &[u32], transition: usize)
     requires { WellFormed (model_in model.now) × (transition < (behavior_in model.now).transitions) }
-    ensures { WroteClauses output.old at (guard_clauses (behavior_in model.now) transition) output.new result }
+    ensures { WritesClauses out.old (guard_clauses (behavior_in model.now) transition) out.new }
 {
     let own = transition_at(model, transition);
-    let atoms = own.atoms as usize;
-    let mut at = at;
-    let mut number: usize = 0;
-    while number < atoms {
+    for number in 0..own.atoms as usize {
         let atom = atom_at(model, transition, number);
-        at = put_plain(output, at, atom);
-        number += 1;
+        put_plain(out, atom);
     }
-    at
 }
 
-fn put_negated(output: &mut [u8], at: usize, model: &[u32], transition: usize) -> usize
+fn put_negated(out: &mut Writer<'_>, model: &[u32], transition: usize)
     requires { WellFormed (model_in model.now) × (transition < (behavior_in model.now).transitions) }
-    ensures { WroteAtoms output.old at (negated_guard (behavior_in model.now) transition) output.new result }
+    ensures { WritesAtoms out.old (negated_guard (behavior_in model.now) transition) out.new }
 {
     let own = transition_at(model, transition);
-    let atoms = own.atoms as usize;
-    let mut at = at;
-    let mut number: usize = 0;
-    while number < atoms {
+    for number in 0..own.atoms as usize {
         let atom = atom_at(model, transition, number);
-        at = put_opposite(output, at, atom);
-        number += 1;
+        put_opposite(out, atom);
     }
-    at
 }
 
 // The clause that says that a guard fails. A guard without atoms never does: its clause is empty.
-fn put_failing(output: &mut [u8], at: usize, model: &[u32], transition: usize) -> usize
+fn put_failing(out: &mut Writer<'_>, model: &[u32], transition: usize)
     requires { WellFormed (model_in model.now) × (transition < (behavior_in model.now).transitions) }
-    ensures { WroteClauses output.old at (negated_guard (behavior_in model.now) transition ∷ []) output.new result }
+    ensures { WritesClauses out.old (negated_guard (behavior_in model.now) transition ∷ []) out.new }
 {
-    let at = put_clause(output, at);
-    put_negated(output, at, model, transition)
+    out.clause();
+    put_negated(out, model, transition);
 }
 
 // A transition of the thread, from the behaviour state given.
@@ -93,91 +81,53 @@ fn starts_from(transition: Transition, thread: u8, from: u8) -> bool
 }
 
 // The guard of an earlier transition fails, where that is such a transition.
-fn put_not_open(
-    output: &mut [u8],
-    at: usize,
-    model: &[u32],
-    thread: u8,
-    from: u8,
-    earlier: usize,
-) -> usize
+fn put_not_open(out: &mut Writer<'_>, model: &[u32], thread: u8, from: u8, earlier: usize)
     requires { WellFormed (model_in model.now) × (earlier < (behavior_in model.now).transitions) }
-    ensures { WroteClauses output.old at (earlier_at (behavior_in model.now) thread from earlier) output.new result }
+    ensures { WritesClauses out.old (earlier_at (behavior_in model.now) thread from earlier) out.new }
 {
     let own = transition_at(model, earlier);
     if starts_from(own, thread, from) {
-        return put_failing(output, at, model, earlier);
+        put_failing(out, model, earlier);
     }
-    at
 }
 
 // The guard of each such transition before this one fails.
-pub fn put_earlier(
-    output: &mut [u8],
-    at: usize,
-    model: &[u32],
-    thread: u8,
-    transition: usize,
-) -> usize
+pub fn put_earlier(out: &mut Writer<'_>, model: &[u32], thread: u8, transition: usize)
     requires { WellFormed (model_in model.now) × (transition < (behavior_in model.now).transitions) }
-    ensures { WroteClauses output.old at (per_transition (behavior_in model.now) thread transition (earlier_clause (behavior_in model.now) transition)) output.new result }
+    ensures { WritesClauses out.old (per_transition (behavior_in model.now) thread transition (earlier_clause (behavior_in model.now) transition)) out.new }
 {
     let own = transition_at(model, transition);
-    let from = own.from;
-    let mut at = at;
-    let mut earlier: usize = 0;
-    while earlier < transition {
-        at = put_not_open(output, at, model, thread, from, earlier);
-        earlier += 1;
+    for earlier in 0..transition {
+        put_not_open(out, model, thread, own.from, earlier);
     }
-    at
 }
 
 // The thread is not where the transition leaves, or the guard fails.
-fn put_shut(
-    output: &mut [u8],
-    at: usize,
-    model: &[u32],
-    thread: u8,
-    from: u8,
-    transition: usize,
-) -> usize
+fn put_shut(out: &mut Writer<'_>, model: &[u32], thread: u8, from: u8, transition: usize)
     requires { WellFormed (model_in model.now) × (transition < (behavior_in model.now).transitions) }
-    ensures { WroteClauses output.old at (shut_clause thread from (negated_guard (behavior_in model.now) transition) ∷ []) output.new result }
+    ensures { WritesClauses out.old (shut_clause thread from (negated_guard (behavior_in model.now) transition) ∷ []) out.new }
 {
-    let at = put_clause(output, at);
-    let at = put_compared(output, at, DIFFERS, behavior_var(thread), from as u32);
-    put_negated(output, at, model, transition)
+    out.clause();
+    out.compared(DIFFERS, behavior_var(thread), from as u32);
+    put_negated(out, model, transition);
 }
 
 // That, where the transition is one of the thread.
-fn put_not_taken(
-    output: &mut [u8],
-    at: usize,
-    model: &[u32],
-    thread: u8,
-    transition: usize,
-) -> usize
+fn put_not_taken(out: &mut Writer<'_>, model: &[u32], thread: u8, transition: usize)
     requires { WellFormed (model_in model.now) × (transition < (behavior_in model.now).transitions) }
-    ensures { WroteClauses output.old at (otherwise_at (behavior_in model.now) thread transition) output.new result }
+    ensures { WritesClauses out.old (otherwise_at (behavior_in model.now) thread transition) out.new }
 {
     let own = transition_at(model, transition);
     if own.thread == thread {
-        return put_shut(output, at, model, thread, own.from, transition);
+        put_shut(out, model, thread, own.from, transition);
     }
-    at
 }
 
-pub fn put_otherwise(output: &mut [u8], at: usize, model: &[u32], thread: u8) -> usize
+pub fn put_otherwise(out: &mut Writer<'_>, model: &[u32], thread: u8)
     requires { WellFormed (model_in model.now) }
-    ensures { WroteClauses output.old at (per_transition (behavior_in model.now) thread (behavior_in model.now).transitions (otherwise_clause (behavior_in model.now) thread)) output.new result }
+    ensures { WritesClauses out.old (per_transition (behavior_in model.now) thread (behavior_in model.now).transitions (otherwise_clause (behavior_in model.now) thread)) out.new }
 {
-    let transitions = model_words::transitions(model);
-    let mut at = at;
-    let mut transition: usize = 0;
-    while transition < transitions {
-        at = put_not_taken(output, at, model, thread, transition);
-        transition += 1;
+    for transition in 0..model_words::transitions(model) {
+        put_not_taken(out, model, thread, transition);
     }
-    at
 }

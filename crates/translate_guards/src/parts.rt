@@ -1,16 +1,15 @@
 // What a model's atoms and assignments name, as variables and operands of the table.
 
-ghost use Rattle.std.specs.Prelude.{◌≡◌, [], ◌∷◌, ◌<◌};
+ghost use Rattle.std.specs.Prelude.{◌≡◌, ◌<◌};
 ghost use Rattle.translation.specs.Parts.{negated_op};
 ghost use Rattle.translation.specs.Rules.{variable_of, operand_of};
-ghost use Rattle.table_writer.specs.WroteRules.{WroteAtoms};
 ghost use Rattle.translate_guards.specs.Named.{item_room, NamedOperand};
 
 use model_format::{INPUT_TAG, LOCAL_TAG};
 use numbers::bits;
 use records::Operand;
 use table_format::{
-    Atom, CONSTANT_TAG, DIFFERS, EQUALS, IS_ABOVE, IS_AT_LEAST, IS_AT_MOST, IS_BELOW, input_var,
+    CONSTANT_TAG, DIFFERS, EQUALS, IS_ABOVE, IS_AT_LEAST, IS_AT_MOST, IS_BELOW, input_var,
     local_var, output_var,
 };
 use table_writer::variable;
@@ -38,8 +37,7 @@ pub fn operand_of(operand: Operand) -> Operand
     if tag == CONSTANT_TAG {
         return operand;
     }
-    let value = operand.value;
-    let number = bits(value);
+    let number = bits(operand.value);
     let named = variable_of(tag, number as u16);
     variable(named)
 }
@@ -55,16 +53,4 @@ pub fn negated_op(op: u8) -> u8
         IS_ABOVE => IS_AT_MOST,
         _ => IS_ABOVE,
     }
-}
-
-// An atom of a variable and any operand.
-pub fn put_compare(output: &mut [u8], at: usize, op: u8, left: u16, right: Operand) -> usize
-    ensures { WroteAtoms output.old at (record { op = op; variable = left; right = right } ∷ []) output.new result }
-{
-    let atom = Atom {
-        op: op,
-        variable: left,
-        right: right,
-    };
-    table_writer::put_atom(output, at, atom)
 }

@@ -35,11 +35,7 @@ fn in_block(base: u16, count: usize, variable: u16) -> bool
 fn item_of(base: u16, variable: u16) -> usize
     ensures { result ≡ variable - base }
 {
-    if variable < base {
-        0
-    } else {
-        (variable - base) as usize
-    }
+    usize::from(variable.saturating_sub(base))
 }
 
 fn count(number: u32) -> Value
@@ -58,15 +54,13 @@ fn mark(holds: bool) -> Value
 fn of_clock(clock: Clock, variable: u16) -> u32
     ensures { result ≡ clock_number clock variable }
 {
-    let now = clock.now;
-    let entered = clock.entered;
     match variable {
-        NOW => now.0,
-        MODE => clock.mode as u32,
-        PHASE => clock.phase as u32,
-        PENDING => clock.pending as u32,
-        ENTERED => entered.0,
-        _ => clock.cpu as u32,
+        NOW => clock.now.0,
+        MODE => u32::from(clock.mode),
+        PHASE => u32::from(clock.phase),
+        PENDING => u32::from(clock.pending),
+        ENTERED => clock.entered.0,
+        _ => u32::from(clock.cpu),
     }
 }
 
@@ -124,8 +118,7 @@ pub fn shown(model: &[u32], state: &[u32], variable: u16) -> Value
     ensures { bits_of result.0 ≡ bits_of (stands_for (timing_in model.now) (state_in state.now) variable).0 }
 {
     if variable < CLOCK_VARIABLES {
-        let clock = clock_of(state);
-        return count(of_clock(clock, variable));
+        return count(of_clock(clock_of(state), variable));
     }
     of_thread(model, state, variable)
 }

@@ -18,9 +18,10 @@ use Rattle.table_format.specs.Table.{initial_to}
 use Rattle.translation.specs.Shown.{stands_for}
 use Rattle.translation.specs.Translate.{initial_of}
 use Rattle.table_writer.specs.Written.{records_one}
-use Rattle.table_writer.specs.Wrote.{Wrote}
-use Rattle.table_writer.specs.Lists.{Counted, joins_initial, wrote_none}
-use Rattle.table_writer.specs.WroteRules.{WroteInitial}
+use Rattle.table_writer.specs.Lists.{joins_initial}
+use Rattle.table_writer.specs.Writes.{Writes, WritesInitial}
+use Rattle.table_writer.specs.WritesLaws.{writes_none}
+use Rattle.table_writer.specs.declared.encoding.Writer.{Writer}
 use Rattle.translate_shown.specs.Standing.{is_shown}
 use Rattle.translate_shown.specs.Blocks.{SameBits, absent_on}
 
@@ -44,19 +45,19 @@ join_skip f n (suc k) h z = go (λ l. join_skip f n k l (λ i a b. z i a (omega 
     go r (yes l) = let q : n ≡ suc k = omega arith in rw q
     go r (no l) = join_suc k f ∙ rw (z k (omega arith) (omega arith), append-nil (join_below k f)) (r (omega arith))
 
-pub starts_skip : {d e : List ℕ} {at p : ℕ} (m : Timing) (s : State) (j : ℕ) (b : Bool) → b ≡ is_shown m j → b ≡ false → WroteInitial d at (starts_in m s j) e p →
-    WroteInitial d at (starts_in m s (j / 16 * 16 + 16)) e p
+pub starts_skip : {u v : Writer} (m : Timing) (s : State) (j : ℕ) (b : Bool) → b ≡ is_shown m j → b ≡ false → WritesInitial u (starts_in m s j) v →
+    WritesInitial u (starts_in m s (j / 16 * 16 + 16)) v
 starts_skip m s j b g f w =
     rw (join_skip (λ i. start i (stands_for m s i)) j (j / 16 * 16 + 16) (omega arith) (λ i h k. start_nothing i (stands_for m s i) (absent_on j i h k m s (sym g ∙ f)))) w
 
 -- ---- z says whether the value is 0
-module _ {d : List ℕ} {at : ℕ} (j : ℕ) (v : Value) (z : Bool) (h : z ≡ same_value v (natural 0)) where
-  pub start_left : z ≡ true → Counted at → WroteInitial d at (start j v) d at
-  start_left t k = rw (← h, t) (wrote_none joins_initial k)
+module _ {u : Writer} (j : ℕ) (v : Value) (z : Bool) (h : z ≡ same_value v (natural 0)) where
+  pub start_left : z ≡ true → WritesInitial u (start j v) u
+  start_left t = rw (← h, t) (writes_none joins_initial)
 
-  pub start_wrote : {e : List ℕ} {p : ℕ} → z ≡ false → Wrote d at (record_to (Initial (record { variable = j; value = v })) []) e p → WroteInitial d at (start j v) e p
+  pub start_wrote : {w : Writer} → z ≡ false → Writes u (record_to (Initial (record { variable = j; value = v })) []) w → WritesInitial u (start j v) w
   unfolding initial_to
-  start_wrote t w = rw (← h, t) (records_one (Initial (record { variable = j; value = v })) w)
+  start_wrote t x = rw (← h, t) (record { wrote = records_one (Initial (record { variable = j; value = v })) x.wrote; lender = x.lender })
 
 -- ---- a value is written by its bits
 same_bytes : (b : Bool) (j : ℕ) (v w : Value) → SameBits v w →
@@ -65,11 +66,11 @@ unfolding bytes_of initial_to record_to
 same_bytes true j v w s = rw s.bits
 same_bytes false j v w s = refl
 
-pub start_same : {d e : List ℕ} {at p : ℕ} (j : ℕ) (v w : Value) → SameBits v w → WroteInitial d at (start j v) e p → WroteInitial d at (start j w) e p
+pub start_same : {u z : Writer} (j : ℕ) (v w : Value) → SameBits v w → WritesInitial u (start j v) z → WritesInitial u (start j w) z
 start_same j v w s x = rw (← s.bits, ← same_bytes (not (same_value v (natural 0))) j v w s) x
 
 -- ---- all of them, in the state that a model starts in
-pub initial_wrote : {d e : List ℕ} {at p : ℕ} (m : Model) (s : State) → s ≡ start_state m.timing → WroteInitial d at (starts_in m.timing s variables) e p →
-    WroteInitial d at (initial_of m) e p
+pub initial_wrote : {u v : Writer} (m : Model) (s : State) → s ≡ start_state m.timing → WritesInitial u (starts_in m.timing s variables) v →
+    WritesInitial u (initial_of m) v
 unfolding initial_of
 initial_wrote m s e w = rw (← e) w

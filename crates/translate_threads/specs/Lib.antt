@@ -1,2 +1,4 @@
 pub mod Bodies
+pub mod BodiesOverLists
 pub mod Deactivates
+pub mod DeactivatesOverLists

@@ -11,7 +11,7 @@ ghost use Rattle.model_semantics.specs.Tests.{runs};
 ghost use Rattle.model_words.specs.Words.{timing_in};
 ghost use Rattle.translation.specs.Parts.{stamped};
 ghost use Rattle.translation.specs.Rules as rules;
-ghost use Rattle.table_writer.specs.WroteRules.{WroteClauses, WroteUpdates, WroteRules};
+ghost use Rattle.table_writer.specs.Writes.{WritesClauses, WritesUpdates, WritesRules};
 
 use model_format::{DELAYED, is_critical};
 use model_semantics::{
@@ -21,198 +21,176 @@ use model_words::thread_at;
 use parts::{put_active_is, put_due_is_now, put_job_ends, put_missed, put_state, put_state_is};
 use records::{ACTIVATE, DEACTIVATE, DEADLINE, DISPATCH, MISS, START};
 use table_format::{CPU, NOW, dispatch_var, due_var, end_var};
-use table_writer::{
-    put_chosen, put_copy, put_different, put_equals, put_multiple, put_rule, put_set, put_sum,
-};
+use table_writer::Writer;
 use translate_connections::{put_dispatch_ports, put_sends, put_start_ports};
 use translate_waits::{put_delayed_waits, put_immediate_waits};
 
 // ---- ACTIVATE and DEACTIVATE
-pub fn put_activate(output: &mut [u8], at: usize, model: &[u32], thread: u8) -> usize
-    ensures { WroteRules output.old at (stamped activate_kind thread (rules.activate_rules (timing_in model.now) thread)) output.new result }
+pub fn put_activate(out: &mut Writer<'_>, model: &[u32], thread: u8)
+    ensures { WritesRules out.old (stamped activate_kind thread (rules.activate_rules (timing_in model.now) thread)) out.new }
 {
-    let at = put_rule(output, at, ACTIVATE, thread, 0, 0);
-    let at = put_active_is(output, at, thread, 1);
-    let at = put_state_is(output, at, thread, WAITING_MODE);
-    put_state(output, at, thread, WAITING_DISPATCH)
+    out.rule(ACTIVATE, thread, 0, 0);
+    put_active_is(out, thread, 1);
+    put_state_is(out, thread, WAITING_MODE);
+    put_state(out, thread, WAITING_DISPATCH);
 }
 
 // Only a job that runs has the processor to leave.
-fn put_left(output: &mut [u8], at: usize, model: &[u32], thread: u8, code: u8) -> usize
-    ensures { WroteUpdates output.old at (cond (runs code) (rules.job_ends (timing_in model.now) thread) []) output.new result }
+fn put_left(out: &mut Writer<'_>, model: &[u32], thread: u8, code: u8)
+    ensures { WritesUpdates out.old (cond (runs code) (rules.job_ends (timing_in model.now) thread) []) out.new }
 {
     if code == EXECUTION {
-        put_job_ends(output, at, model, thread)
-    } else {
-        at
+        put_job_ends(out, model, thread);
     }
 }
 
 // The rule for the code that the thread leaves with.
-fn put_deactivate_rule(output: &mut [u8], at: usize, model: &[u32], thread: u8, code: u8) -> usize
-    ensures { WroteRules output.old at (stamped deactivate_kind thread (rules.deactivate_rule (timing_in model.now) thread code ∷ [])) output.new result }
+fn put_deactivate_rule(out: &mut Writer<'_>, model: &[u32], thread: u8, code: u8)
+    ensures { WritesRules out.old (stamped deactivate_kind thread (rules.deactivate_rule (timing_in model.now) thread code ∷ [])) out.new }
 {
-    let at = put_rule(output, at, DEACTIVATE, thread, 0, 0);
-    let at = put_active_is(output, at, thread, 0);
-    let at = put_state_is(output, at, thread, code);
-    let at = put_state(output, at, thread, WAITING_MODE);
-    put_left(output, at, model, thread, code)
+    out.rule(DEACTIVATE, thread, 0, 0);
+    put_active_is(out, thread, 0);
+    put_state_is(out, thread, code);
+    put_state(out, thread, WAITING_MODE);
+    put_left(out, model, thread, code);
 }
 
 // A job in hand is stopped, however far it has come.
-fn put_stops(output: &mut [u8], at: usize, model: &[u32], thread: u8) -> usize
-    ensures { WroteRules output.old at (stamped deactivate_kind thread (rules.stop_rules (timing_in model.now) thread)) output.new result }
+fn put_stops(out: &mut Writer<'_>, model: &[u32], thread: u8)
+    ensures { WritesRules out.old (stamped deactivate_kind thread (rules.stop_rules (timing_in model.now) thread)) out.new }
 {
-    let at = put_deactivate_rule(output, at, model, thread, WAITING_EXECUTION);
-    let at = put_deactivate_rule(output, at, model, thread, EXECUTION);
-    put_deactivate_rule(output, at, model, thread, COMPLETED)
+    put_deactivate_rule(out, model, thread, WAITING_EXECUTION);
+    put_deactivate_rule(out, model, thread, EXECUTION);
+    put_deactivate_rule(out, model, thread, COMPLETED);
 }
 
 // A critical thread that leaves goes on to its deadline; any other is stopped.
-pub fn put_deactivate(output: &mut [u8], at: usize, model: &[u32], thread: u8) -> usize
-    ensures { WroteRules output.old at (stamped deactivate_kind thread (rules.deactivate_rules (timing_in model.now) thread)) output.new result }
+pub fn put_deactivate(out: &mut Writer<'_>, model: &[u32], thread: u8)
+    ensures { WritesRules out.old (stamped deactivate_kind thread (rules.deactivate_rules (timing_in model.now) thread)) out.new }
 {
-    let own = thread_at(model, thread as usize);
-    let critical = is_critical(own);
-    let at = put_deactivate_rule(output, at, model, thread, WAITING_DISPATCH);
-    if critical {
-        at
-    } else {
-        put_stops(output, at, model, thread)
+    put_deactivate_rule(out, model, thread, WAITING_DISPATCH);
+    if !is_critical(thread_at(model, thread as usize)) {
+        put_stops(out, model, thread);
     }
 }
 
 // ---- DISPATCH
-fn put_dispatch_clauses(output: &mut [u8], at: usize, model: &[u32], thread: u8) -> usize
+fn put_dispatch_clauses(out: &mut Writer<'_>, model: &[u32], thread: u8)
     requires { GoodTiming (timing_in model.now) }
-    ensures { WroteClauses output.old at (rules.dispatch_clauses (timing_in model.now) thread) output.new result }
+    ensures { WritesClauses out.old (rules.dispatch_clauses (timing_in model.now) thread) out.new }
 {
     let own = thread_at(model, thread as usize);
-    let at = put_state_is(output, at, thread, WAITING_DISPATCH);
-    let at = put_active_is(output, at, thread, 1);
-    let at = put_multiple(output, at, NOW, own.period.0);
-    put_delayed_waits(output, at, model, thread)
+    put_state_is(out, thread, WAITING_DISPATCH);
+    put_active_is(out, thread, 1);
+    out.multiple(NOW, own.period.0);
+    put_delayed_waits(out, model, thread);
 }
 
-fn put_dispatch_updates(output: &mut [u8], at: usize, model: &[u32], thread: u8) -> usize
+fn put_dispatch_updates(out: &mut Writer<'_>, model: &[u32], thread: u8)
     requires { GoodTiming (timing_in model.now) }
-    ensures { WroteUpdates output.old at (rules.dispatch_updates (timing_in model.now) thread) output.new result }
+    ensures { WritesUpdates out.old (rules.dispatch_updates (timing_in model.now) thread) out.new }
 {
     let own = thread_at(model, thread as usize);
     let dispatch = dispatch_var(thread);
     let due = due_var(thread);
-    let at = put_state(output, at, thread, WAITING_EXECUTION);
-    let at = put_copy(output, at, dispatch, NOW);
-    let at = put_sum(output, at, due, NOW, own.deadline.0);
-    put_dispatch_ports(output, at, model, thread)
+    put_state(out, thread, WAITING_EXECUTION);
+    out.copy(dispatch, NOW);
+    out.sum(due, NOW, own.deadline.0);
+    put_dispatch_ports(out, model, thread);
 }
 
-pub fn put_dispatch(output: &mut [u8], at: usize, model: &[u32], thread: u8) -> usize
+pub fn put_dispatch(out: &mut Writer<'_>, model: &[u32], thread: u8)
     requires { GoodTiming (timing_in model.now) }
-    ensures { WroteRules output.old at (stamped dispatch_kind thread (rules.dispatch_rules (timing_in model.now) thread)) output.new result }
+    ensures { WritesRules out.old (stamped dispatch_kind thread (rules.dispatch_rules (timing_in model.now) thread)) out.new }
 {
-    let at = put_rule(output, at, DISPATCH, thread, 0, 0);
-    let at = put_dispatch_clauses(output, at, model, thread);
-    put_dispatch_updates(output, at, model, thread)
+    out.rule(DISPATCH, thread, 0, 0);
+    put_dispatch_clauses(out, model, thread);
+    put_dispatch_updates(out, model, thread);
 }
 
 // ---- START
-fn put_start_clauses(output: &mut [u8], at: usize, model: &[u32], thread: u8) -> usize
+fn put_start_clauses(out: &mut Writer<'_>, model: &[u32], thread: u8)
     requires { GoodTiming (timing_in model.now) }
-    ensures { WroteClauses output.old at (rules.start_clauses (timing_in model.now) thread) output.new result }
+    ensures { WritesClauses out.old (rules.start_clauses (timing_in model.now) thread) out.new }
 {
     let due = due_var(thread);
-    let at = put_state_is(output, at, thread, WAITING_EXECUTION);
-    let at = put_equals(output, at, CPU, NONE as u32);
-    let at = put_different(output, at, due, NOW);
-    put_immediate_waits(output, at, model, thread)
+    put_state_is(out, thread, WAITING_EXECUTION);
+    out.equals(CPU, NONE as u32);
+    out.different(due, NOW);
+    put_immediate_waits(out, model, thread);
 }
 
-fn put_start_updates(output: &mut [u8], at: usize, model: &[u32], thread: u8) -> usize
+fn put_start_updates(out: &mut Writer<'_>, model: &[u32], thread: u8)
     requires { GoodTiming (timing_in model.now) }
-    ensures { WroteUpdates output.old at (rules.start_updates (timing_in model.now) thread) output.new result }
+    ensures { WritesUpdates out.old (rules.start_updates (timing_in model.now) thread) out.new }
 {
     let end = end_var(thread);
-    let at = put_state(output, at, thread, EXECUTION);
-    let at = put_set(output, at, CPU, thread as u32);
-    let at = put_chosen(output, at, end, NOW);
-    put_start_ports(output, at, model, thread)
+    put_state(out, thread, EXECUTION);
+    out.set(CPU, thread as u32);
+    out.chosen(end, NOW);
+    put_start_ports(out, model, thread);
 }
 
-pub fn put_start(output: &mut [u8], at: usize, model: &[u32], thread: u8) -> usize
+pub fn put_start(out: &mut Writer<'_>, model: &[u32], thread: u8)
     requires { GoodTiming (timing_in model.now) }
-    ensures { WroteRules output.old at (stamped start_kind thread (rules.start_rules (timing_in model.now) thread)) output.new result }
+    ensures { WritesRules out.old (stamped start_kind thread (rules.start_rules (timing_in model.now) thread)) out.new }
 {
     let own = thread_at(model, thread as usize);
-    let at = put_rule(output, at, START, thread, own.bcet.0, own.wcet.0);
-    let at = put_start_clauses(output, at, model, thread);
-    put_start_updates(output, at, model, thread)
+    out.rule(START, thread, own.bcet.0, own.wcet.0);
+    put_start_clauses(out, model, thread);
+    put_start_updates(out, model, thread);
 }
 
 // ---- DEADLINE
-fn put_deadline_rule(
-    output: &mut [u8],
-    at: usize,
-    model: &[u32],
-    thread: u8,
-    active: u8,
-    code: u8,
-) -> usize
+fn put_deadline_rule(out: &mut Writer<'_>, model: &[u32], thread: u8, active: u8, code: u8)
     requires { GoodTiming (timing_in model.now) }
-    ensures { WroteRules output.old at (stamped deadline_kind thread (rules.deadline_rule (timing_in model.now) thread active code ∷ [])) output.new result }
+    ensures { WritesRules out.old (stamped deadline_kind thread (rules.deadline_rule (timing_in model.now) thread active code ∷ [])) out.new }
 {
-    let at = put_rule(output, at, DEADLINE, thread, 0, 0);
-    let at = put_state_is(output, at, thread, COMPLETED);
-    let at = put_due_is_now(output, at, thread);
-    let at = put_active_is(output, at, thread, active);
-    let at = put_state(output, at, thread, code);
-    put_sends(output, at, model, DELAYED, thread)
+    out.rule(DEADLINE, thread, 0, 0);
+    put_state_is(out, thread, COMPLETED);
+    put_due_is_now(out, thread);
+    put_active_is(out, thread, active);
+    put_state(out, thread, code);
+    put_sends(out, model, DELAYED, thread);
 }
 
-pub fn put_deadline(output: &mut [u8], at: usize, model: &[u32], thread: u8) -> usize
+pub fn put_deadline(out: &mut Writer<'_>, model: &[u32], thread: u8)
     requires { GoodTiming (timing_in model.now) }
-    ensures { WroteRules output.old at (stamped deadline_kind thread (rules.deadline_rules (timing_in model.now) thread)) output.new result }
+    ensures { WritesRules out.old (stamped deadline_kind thread (rules.deadline_rules (timing_in model.now) thread)) out.new }
 {
-    let at = put_deadline_rule(output, at, model, thread, 1, WAITING_DISPATCH);
-    put_deadline_rule(output, at, model, thread, 0, WAITING_MODE)
+    put_deadline_rule(out, model, thread, 1, WAITING_DISPATCH);
+    put_deadline_rule(out, model, thread, 0, WAITING_MODE);
 }
 
 // ---- MISS
-fn put_miss_waiting(output: &mut [u8], at: usize, thread: u8, active: u8, code: u8) -> usize
-    ensures { WroteRules output.old at (stamped miss_kind thread (rules.miss_waiting thread active code ∷ [])) output.new result }
+fn put_miss_waiting(out: &mut Writer<'_>, thread: u8, active: u8, code: u8)
+    ensures { WritesRules out.old (stamped miss_kind thread (rules.miss_waiting thread active code ∷ [])) out.new }
 {
-    let at = put_rule(output, at, MISS, thread, 0, 0);
-    let at = put_state_is(output, at, thread, WAITING_EXECUTION);
-    let at = put_active_is(output, at, thread, active);
-    let at = put_due_is_now(output, at, thread);
-    put_missed(output, at, thread, code)
+    out.rule(MISS, thread, 0, 0);
+    put_state_is(out, thread, WAITING_EXECUTION);
+    put_active_is(out, thread, active);
+    put_due_is_now(out, thread);
+    put_missed(out, thread, code);
 }
 
-fn put_miss_running(
-    output: &mut [u8],
-    at: usize,
-    model: &[u32],
-    thread: u8,
-    active: u8,
-    code: u8,
-) -> usize
-    ensures { WroteRules output.old at (stamped miss_kind thread (rules.miss_running (timing_in model.now) thread active code ∷ [])) output.new result }
+fn put_miss_running(out: &mut Writer<'_>, model: &[u32], thread: u8, active: u8, code: u8)
+    ensures { WritesRules out.old (stamped miss_kind thread (rules.miss_running (timing_in model.now) thread active code ∷ [])) out.new }
 {
     let end = end_var(thread);
-    let at = put_rule(output, at, MISS, thread, 0, 0);
-    let at = put_state_is(output, at, thread, EXECUTION);
-    let at = put_active_is(output, at, thread, active);
-    let at = put_due_is_now(output, at, thread);
-    let at = put_different(output, at, end, NOW);
-    let at = put_missed(output, at, thread, code);
-    put_job_ends(output, at, model, thread)
+    out.rule(MISS, thread, 0, 0);
+    put_state_is(out, thread, EXECUTION);
+    put_active_is(out, thread, active);
+    put_due_is_now(out, thread);
+    out.different(end, NOW);
+    put_missed(out, thread, code);
+    put_job_ends(out, model, thread);
 }
 
-pub fn put_miss(output: &mut [u8], at: usize, model: &[u32], thread: u8) -> usize
-    ensures { WroteRules output.old at (stamped miss_kind thread (rules.miss_rules (timing_in model.now) thread)) output.new result }
+pub fn put_miss(out: &mut Writer<'_>, model: &[u32], thread: u8)
+    ensures { WritesRules out.old (stamped miss_kind thread (rules.miss_rules (timing_in model.now) thread)) out.new }
 {
-    let at = put_miss_waiting(output, at, thread, 1, WAITING_DISPATCH);
-    let at = put_miss_waiting(output, at, thread, 0, WAITING_MODE);
-    let at = put_miss_running(output, at, model, thread, 1, WAITING_DISPATCH);
-    put_miss_running(output, at, model, thread, 0, WAITING_MODE)
+    put_miss_waiting(out, thread, 1, WAITING_DISPATCH);
+    put_miss_waiting(out, thread, 0, WAITING_MODE);
+    put_miss_running(out, model, thread, 1, WAITING_DISPATCH);
+    put_miss_running(out, model, thread, 0, WAITING_MODE);
 }

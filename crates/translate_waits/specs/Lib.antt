@@ -1,2 +1,4 @@
 pub mod Named
+pub mod NamedOverLists
 pub mod Waits
+pub mod WaitsOverLists

@@ -8,7 +8,8 @@ use Rattle.model_format.specs.Model.{thread_at, input_owner, output_owner, conne
 use Rattle.model_format.specs.WellFormed.{GoodTiming}
 use Rattle.table_format.specs.Variables.{connection_room}
 use Rattle.translation.specs.Rules.{delayed_clause, beside_clause, coming_clause, delayed_from, beside_from, coming_from}
-use Rattle.table_writer.specs.WroteRules.{WroteClauses}
+use Rattle.table_writer.specs.Writes.{WritesClauses}
+use Rattle.table_writer.specs.declared.encoding.Writer.{Writer}
 
 -- n is how many the code has counted
 pub few_connections : {m : Timing} (g : GoodTiming m) {n i : ℕ} → n ≡ m.connections → i < n → i < connection_room
@@ -26,10 +27,10 @@ module _ (m : Timing) (c : ℕ) {x : Connection} (e : x ≡ connection_at m c) w
   pub from_is : (kind t : ℕ) {u : ℕ} → u ≡ output_owner m x.source → (eqb x.kind kind && eqb u t) ≡ (is_kind m kind c && eqb (source_thread m c) t)
   from_is kind t o = rw (o, e)
 
-module _ (m : Timing) (c : ℕ) {d : List ℕ} {at : ℕ} where
-  pub delayed_wait_lem : {e : List ℕ} {p u : ℕ} → u ≡ source_thread m c → WroteClauses d at (delayed_from c u ∷ []) e p → WroteClauses d at (delayed_clause m c ∷ []) e p
-  delayed_wait_lem k w = rw k at w
+module _ (m : Timing) (c : ℕ) {w v : Writer} where
+  pub delayed_wait_lem : {u : ℕ} → u ≡ source_thread m c → WritesClauses w (delayed_from c u ∷ []) v → WritesClauses w (delayed_clause m c ∷ []) v
+  delayed_wait_lem k x = rw k at x
 
-  pub immediate_wait_lem : (t : ℕ) {e : List ℕ} {p u : ℕ} (x : Thread) → u ≡ source_thread m c → x ≡ thread_at m u →
-      WroteClauses d at (beside_from t c u ∷ coming_from t c u x.period.0 ∷ []) e p → WroteClauses d at (beside_clause m t c ∷ coming_clause m t c ∷ []) e p
-  immediate_wait_lem t x k y w = rw (y, k) at w
+  pub immediate_wait_lem : (t : ℕ) {u : ℕ} (x : Thread) → u ≡ source_thread m c → x ≡ thread_at m u →
+      WritesClauses w (beside_from t c u ∷ coming_from t c u x.period.0 ∷ []) v → WritesClauses w (beside_clause m t c ∷ coming_clause m t c ∷ []) v
+  immediate_wait_lem t x k y z = rw (y, k) at z

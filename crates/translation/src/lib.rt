@@ -5,6 +5,7 @@
 use records::Refusal;
 
 // What translating gives: the refusal, or how many bytes of the output the table takes.
+// Kept as one struct: the definition `translated` gives it.
 #[derive(Clone, Copy)]
 pub struct Translation {
     pub refusal: Refusal,

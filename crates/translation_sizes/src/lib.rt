@@ -15,6 +15,7 @@ pub struct TableSize {
 }
 
 // What is told of a model: its refusal, or the size of its table.
+// Kept as one struct: the definition `sized` gives it.
 #[derive(Clone, Copy)]
 pub struct Sized {
     pub refusal: Refusal,

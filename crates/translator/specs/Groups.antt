@@ -11,9 +11,10 @@ use Rattle.model_format.specs.declared.Model.{Model}
 use Rattle.model_format.specs.WellFormed.{GoodTiming}
 use Rattle.table_format.specs.Table.{Rule}
 use Rattle.table_format.specs.RuleKinds.{rule_kinds, is_one_of}
-use Rattle.table_writer.specs.Written.{keeps_length}
-use Rattle.table_writer.specs.Lists.{Counted, joins_rules, wrote_none, loop_begins, loop_next}
-use Rattle.table_writer.specs.WroteRules.{WroteRules}
+use Rattle.table_writer.specs.Lists.{joins_rules}
+use Rattle.table_writer.specs.Writes.{WritesRules}
+use Rattle.table_writer.specs.WritesLaws.{writes_none}
+use Rattle.table_writer.specs.declared.encoding.Writer.{Writer}
 use Rattle.translation.specs.Parts.{Body, stamped, rules_of_groups}
 use Rattle.translation.specs.Rules.{complete_rules, switch_kinds, items_of, timing_rules, rules_for, groups_for, rules_of}
 
@@ -47,38 +48,17 @@ module _ (x : Timing) (kind : ℕ) where
       go false = g.threads
 
 -- a kind that has no rules
-pub no_rules : {d : List ℕ} {at : ℕ} (kind i : ℕ) (l : List Body) → l ≡ [] → Counted at → WroteRules d at (stamped kind i l) d at
+pub no_rules : {u : Writer} (kind i : ℕ) (l : List Body) → l ≡ [] → WritesRules u (stamped kind i l) u
 unfolding stamped
-no_rules kind i l e h = rw e (wrote_none joins_rules h)
-
--- ---- a loop over items: the rules x of the first i are written
-pub record Looping (x : ℕ → List Rule) (start : List ℕ) (at : ℕ) (d : List ℕ) (p i : ℕ) : Type 0 where
-  pub size : Counted (length start)
-  pub same : length d ≡ length start
-  pub written : WroteRules start at (join_below i x) d p
-
-module _ (x : ℕ → List Rule) where
-  pub loop_start : {d : List ℕ} {at : ℕ} → Counted (length d) → Counted at → Looping x d at d at 0
-  loop_start h k = record { size = h; same = refl; written = loop_begins joins_rules x k }
-
-  module _ {start d : List ℕ} {at p i : ℕ} (g : Looping x start at d p i) where
-    pub loop_on : {e : List ℕ} {q : ℕ} → WroteRules d p (x i) e q → Looping x start at e q (i + 1)
-    loop_on w = record {
-      size = g.size;
-      same = keeps_length w ∙ g.same;
-      written = loop_next joins_rules i x g.size g.written w;
-    }
-
-    pub loop_over : (n : ℕ) → i ≡ n → WroteRules start at (join_below n x) d p
-    loop_over n e = rw (← e) g.written
+no_rules kind i l e = rw e (writes_none joins_rules)
 
 -- ---- the kinds, one after the other; k is the kind as the code has read it
-module _ {d e : List ℕ} {at p : ℕ} (m : Model) (kind : ℕ) {k : ℕ} (q : k ≡ kind) where
-  pub complete_kind_lem : k ≡ complete_kind → WroteRules d at (completes_of m) e p → WroteRules d at (kind_rules m kind) e p
+module _ {u v : Writer} (m : Model) (kind : ℕ) {k : ℕ} (q : k ≡ kind) where
+  pub complete_kind_lem : k ≡ complete_kind → WritesRules u (completes_of m) v → WritesRules u (kind_rules m kind) v
   unfolding items_of is_one_of rules_for
   complete_kind_lem h w = rw (sym q ∙ h) w
 
-  pub other_kind : (k ≡ complete_kind → ⊥) → WroteRules d at (group_rules m.timing k) e p → WroteRules d at (kind_rules m kind) e p
+  pub other_kind : (k ≡ complete_kind → ⊥) → WritesRules u (group_rules m.timing k) v → WritesRules u (kind_rules m kind) v
   unfolding rules_for
   other_kind h w = rw (← q, ne_eqb k complete_kind h) w
 

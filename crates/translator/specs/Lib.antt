@@ -1,3 +1,5 @@
 pub mod Groups
+pub mod GroupsOverLists
 pub mod Tables
+pub mod TablesOverLists
 pub mod Translates

@@ -15,8 +15,8 @@ use Rattle.table_format.specs.Table.{rules_to, initial_to}
 use Rattle.table_format.specs.BytesLaws.{initial_append}
 use Rattle.table_writer.specs.Written.{records_then}
 use Rattle.table_writer.specs.Wrote.{Wrote}
-use Rattle.table_writer.specs.Lists.{Counted}
-use Rattle.table_writer.specs.WroteRules.{WroteRules, WroteInitial}
+use Rattle.table_writer.specs.Writes.{Writes, WritesRules, WritesInitial}
+use Rattle.table_writer.specs.declared.encoding.Writer.{Writer}
 use Rattle.translation.specs.declared.Translation.{Translation}
 use Rattle.translation.specs.Rules.{rules_of}
 use Rattle.translation.specs.Translate.{initial_of, table_from, table_bytes, translated, output_after}
@@ -25,9 +25,12 @@ use Rattle.enabled_alike.proofs.SameOffers.{offers}
 use Rattle.translator.specs.Translates.{Translates}
 
 -- the start records, then the rules
-pub table_wrote : {d e g : List ℕ} {at p q : ℕ} (m : Model) → Counted (length d) → WroteInitial d at (initial_of m) e p → WroteRules e p (rules_of m) g q → Wrote d at (table_bytes m) g q
+pub table_wrote : {u v w : Writer} (m : Model) → WritesInitial u (initial_of m) v → WritesRules v (rules_of m) w → Writes u (table_bytes m) w
 unfolding table_from
-table_wrote m h w x = rw (initial_append (initial_of m) [] (rules_to (rules_of m))) (records_then (initial_to (initial_of m) []) (rules_to (rules_of m)) (omega arith) w x)
+table_wrote {u} m x y = record {
+  wrote = rw (initial_append (initial_of m) [] (rules_to (rules_of m))) (records_then (initial_to (initial_of m) []) (rules_to (rules_of m)) (let h = u.size in omega arith) x.wrote y.wrote);
+  lender = y.lender ∙ x.lender;
+}
 
 -- ---- r is what reading the model gave, b whether it was accepted
 module _ (model out : List ℕ) (r : ModelRead) (b : Bool) (e : r ≡ read_model model) (g : b ≡ is_none r.refusal.cause) where

@@ -8,7 +8,7 @@ ghost use Rattle.model_format.specs.Reading.{read_model};
 ghost use Rattle.model_format.specs.WellFormed.{GoodTiming, WellFormed};
 ghost use Rattle.model_words.specs.Words.{timing_in, model_in, model_words};
 ghost use Rattle.table_writer.specs.Wrote.{Wrote};
-ghost use Rattle.table_writer.specs.WroteRules.{WroteRules};
+ghost use Rattle.table_writer.specs.Writes.{WritesRules};
 ghost use Rattle.translation.specs.Parts.{stamped};
 ghost use Rattle.table_format.specs.RuleKinds.{rule_kinds};
 ghost use Rattle.translation.specs.Rules.{items_of, timing_rules, rules_of};
@@ -22,6 +22,7 @@ use records::{
     ACTIVATE, COMPLETE, Cause, DEACTIVATE, DEADLINE, DISPATCH, ENTER, LEAVE, MISS, REQUEST,
     Refusal, START,
 };
+use table_writer::Writer;
 use translation::Translation;
 
 // The kinds of events that have rules, in the table's order.
@@ -49,70 +50,56 @@ fn items_of(words: &[u32], kind: u8) -> usize
 }
 
 // The rules of an event kind and an item. COMPLETE has its own function: only it needs the behaviours.
-fn put_item(output: &mut [u8], at: usize, words: &[u32], kind: u8, item: u8) -> usize
+fn put_item(out: &mut Writer<'_>, words: &[u32], kind: u8, item: u8)
     requires { GoodTiming (timing_in words.now) }
-    ensures { WroteRules output.old at (stamped kind item (timing_rules (timing_in words.now) kind item)) output.new result }
+    ensures { WritesRules out.old (stamped kind item (timing_rules (timing_in words.now) kind item)) out.new }
 {
     match kind {
-        ACTIVATE => translate_threads::put_activate(output, at, words, item),
-        DEACTIVATE => translate_threads::put_deactivate(output, at, words, item),
-        DISPATCH => translate_threads::put_dispatch(output, at, words, item),
-        START => translate_threads::put_start(output, at, words, item),
-        DEADLINE => translate_threads::put_deadline(output, at, words, item),
-        MISS => translate_threads::put_miss(output, at, words, item),
-        REQUEST => translate_modes::put_request(output, at, words, item),
-        ENTER => translate_modes::put_enter(output, at, words, item),
-        LEAVE => translate_modes::put_leave(output, at, words, item),
-        _ => at,
+        ACTIVATE => translate_threads::put_activate(out, words, item),
+        DEACTIVATE => translate_threads::put_deactivate(out, words, item),
+        DISPATCH => translate_threads::put_dispatch(out, words, item),
+        START => translate_threads::put_start(out, words, item),
+        DEADLINE => translate_threads::put_deadline(out, words, item),
+        MISS => translate_threads::put_miss(out, words, item),
+        REQUEST => translate_modes::put_request(out, words, item),
+        ENTER => translate_modes::put_enter(out, words, item),
+        LEAVE => translate_modes::put_leave(out, words, item),
+        _ => {}
     }
 }
 
 // The rules of an event kind.
-fn put_group(output: &mut [u8], at: usize, words: &[u32], kind: u8) -> usize
+fn put_group(out: &mut Writer<'_>, words: &[u32], kind: u8)
     requires { GoodTiming (timing_in words.now) }
-    ensures { WroteRules output.old at (group_rules (timing_in words.now) kind) output.new result }
+    ensures { WritesRules out.old (group_rules (timing_in words.now) kind) out.new }
 {
-    let items = items_of(words, kind);
-    let mut at = at;
-    let mut item = 0;
-    while item < items {
-        at = put_item(output, at, words, kind, item as u8);
-        item += 1;
+    for item in 0..items_of(words, kind) {
+        put_item(out, words, kind, item as u8);
     }
-    at
 }
 
-fn put_completes(output: &mut [u8], at: usize, words: &[u32]) -> usize
+fn put_completes(out: &mut Writer<'_>, words: &[u32])
     requires { WellFormed (model_in words.now) }
-    ensures { WroteRules output.old at (completes_of (model_in words.now)) output.new result }
+    ensures { WritesRules out.old (completes_of (model_in words.now)) out.new }
 {
-    let threads = model_words::threads(words);
-    let mut at = at;
-    let mut thread = 0;
-    while thread < threads {
-        at = translate_complete::put_complete(output, at, words, thread as u8);
-        thread += 1;
+    for thread in 0..model_words::threads(words) {
+        translate_complete::put_complete(out, words, thread as u8);
     }
-    at
 }
 
 // All rules, by kind.
-fn put_rules(output: &mut [u8], at: usize, words: &[u32]) -> usize
+fn put_rules(out: &mut Writer<'_>, words: &[u32])
     requires { WellFormed (model_in words.now) }
-    ensures { WroteRules output.old at (rules_of (model_in words.now)) output.new result }
+    ensures { WritesRules out.old (rules_of (model_in words.now)) out.new }
 {
-    let mut at = at;
-    let mut number: usize = 0;
-    while number < KINDS {
+    for number in 0..KINDS {
         let kind = rule_kind(number);
-        number += 1;
         if kind == COMPLETE {
-            at = put_completes(output, at, words);
+            put_completes(out, words);
         } else {
-            at = put_group(output, at, words, kind);
+            put_group(out, words, kind);
         }
     }
-    at
 }
 
 // The whole table from the slice's start, as far as the slice goes: the start records, then the rules.
@@ -120,8 +107,10 @@ fn put_table(output: &mut [u8], words: &[u32]) -> usize
     requires { WellFormed (model_in words.now) }
     ensures { Wrote output.old 0 (table_bytes (model_in words.now)) output.new result }
 {
-    let at = translate_starts::put_initial_values(output, 0, words);
-    put_rules(output, at, words)
+    let mut out = Writer::new(output, 0);
+    translate_starts::put_initial_values(&mut out, words);
+    put_rules(&mut out, words);
+    out.at
 }
 
 // A model read into a list that has room for it.
@@ -139,15 +128,10 @@ pub fn translate(model: &[u8], output: &mut [u8]) -> Translation
 {
     let mut words = [0u32; MODEL_WORDS];
     let refusal = read_into(model, &mut words);
-    let cause = refusal.cause;
-    if !records::is_none(cause) {
-        return Translation {
-            refusal: refusal,
-            bytes: 0,
-        };
+    if !records::is_none(refusal.cause) {
+        return Translation { refusal, bytes: 0 };
     }
-    let size = table_sizes::size_of(&words);
-    let length = size.bytes;
+    let length = table_sizes::size_of(&words).bytes;
     if output.len() < length {
         let end = model.len();
         let told = records::in_model(Cause::ShortOutput, end, end);
@@ -157,9 +141,8 @@ pub fn translate(model: &[u8], output: &mut [u8]) -> Translation
         };
     }
     put_table(output, &words);
-    let accepted = records::no_refusal();
     Translation {
-        refusal: accepted,
+        refusal: records::no_refusal(),
         bytes: length,
     }
 }

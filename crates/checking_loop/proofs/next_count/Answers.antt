@@ -1,11 +1,6 @@
-use borrow.Author.Tests.{lt-ltb, le-ltb}
-use Rattle.checking_loop.specs.View.{next_count}
+use Rattle.std.proofs.Common.{arith}
+use Rattle.checking_loop.specs.Laws.{count_saturated}
 use Rattle.checking_loop.proofs.next_count.Goals as goal
 
-pub returns-then-count-lt-LAST_COUNT : goal.returns-then-count-lt-LAST_COUNT
-unfolding next_count
-returns-then-count-lt-LAST_COUNT c = rw (lt-ltb _ _ c.if-count-lt-LAST_COUNT.true)
-
-pub returns-else-count-lt-LAST_COUNT : goal.returns-else-count-lt-LAST_COUNT
-unfolding next_count
-returns-else-count-lt-LAST_COUNT c = rw (le-ltb _ _ c.if-count-lt-LAST_COUNT.false)
+pub returns : goal.returns
+returns c = let f = c.ranges.count.fits in count_saturated _ _ (omega arith) c.saturating_add.ensures

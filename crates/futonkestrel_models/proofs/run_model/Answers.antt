@@ -1,5 +1,5 @@
 use Rattle.numbers.specs.declared.Duration.{Duration}
-use mathlib.Core.Path.{ap}
+use Rattle.std.proofs.Common.{ap}
 use Rattle.model_reader.specs.Lent.{read_new}
 use Rattle.futonkestrel_models.specs.Laws.{model_unread, model_run}
 use Rattle.futonkestrel_models.proofs.run_model.Goals as goal

@@ -1,9 +1,6 @@
-use mathlib.Core.Path.{sym}
-use native.Mathlib.Omega.{arith}
-use lib.Seq.{length-take-le}
+use Rattle.std.proofs.Common.{sym, arith, rules, length-take-le}
 use Rattle.model_words.specs.Words.{model_words}
 use Rattle.futonkestrel_reading.specs.Laws.{read_refused, read_narrow, read_made}
-use borrow.Author.Rules.{rules}
 use Rattle.futonkestrel_reading.proofs.model_read.Goals as goal
 
 pub returns-then-not-is_none : goal.returns-then-not-is_none

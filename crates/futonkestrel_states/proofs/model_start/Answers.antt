@@ -1,9 +1,6 @@
-use mathlib.Core.Path.{sym}
-use native.Mathlib.Omega.{arith}
-use lib.Seq.{length-take-le}
+use Rattle.std.proofs.Common.{sym, arith, rules, length-take-le}
 use Rattle.model_state.specs.Words.{state_words}
 use Rattle.futonkestrel_states.specs.Laws.{start_narrow, start_made}
-use borrow.Author.Rules.{rules}
 use Rattle.futonkestrel_states.proofs.model_start.Goals as goal
 
 pub returns-then-state-lt-STATE_WORDS : goal.returns-then-state-lt-STATE_WORDS

@@ -1,4 +1,4 @@
-use mathlib.Core.Path.{◌∙◌, ap}
+use Rattle.std.proofs.Common.{◌∙◌, ap}
 use Rattle.state_settling.specs.Words.{words_of_state}
 use Rattle.futonkestrel_states.proofs.start_settled.Goals as goal
 

@@ -4,5 +4,5 @@ use Rattle.futonkestrel_states.proofs.step_settled.Goals as goal
 pub returns-then-is_none : goal.returns-then-is_none
 returns-then-is_none c = event_taken c.step-answer.ensures c.is_none.ensures c.if-is_none.true c.settle_state.ensures
 
-pub returns : goal.returns
-returns c = event_refused c.step-answer.ensures c.is_none.ensures c.if-is_none.false
+pub returns-else-is_none : goal.returns-else-is_none
+returns-else-is_none c = event_refused c.step-answer.ensures c.is_none.ensures c.if-is_none.false

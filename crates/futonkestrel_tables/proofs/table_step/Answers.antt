@@ -1,5 +1,4 @@
-use mathlib.Core.Path.{sym}
-use lib.Seq.{length-take-le}
+use Rattle.std.proofs.Common.{sym, length-take-le}
 use Rattle.table_format.specs.Variables.{variables}
 use Rattle.futonkestrel_tables.specs.Laws.{step_short, stepped}
 use Rattle.futonkestrel_tables.proofs.table_step.Goals as goal

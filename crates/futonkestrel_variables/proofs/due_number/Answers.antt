@@ -1,3 +1,4 @@
+use Rattle.std.proofs.Common.{refl}
 use Rattle.futonkestrel_variables.specs.Laws.{due_past, due_idle, due_made}
 use Rattle.futonkestrel_variables.proofs.due_number.Goals as goal
 
@@ -8,4 +9,4 @@ pub returns-then-not-has_job : goal.returns-then-not-has_job
 returns-then-not-has_job c = due_idle _ _ _ c.threads.ensures c.if-threads-t.false c.code_of.ensures c.has_job.ensures c.if-not-has_job.true
 
 pub returns : goal.returns
-returns c = due_made _ _ _ c.threads.ensures c.if-threads-t.false c.code_of.ensures c.has_job.ensures c.if-not-has_job.false c.thread_at-thread.ensures c.dispatch_time-dispatched.ensures c.wrapping_add_u32.ensures.value
+returns c = due_made _ _ _ c.threads.ensures c.if-threads-t.false c.code_of.ensures c.has_job.ensures c.if-not-has_job.false c.thread_at-thread.ensures c.dispatch_time-dispatched.ensures refl

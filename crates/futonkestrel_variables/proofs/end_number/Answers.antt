@@ -1,3 +1,4 @@
+use Rattle.std.proofs.Common.{refl}
 use Rattle.futonkestrel_variables.specs.Laws.{end_past, end_idle, end_made}
 use Rattle.futonkestrel_variables.proofs.end_number.Goals as goal
 
@@ -8,4 +9,4 @@ pub returns-then-code_of-ne-EXECUTION : goal.returns-then-code_of-ne-EXECUTION
 returns-then-code_of-ne-EXECUTION c = end_idle _ _ _ c.threads.ensures c.if-threads-t.false c.code_of.ensures c.if-code_of-ne-EXECUTION.true
 
 pub returns : goal.returns
-returns c = end_made _ _ _ c.threads.ensures c.if-threads-t.false c.code_of.ensures c.if-code_of-ne-EXECUTION.false c.now_of-clock.ensures c.length_of-length.ensures c.spent_of-spent.ensures c.left.ensures c.wrapping_add_u32.ensures.value
+returns c = end_made _ _ _ c.threads.ensures c.if-threads-t.false c.code_of.ensures c.if-code_of-ne-EXECUTION.false c.now_of-clock.ensures c.length_of-length.ensures c.spent_of-spent.ensures c.saturating_sub.ensures refl

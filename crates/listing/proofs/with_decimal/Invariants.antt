@@ -1,8 +1,7 @@
+use Rattle.std.proofs.Common.{◌-◌}
+use Rattle.listing.specs.Listing.{most_digits}
 use Rattle.listing.specs.LineLaws.{Digits}
 use Rattle.listing.proofs.with_decimal.Given as goal
 
-abbrev pub invariant-loop-left : goal.invariant-loop-left
-invariant-loop-left l = Digits l.initial.out l.out l.n l.rest l.left
-
-abbrev pub decreases-loop-left : goal.decreases-loop-left
-decreases-loop-left l = l.left
+abbrev pub invariant-loop : goal.invariant-loop
+invariant-loop l = Digits l.initial.out l.out l.n l.rest (most_digits - l.counter)

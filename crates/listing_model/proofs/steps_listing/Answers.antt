@@ -1,4 +1,4 @@
-use borrow.Author.Rules.{rules}
+use Rattle.std.proofs.Common.{rules}
 use Rattle.model_reader.specs.Lent.{whole_read}
 use Rattle.listing_model.specs.Steps.{steps_run, steps_refused}
 use Rattle.listing_model.proofs.steps_listing.Goals as goal

@@ -1,8 +1,6 @@
-use mathlib.Core.Path.{sym}
-use lib.Seq.{length-take-le}
+use Rattle.std.proofs.Common.{sym, rules, length-take-le}
 use Rattle.listing_rules.specs.Rules.{lists_run, lists_refusal}
 use Rattle.translator.specs.Tables.{bytes_within}
-use borrow.Author.Rules.{rules}
 use Rattle.listing_rules.proofs.rules_listing.Goals as goal
 
 pub slice_bounds-table-end : goal.slice_bounds-table-end

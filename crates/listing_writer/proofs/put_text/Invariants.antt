@@ -1,10 +1,7 @@
-use Prim.Native.Nat.{◌-◌}
-use lib.ListN.{length, drop}
+use Rattle.std.proofs.Common.{◌≡◌, drop}
 use Rattle.listing_writer.specs.Places.{Left}
 use Rattle.listing_writer.proofs.put_text.Given as goal
 
-abbrev pub invariant-loop-i : goal.invariant-loop-i
-invariant-loop-i l = Left l.initial.out l.at l.text l.out l.place (drop l.i l.text)
-
-abbrev pub decreases-loop-i : goal.decreases-loop-i
-decreases-loop-i l = length l.text - l.i
+abbrev pub invariant-loop-byte : goal.invariant-loop-byte
+invariant-loop-byte l = (l.writer.bytes.ghost_name ≡ l.initial.writer.bytes.ghost_name)
+    × Left l.initial.writer.bytes.now l.initial.writer.at l.text l.writer.bytes.now l.writer.at (drop l.byte-index l.text)

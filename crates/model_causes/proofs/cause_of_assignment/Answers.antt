@@ -1,4 +1,4 @@
-use mathlib.Core.Path.{sym}
+use Rattle.std.proofs.Common.{sym}
 use Rattle.model_format.specs.Format as format
 use Rattle.model_format.specs.Reading as reading
 use Rattle.model_causes.proofs.cause_of_assignment.Goals as goal
@@ -11,4 +11,4 @@ returns-then-assignment_fits c = sym (c.assignment_fits.ensures c.if-assignment_
 
 pub returns : goal.returns
 unfolding reading.cause_of reading.names_item reading.is_assigned format.rank_of
-returns c = rw (c.assignment_cause.ensures, c.stand_of.ensures, c.is_assigned-twice.ensures, c.operand_owned-second.ensures, c.operand_owned-first.ensures, c.is_owned_by-target.ensures, c.usize_of_u16.ensures.0, c.transition_at-open.ensures, c.last_transition-current.ensures, c.in_order-order.ensures)
+returns c = rw (c.assignment_cause.ensures, c.stand_of.ensures, c.is_assigned-twice.ensures, c.operand_owned-second.ensures, c.operand_owned-first.ensures, c.is_owned_by-target.ensures, c.from.ensures, c.transition_at-open.ensures, c.last_transition-current.ensures, c.in_order-order.ensures)

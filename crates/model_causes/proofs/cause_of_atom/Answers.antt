@@ -1,4 +1,4 @@
-use mathlib.Core.Path.{sym}
+use Rattle.std.proofs.Common.{sym}
 use Rattle.model_format.specs.Format as format
 use Rattle.model_format.specs.Reading as reading
 use Rattle.model_causes.proofs.cause_of_atom.Goals as goal
@@ -11,4 +11,4 @@ returns-then-atom_fits c = sym (c.atom_fits.ensures c.if-atom_fits.true)
 
 pub returns : goal.returns
 unfolding reading.cause_of reading.names_item format.rank_of
-returns c = rw (c.atom_cause.ensures, c.stand_of.ensures, c.operand_owned-right.ensures, c.is_owned_by-left.ensures, c.usize_of_u16.ensures.0, c.transition_at-open.ensures, c.last_transition.ensures, c.in_order-order.ensures)
+returns c = rw (c.atom_cause.ensures, c.stand_of.ensures, c.operand_owned-right.ensures, c.is_owned_by-left.ensures, c.from.ensures, c.transition_at-open.ensures, c.last_transition.ensures, c.in_order-order.ensures)

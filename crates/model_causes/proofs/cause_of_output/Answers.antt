@@ -1,4 +1,4 @@
-use mathlib.Core.Path.{◌∙◌}
+use Rattle.std.proofs.Common.{◌∙◌}
 use Rattle.model_format.specs.Format as format
 use Rattle.model_format.specs.Reading as reading
 use Rattle.model_causes.proofs.cause_of_output.Goals as goal

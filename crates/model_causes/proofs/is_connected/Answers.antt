@@ -1,20 +1,16 @@
-use mathlib.Core.Bool.{false}
-use Prim.Native.Nat.{◌-◌}
-use native.Mathlib.Omega.{arith}
-use Rattle.numbers.specs.ListLaws.{any_zero}
-use Rattle.model_format.specs.Laws.{search_on}
-use Rattle.model_faults.specs.Laws.{connects_not}
-use Rattle.model_causes.specs.Searches.{connected_some, connected_none}
+use Rattle.std.proofs.Common.{arith, ◌∙◌, refl, rules, tests, ℕ, ap}
+use Rattle.numbers.specs.Lists.{any_below}
+use Rattle.numbers.specs.RangeLaws.{any_in_range}
+use Rattle.std.proofs.lemmas.Iterator.{YieldsList-from_range}
+use Rattle.std.proofs.lemmas.Iterator.Search.{any_from_yields_List}
+use Rattle.model_format.specs.Reading as reading
+use Rattle.model_faults.specs.Laws.{connects_to}
+use Rattle.model_words.specs.Words.{timing_in}
 use Rattle.model_causes.proofs.is_connected.Goals as goal
 
-pub loop-c-init : goal.loop-c-init
-loop-c-init c = (omega arith, any_zero _)
-
-pub returns-then-connection-port : goal.returns-then-connection-port
-returns-then-connection-port c = connected_some _ _ _ _ c.connections-count.ensures _ c.loop-c-test.true c.connection_at-connection.ensures c.if-connection-port.true
-
-pub loop-c-preserved : goal.loop-c-preserved
-loop-c-preserved c = (omega (arith, c.loop-c-test.true), search_on _ 0 _ c.loop-c.invariant.1 (connects_not _ _ _ _ c.connection_at-connection.ensures c.if-connection-port.false))
-
 pub returns : goal.returns
-returns c = connected_none _ _ _ _ c.connections-count.ensures c.loop-c.invariant.0 c.loop-c-test.false c.loop-c.invariant.1
+unfolding reading.is_connected
+returns c =
+    any_from_yields_List (λ (i : ℕ). connects_to (timing_in c.args.model.now) c.args.port i) _ _ _ c.any.ensures.ran (YieldsList-from_range 0 c.connections.result c.connections.result refl (omega arith)) (λ x b q k. search (rules, tests))
+    ∙ any_in_range c.connections.result _
+    ∙ ap (λ (n : ℕ). any_below n (connects_to (timing_in c.args.model.now) c.args.port)) c.connections.ensures

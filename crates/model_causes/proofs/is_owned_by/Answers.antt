@@ -1,4 +1,4 @@
-use borrow.Author.Tests.{ne_eqb}
+use Rattle.std.proofs.Common.{ne_eqb}
 use Rattle.model_format.specs.Reading as reading
 use Rattle.model_causes.proofs.is_owned_by.Goals as goal
 
@@ -8,7 +8,7 @@ returns-in-1 c = rw (c.in-1.is, c.input_owner.ensures)
 
 pub returns-in-2 : goal.returns-in-2
 unfolding reading.is_owned_by
-returns-in-2 c = rw (c.in-2.is, c.local_at-local.ensures)
+returns-in-2 c = rw (c.in-2.is, c.local_at.ensures)
 
 pub returns-in-3 : goal.returns-in-3
 unfolding reading.is_owned_by

@@ -1,5 +1,5 @@
-use mathlib.Core.Bool.{true}
-use Rattle.model_enabled.specs.Takes.{take_activate, take_deactivate, take_dispatch, take_start_kind, take_complete, take_deadline, take_miss, take_request, take_enter, take_leave}
+use Rattle.std.proofs.Common.{true}
+use Rattle.model_enabled.specs.Takes.{take_activate, take_deactivate, take_dispatch, take_complete, take_deadline, take_miss, take_request, take_enter, take_leave}
 use Rattle.model_enabled.proofs.may_take.Goals as goal
 
 pub returns-in-1 : goal.returns-in-1
@@ -10,9 +10,6 @@ returns-in-2 c = take_deactivate _ _ _ _ _ _ c.in-2.is c.threads-in-2.ensures c.
 
 pub returns-in-3 : goal.returns-in-3
 returns-in-3 c = take_dispatch _ _ _ _ _ _ c.in-3.is c.threads-in-3.ensures c.can_dispatch.ensures
-
-pub returns-in-4 : goal.returns-in-4
-returns-in-4 c = take_start_kind _ _ _ _ _ c.in-4.is c.may_start.ensures
 
 pub returns-in-5 : goal.returns-in-5
 returns-in-5 c = take_complete _ _ _ _ _ _ c.in-5.is c.threads-in-5.ensures c.can_complete.ensures

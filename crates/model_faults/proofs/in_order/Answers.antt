@@ -1,4 +1,4 @@
-use borrow.Author.Tests.{ne_eqb}
+use Rattle.std.proofs.Common.{ne_eqb}
 use Rattle.model_format.specs.Reading as reading
 use Rattle.model_faults.proofs.in_order.Goals as goal
 
@@ -17,4 +17,4 @@ returns-in-10 c = rw c.in-10.is
 pub returns-in_default : goal.returns-in_default
 unfolding reading.in_order
 returns-in_default c = let r = c.in_default.in_default-own.rest in
-    simp (ne_eqb _ _ r.0.0.1, ne_eqb _ _ r.0.1, ne_eqb _ _ r.1, c.least_kind-least.ensures)
+    simp (ne_eqb _ _ r.0.0.1, ne_eqb _ _ r.0.1, ne_eqb _ _ r.1, c.least_kind.ensures)

@@ -1,4 +1,4 @@
-use borrow.Author.Tests.{ne_eqb}
+use Rattle.std.proofs.Common.{ne_eqb}
 use Rattle.model_format.specs.Reading as reading
 use Rattle.model_faults.proofs.names_item.Goals as goal
 

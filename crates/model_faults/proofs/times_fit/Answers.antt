@@ -1,4 +1,4 @@
-use mathlib.Core.Path.{refl}
+use Rattle.std.proofs.Common.{refl}
 use Rattle.model_format.specs.Reading as reading
 use Rattle.model_faults.proofs.times_fit.Goals as goal
 

@@ -1,11 +1,10 @@
-use mathlib.Core.Path.{refl}
-use borrow.Author.Rules.{rules}
+use Rattle.std.proofs.Common.{List, ℕ, ◌≡◌, refl, rules}
+use Rattle.model_format.specs.Laws.{by_room}
+use Rattle.model_words.specs.Words.{model_in}
+use Rattle.model_items.specs.Replaced.{with_thread}
 use Rattle.model_items.specs.Changed.{thread_unchanged}
 use Rattle.model_items.specs.Stored.{thread_put}
 use Rattle.model_items.proofs.put_thread.Goals as goal
 
-pub returns-then-i-ge-MAX_THREADS : goal.returns-then-i-ge-MAX_THREADS
-returns-then-i-ge-MAX_THREADS c = thread_unchanged _ _ _ c.if-i-ge-MAX_THREADS.true
-
 pub returns : goal.returns
-returns c = thread_put _ _ _ _ _ c.requires c.if-i-ge-MAX_THREADS.false refl c.put_numbers.ensures (search rules) (search rules) (search rules)
+returns c = by_room (λ (l : List ℕ). model_in l ≡ with_thread (model_in c.args.model.now) c.args.i c.args.thread) c.put_fields.ensures (λ h. thread_put _ _ _ _ _ c.requires h refl refl (search rules) (search rules) (search rules)) (λ h. thread_unchanged _ _ _ h)

@@ -1,5 +1,4 @@
-use Prim.Native.Nat.{ℕ}
-use native.Mathlib.Omega.{arith}
+use Rattle.std.proofs.Common.{ℕ, arith}
 use lib.ListN.{length-replicate}
 use Rattle.model_words.specs.Words.{model_words}
 use Rattle.model_reader.specs.Lent.{zeros_empty}

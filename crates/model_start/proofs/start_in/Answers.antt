@@ -1,5 +1,5 @@
 use Rattle.model_start.specs.Starting.{started}
-use borrow.Author.Rules.{rules}
+use Rattle.std.proofs.Common.{rules}
 use Rattle.model_start.proofs.start_in.Goals as goal
 
 pub returns : goal.returns

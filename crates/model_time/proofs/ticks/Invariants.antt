@@ -1,5 +1,4 @@
-use Prim.Native.Nat.{◌≤◌, ◌-◌}
-use mathlib.Core.Path.{◌≡◌}
+use Rattle.std.proofs.Common.{◌≤◌, ◌≡◌}
 use Rattle.model_state.specs.Words.{state_in}
 use Rattle.model_words.specs.Words.{timing_in}
 use Rattle.model_state.specs.Parts.{BesideTime}

@@ -1,5 +1,5 @@
+use Rattle.std.proofs.Common.{rules}
 use Rattle.model_writer.specs.Added.{connection_added}
-use borrow.Author.Rules.{rules}
 use Rattle.model_writer.proofs.add_connection.Goals as goal
 
 pub returns : goal.returns

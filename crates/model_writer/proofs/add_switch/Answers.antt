@@ -1,6 +1,5 @@
-use mathlib.Core.Path.{refl}
+use Rattle.std.proofs.Common.{refl, rules}
 use Rattle.model_writer.specs.Added.{switch_added}
-use borrow.Author.Rules.{rules}
 use Rattle.model_writer.proofs.add_switch.Goals as goal
 
 pub returns : goal.returns

@@ -1,11 +1,6 @@
-use borrow.Author.Tests.{lt-ltb, le-ltb}
-use Rattle.numbers.specs.Values.{one_more}
+use Rattle.std.proofs.Common.{arith}
+use Rattle.numbers.specs.ValueLaws.{one_more_saturated}
 use Rattle.numbers.proofs.one_more.Goals as goal
 
-pub returns-then-n-lt-LAST_U32 : goal.returns-then-n-lt-LAST_U32
-unfolding one_more
-returns-then-n-lt-LAST_U32 c = rw (lt-ltb _ _ c.if-n-lt-LAST_U32.true)
-
-pub returns-else-n-lt-LAST_U32 : goal.returns-else-n-lt-LAST_U32
-unfolding one_more
-returns-else-n-lt-LAST_U32 c = rw (le-ltb _ _ c.if-n-lt-LAST_U32.false)
+pub returns : goal.returns
+returns c = let f = c.ranges.n.fits in one_more_saturated _ _ (omega arith) c.saturating_add.ensures

@@ -1,8 +1,14 @@
-use Rattle.state_settling.specs.Passes.{no_mark, a_mark}
+use Rattle.std.proofs.Common.{◌≡◌, ◌∙◌, Bool, true, false, refl}
+use mir.Val.{bool_byte}
+use Rattle.model_state.specs.Words.{mark_in}
+use Rattle.state_settling.specs.Words.{mark_number}
 use Rattle.state_settling.proofs.mark.Goals as goal
 
-pub returns-then-number-eq0 : goal.returns-then-number-eq0
-returns-then-number-eq0 c = no_mark _ c.if-number-eq0.true
+mark_byte : (b : Bool) → bool_byte b ≡ mark_number b
+unfolding mark_number
+mark_byte true = refl
+mark_byte false = refl
 
-pub returns-else-number-eq0 : goal.returns-else-number-eq0
-returns-else-number-eq0 c = a_mark _ c.if-number-eq0.false
+pub returns : goal.returns
+unfolding mark_in
+returns c = c.from.ensures ∙ mark_byte _

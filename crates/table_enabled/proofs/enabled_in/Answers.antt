@@ -1,5 +1,4 @@
-use mathlib.Core.Path.{sym}
-use lib.Seq.{length-take-le}
+use Rattle.std.proofs.Common.{sym, length-take-le}
 use Rattle.table_enabled.specs.Telling.{by_short, by_all}
 use Rattle.table_enabled.proofs.enabled_in.Goals as goal
 

@@ -1,4 +1,4 @@
-use native.Mathlib.Omega.{arith}
+use Rattle.std.proofs.Common.{arith}
 use Rattle.table_enabled.specs.Telling.{tells_short, tells_copied, tells_walked}
 use Rattle.table_enabled.proofs.enabled_on.Goals as goal
 

@@ -1,4 +1,4 @@
-use native.Mathlib.Omega.{arith}
+use Rattle.std.proofs.Common.{arith}
 use Rattle.records.specs.Walk.{slice_part}
 use Rattle.table_index.specs.Listed.{listed_head}
 use Rattle.table_enabled.specs.Walk.{looks_disabled, looks_unlisted, looks_listed}

@@ -1,4 +1,4 @@
-use mathlib.Core.Path.{refl, ◌∙◌}
+use Rattle.std.proofs.Common.{refl, ◌∙◌}
 use Rattle.table_format.specs.Format.{head_of}
 use Rattle.table_format.specs.Decoded.{is_head_lem}
 use Rattle.table_enabled.specs.Walk.{looks_other, looks_head_disabled, looks_head}

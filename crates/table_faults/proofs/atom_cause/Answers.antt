@@ -6,4 +6,4 @@ pub returns-then-atom_fits : goal.returns-then-atom_fits
 returns-then-atom_fits c = judged_fits c.args.in_order _ _ _ c.atom_fits.ensures _ (atom_names_lem _) c.if-atom_fits.true c.judged.ensures
 
 pub returns : goal.returns
-returns c = judged_unfit c.args.in_order _ _ _ c.atom_fits.ensures _ _ c.atom_names-names.ensures c.if-atom_fits.false c.judged-2.ensures
+returns c = judged_unfit c.args.in_order _ _ _ c.atom_fits.ensures _ _ c.atom_names.ensures c.if-atom_fits.false c.judged-2.ensures

@@ -7,7 +7,7 @@ returns-in-Initial c = rw c.in-Initial.is c.initial_cause.ensures
 
 pub returns-in-Head : goal.returns-in-Head
 unfolding cause_of
-returns-in-Head c = rw (c.in-Head.is, ← c.head_fits-fits.ensures) c.judged.ensures
+returns-in-Head c = rw (c.in-Head.is, ← c.head_fits.ensures) c.judged.ensures
 
 pub returns-in-Clause : goal.returns-in-Clause
 unfolding cause_of

@@ -3,4 +3,4 @@ use Rattle.table_faults.proofs.head_fits.Goals as goal
 
 pub returns : goal.returns
 unfolding head_fits
-returns c = rw (c.longest-limit.ensures, c.has_rules-known.ensures)
+returns c = rw (c.longest.ensures, c.has_rules.ensures)

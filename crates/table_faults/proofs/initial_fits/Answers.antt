@@ -3,4 +3,4 @@ use Rattle.table_faults.proofs.initial_fits.Goals as goal
 
 pub returns : goal.returns
 unfolding initial_fits
-returns c = rw c.is_variable-there.ensures
+returns c = rw c.is_variable.ensures

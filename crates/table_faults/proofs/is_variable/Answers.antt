@@ -1,4 +1,4 @@
-use mathlib.Core.Path.{refl}
+use Rattle.std.proofs.Common.{refl}
 use Rattle.table_format.specs.Variables.{is_variable}
 use Rattle.table_faults.proofs.is_variable.Goals as goal
 

@@ -1,4 +1,4 @@
-use borrow.Author.Tests.{ne_eqb}
+use Rattle.std.proofs.Common.{ne_eqb}
 use Rattle.table_faults.proofs.longest.Goals as goal
 
 pub returns-then-kind-eq-START : goal.returns-then-kind-eq-START

@@ -1,4 +1,4 @@
 use Rattle.table_faults.proofs.operand_names.Goals as goal
 
 pub returns : goal.returns
-returns c = rw c.names_variable-names.ensures
+returns c = rw c.names_variable.ensures

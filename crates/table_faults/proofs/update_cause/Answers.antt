@@ -6,4 +6,4 @@ pub returns-then-update_fits : goal.returns-then-update_fits
 returns-then-update_fits c = judged_fits c.args.in_order _ _ _ c.update_fits.ensures _ (update_names_lem _ _) c.if-update_fits.true c.judged.ensures
 
 pub returns : goal.returns
-returns c = judged_unfit c.args.in_order _ _ _ c.update_fits.ensures _ _ c.update_names-names.ensures c.if-update_fits.false c.judged-2.ensures
+returns c = judged_unfit c.args.in_order _ _ _ c.update_fits.ensures _ _ c.update_names.ensures c.if-update_fits.false c.judged-2.ensures

@@ -2,4 +2,4 @@ use Rattle.table_format.specs.Decoded.{atom_fields_lem}
 use Rattle.table_format.proofs.atom_of.Goals as goal
 
 pub returns : goal.returns
-returns c = atom_fields_lem c.args.part.now _ _ _ c.byte_at-op.ensures c.u16_at-variable.ensures c.operand_at-right.ensures
+returns c = atom_fields_lem c.args.part.now _ _ _ c.item_or.ensures c.u16_at.ensures c.operand_at.ensures

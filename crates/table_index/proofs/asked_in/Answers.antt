@@ -1,19 +1,14 @@
-use mathlib.Core.Path.{◌∙◌}
-use native.Mathlib.Omega.{arith}
+use Rattle.std.proofs.Common.{◌∙◌, ap}
+use Rattle.numbers.specs.Values.{bits_of}
+use Rattle.numbers.specs.declared.Value.{Value}
 use Rattle.table_index.specs.Guards.{asked_op, asked_tag, asked_equal}
 use Rattle.table_index.proofs.asked_in.Goals as goal
 
-pub returns-then-op-ne0 : goal.returns-then-op-ne0
-returns-then-op-ne0 c = asked_op c.args.part.now _ c.byte_at-op.ensures c.if-op-ne0.true
+pub returns-then-op-ne-EQUALS : goal.returns-then-op-ne-EQUALS
+returns-then-op-ne-EQUALS c = asked_op c.args.part.now _ c.item_or-op.ensures c.if-op-ne-EQUALS.true
 
-pub returns-then-tag-ne0 : goal.returns-then-tag-ne0
-returns-then-tag-ne0 c = asked_tag c.args.part.now _ c.byte_at-op.ensures c.if-op-ne0.false _ c.byte_at-tag.ensures c.if-tag-ne0.true
-
-pub overflow_mul-result : goal.overflow_mul-result
-overflow_mul-result c = let a = c.usize_of_u16-j.ensures in record { fits = omega arith }
-
-pub overflow_add-result : goal.overflow_add-result
-overflow_add-result c = let a = c.usize_of_u16-j.ensures in let b = c.usize_of_u32-n.ensures in record { fits = omega arith }
+pub returns-then-tag-ne-CONSTANT_TAG : goal.returns-then-tag-ne-CONSTANT_TAG
+returns-then-tag-ne-CONSTANT_TAG c = asked_tag c.args.part.now _ c.item_or-op.ensures c.if-op-ne-EQUALS.false _ c.item_or-tag.ensures c.if-tag-ne-CONSTANT_TAG.true
 
 pub returns : goal.returns
-returns c = asked_equal c.args.part.now _ c.byte_at-op.ensures c.if-op-ne0.false _ c.byte_at-tag.ensures c.if-tag-ne0.false _ _ (c.usize_of_u16-j.ensures.0 ∙ c.u16_at.ensures) (c.usize_of_u32-n.ensures.0 ∙ rw (c.bits.ensures, c.value_at-y.ensures))
+returns c = asked_equal c.args.part.now _ c.item_or-op.ensures c.if-op-ne-EQUALS.false _ c.item_or-tag.ensures c.if-tag-ne-CONSTANT_TAG.false _ _ (c.from-j.ensures ∙ c.u16_at.ensures) (c.bits-n.ensures ∙ ap (λ (v : Value). bits_of v.0) c.value_at.ensures)

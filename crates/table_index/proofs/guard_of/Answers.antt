@@ -1,4 +1,4 @@
-use native.Mathlib.Omega.{arith}
+use Rattle.std.proofs.Common.{arith}
 use Rattle.table_index.specs.Guards.{guard_short, guard_no_clause, guard_no_atom, guard_more_atoms, guard_first}
 use Rattle.table_index.proofs.guard_of.Goals as goal
 

@@ -1,5 +1,4 @@
-use mathlib.Core.Path.{sym, ◌∙◌}
-use native.Mathlib.Omega.{arith}
+use Rattle.std.proofs.Common.{sym, ◌∙◌, arith}
 use Rattle.table_index.specs.IndexLaws.{head_at}
 use Rattle.table_index.specs.Listed.{listed_no_head, listed_no_key, listed_by_guard}
 use Rattle.table_index.proofs.is_listed.Goals as goal

@@ -1,5 +1,4 @@
-use native.Mathlib.Omega.{arith}
-use lib.ListN.{length, length-set}
+use Rattle.std.proofs.Common.{arith, length, length-set}
 use Rattle.table_index.specs.IndexLaws.{room_within, room_short, one_listed, one_full, one_past}
 use Rattle.table_index.proofs.put_rule.Goals as goal
 

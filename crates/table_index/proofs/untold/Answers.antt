@@ -1,4 +1,4 @@
-use mathlib.Core.Path.{refl}
+use Rattle.std.proofs.Common.{refl}
 use Rattle.table_index.specs.Guards.{untold_clock, untold_none, untold_by}
 use Rattle.table_index.proofs.untold.Goals as goal
 

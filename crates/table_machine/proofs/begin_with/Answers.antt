@@ -1,4 +1,4 @@
-use mathlib.Core.Path.{◌∙◌}
+use Rattle.std.proofs.Common.{◌∙◌}
 use Rattle.table_format.specs.Decoded.{is_initial}
 use Rattle.table_machine.specs.Running.{initial_none, initial_one}
 use Rattle.table_machine.proofs.begin_with.Goals as goal

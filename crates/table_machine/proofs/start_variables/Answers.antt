@@ -1,28 +1,21 @@
-use mathlib.Core.Path.{refl, ◌∙◌}
-use Prim.Native.Nat.{◌-◌}
-use native.Mathlib.Omega.{arith}
-use Rattle.records.specs.Walk.{next_place}
-use Rattle.records.specs.declared.Notation.TheVariants as notations
+use Rattle.std.proofs.Common.{refl, ◌∙◌}
+use Rattle.table_format.specs.RecordsAt.{table_part}
 use Rattle.table_machine.specs.Running.{start_begin, start_on, start_end}
 use Rattle.table_machine.proofs.start_variables.Goals as goal
 
-pub loop-at-init : goal.loop-at-init
-loop-at-init c = start_begin c.args.table.now
+pub loop-part-init : goal.loop-part-init
+loop-part-init c =
+    let b = c.new-part-items.ensures in
+    rw (c.into_iter-part-iterator.ensures.into_iter_gives, b.0, b.1.0, b.1.1) (tt, tt, refl, refl, start_begin c.args.table.now)
 
-pub overflow_add-next : goal.overflow_add-next
-overflow_add-next c = let n = next_place notations.Table c.args.table.now _ _ c.loop-at-test.true c.part_length_at-n.ensures in
-    record { fits = omega arith }
-
-pub slice_bounds-begin_with-end : goal.slice_bounds-begin_with-end
-slice_bounds-begin_with-end c = let n = next_place notations.Table c.args.table.now _ _ c.loop-at-test.true c.part_length_at-n.ensures in
-    omega arith
-
-pub loop-at-smaller : goal.loop-at-smaller
-loop-at-smaller c = let n = next_place notations.Table c.args.table.now _ _ c.loop-at-test.true c.part_length_at-n.ensures in
-    omega arith
-
-pub loop-at-preserved : goal.loop-at-preserved
-loop-at-preserved c = rw (start_on c.args.table.now _ _ _ c.loop-at-test.true c.part_length_at-n.ensures refl _ _ c.begin_with.ensures) c.loop-at.invariant
+pub loop-part-preserved : goal.loop-part-preserved
+loop-part-preserved c =
+    let i = c.loop-part.invariant in
+    let s = c.in-Some.ensures.steps in
+    let w = table_part c.args.table.now _ _ _ i.2 i.3 s.2 in
+    (tt, tt, s.0 ∙ i.2, s.1 ∙ i.3, rw (w.goes_on, start_on c.args.table.now _ _ _ w.within refl w.record_at _ _ c.begin_with.ensures) i.4)
 
 pub returns : goal.returns
-returns c = c.variables_of.ensures ∙ start_end c.args.table.now _ _ c.loop-at-test.false ∙ c.loop-at.invariant
+returns c =
+    let i = c.loop-part.invariant in
+    c.variables_of.ensures ∙ start_end c.args.table.now _ _ (rw i.3 at c.in-None.ensures.steps.2.0) ∙ i.4

@@ -1,5 +1,4 @@
-use mathlib.Core.Path.{◌∙◌, ap}
-use mathlib.Core.List.{List}
+use Rattle.std.proofs.Common.{◌∙◌, ap, List}
 use Rattle.table_format.specs.Table.{Rule}
 use Rattle.table_semantics.specs.Rules.{enabled_rules}
 use Rattle.table_semantics.specs.Machine.{fire}
@@ -17,11 +16,11 @@ shape_of-bits-then-event-eq-TICK c = tick_size c.args.bits.now _ _ _ _ c.tick.en
 pub returns-then-event-eq-TICK : goal.returns-then-event-eq-TICK
 returns-then-event-eq-TICK c = c.tick.ensures ∙ step_ticks _ (variables_of c.args.bits.now) c.args.event _ c.is_broken.ensures c.if-is_broken.false c.if-event-eq-TICK.true
 
-pub shape_of-bits-then-table-rest : goal.shape_of-bits-then-table-rest
-shape_of-bits-then-table-rest c = fire_size c.args.bits.now _ _ c.args.event _ c.fire_enabled.ensures
+pub shape_of-bits-then-all : goal.shape_of-bits-then-all
+shape_of-bits-then-all c = fire_size c.args.bits.now _ _ c.args.event _ c.fire_enabled.ensures
 
-pub returns-then-table-rest : goal.returns-then-table-rest
-returns-then-table-rest c = c.fire_enabled.ensures ∙ ap (λ (l : List Rule). fire (variables_of c.args.bits.now) c.args.event (enabled_rules (values c.args.bits.now) c.args.event.kind c.args.event.id l)) (rest_none c.args.table.now c.args.words.now _ c.if-table-rest.true) ∙ step_fires _ (variables_of c.args.bits.now) c.args.event _ c.is_broken.ensures c.if-is_broken.false c.if-event-eq-TICK.false
+pub returns-then-all : goal.returns-then-all
+returns-then-all c = c.fire_enabled.ensures ∙ ap (λ (l : List Rule). fire (variables_of c.args.bits.now) c.args.event (enabled_rules (values c.args.bits.now) c.args.event.kind c.args.event.id l)) (rest_none c.args.all.table.now c.args.all.words.now _ c.if-all.true) ∙ step_fires _ (variables_of c.args.bits.now) c.args.event _ c.is_broken.ensures c.if-is_broken.false c.if-event-eq-TICK.false
 
 pub shape_of-bits : goal.shape_of-bits
 shape_of-bits c = fire_size c.args.bits.now _ _ c.args.event _ c.fire_enabled-2.ensures

@@ -1,7 +1,4 @@
-use borrow.Author.Rules.{rules}
-use mathlib.Core.Path.{refl}
-use Prim.Native.Nat.{◌-◌}
-use native.Mathlib.Omega.{arith}
+use Rattle.std.proofs.Common.{rules, refl, ◌-◌, arith}
 use Rattle.table_offers.specs.OneMore.{adds_none, adds_offer, adds_past, no_kind, some_kind}
 use Rattle.table_offers.proofs.add_enabled.Goals as goal
 

@@ -1,4 +1,4 @@
-use native.Mathlib.Omega.{arith}
+use Rattle.std.proofs.Common.{arith}
 use Rattle.enabled.specs.Enabled.{offer_by}
 use Rattle.table_offers.specs.Inserted.{place_found, inserted_by}
 use Rattle.table_offers.proofs.insert.Goals as goal
@@ -19,4 +19,4 @@ pub overflow_add-at-3 : goal.overflow_add-at-3
 overflow_add-at-3 c = let w = place_found c.args.output.now _ c.args.count _ c.place_in-at.ensures in record { fits = omega arith }
 
 pub returns : goal.returns
-returns c = inserted_by c.args.output.now _ _ _ _ _ c.args.count (offer_by c.args.head) _ _ _ _ _ _ (omega arith) c.place_in-at.ensures c.make_room.ensures c.u32_of_u8-kind_word.ensures.0 c.u32_of_u8-id_word.ensures.0 c.length_in.ensures c.length_in-2.ensures c.put_word.ensures c.put_word-2.ensures c.put_word-3.ensures c.put_word-4.ensures
+returns c = inserted_by c.args.output.now _ _ _ _ _ c.args.count (offer_by c.args.head) _ _ _ _ _ _ (omega arith) c.place_in-at.ensures c.make_room.ensures c.from-kind_word.ensures c.from-id_word.ensures c.length_in.ensures c.length_in-2.ensures c.put_item.ensures c.put_item-2.ensures c.put_item-3.ensures c.put_item-4.ensures

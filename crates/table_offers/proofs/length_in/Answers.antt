@@ -1,4 +1,4 @@
-use borrow.Author.Tests.{eq-eqb, ne_eqb}
+use Rattle.std.proofs.Common.{eq-eqb, ne_eqb}
 use Rattle.table_offers.proofs.length_in.Goals as goal
 
 pub returns-then-kind-eq-START : goal.returns-then-kind-eq-START

@@ -1,6 +1,5 @@
-use mir.Syntax.{w32}
-use mir.ValLaws.{to_z-of_z}
-use borrow.Author.Rules.{rules}
+use Rattle.std.proofs.Common.{w32, rules}
+use Rattle.std.proofs.lemmas.Int.{to_z-of_z}
 use Rattle.table_rules.proofs.bits_of.Goals as goal
 
 pub returns : goal.returns

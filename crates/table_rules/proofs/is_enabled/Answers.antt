@@ -1,4 +1,4 @@
-use mathlib.Core.Path.{◌∙◌}
+use Rattle.std.proofs.Common.{◌∙◌}
 use Rattle.table_rules.specs.Clauses.{all_hold_lem}
 use Rattle.table_rules.proofs.is_enabled.Goals as goal
 

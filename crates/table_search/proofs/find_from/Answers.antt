@@ -1,25 +1,21 @@
-use mathlib.Core.Path.{refl, ◌∙◌}
-use Prim.Native.Nat.{◌-◌}
-use native.Mathlib.Omega.{arith}
-use Rattle.records.specs.Walk.{next_place}
-use Rattle.records.specs.declared.Notation.TheVariants as notations
+use Rattle.std.proofs.Common.{refl, ◌∙◌}
+use Rattle.table_format.specs.RecordsAt.{table_part}
 use Rattle.table_search.specs.Enabled.{find_on, find_end}
 use Rattle.table_search.proofs.find_from.Goals as goal
 
-pub overflow_add-next : goal.overflow_add-next
-overflow_add-next c = let n = next_place notations.Table c.args.table.now _ _ c.loop-at-test.true c.part_length_at-n.ensures in
-    record { fits = omega arith }
+pub loop-part-init : goal.loop-part-init
+loop-part-init c =
+    let b = c.new-part-items.ensures in
+    rw (c.into_iter-part-iterator.ensures.into_iter_gives, b.0, b.1.0, b.1.1) (tt, tt, refl, refl, refl)
 
-pub slice_bounds-found_after-end : goal.slice_bounds-found_after-end
-slice_bounds-found_after-end c = let n = next_place notations.Table c.args.table.now _ _ c.loop-at-test.true c.part_length_at-n.ensures in
-    omega arith
-
-pub loop-at-smaller : goal.loop-at-smaller
-loop-at-smaller c = let n = next_place notations.Table c.args.table.now _ _ c.loop-at-test.true c.part_length_at-n.ensures in
-    omega arith
-
-pub loop-at-preserved : goal.loop-at-preserved
-loop-at-preserved c = find_on c.args.table.now _ _ _ c.loop-at-test.true c.part_length_at-n.ensures refl _ c.args.event _ _ c.found_after-found.ensures ∙ c.loop-at.invariant
+pub loop-part-preserved : goal.loop-part-preserved
+loop-part-preserved c =
+    let i = c.loop-part.invariant in
+    let s = c.in-Some.ensures.steps in
+    let w = table_part c.args.table.now _ _ _ i.2 i.3 s.2 in
+    (tt, tt, s.0 ∙ i.2, s.1 ∙ i.3, rw w.goes_on (find_on c.args.table.now _ _ _ w.within refl w.record_at _ c.args.event _ _ (rw w.end at c.found_after-found.ensures)) ∙ i.4)
 
 pub returns : goal.returns
-returns c = find_end c.args.table.now _ c.args.event _ _ c.loop-at-test.false ∙ c.loop-at.invariant
+returns c =
+    let i = c.loop-part.invariant in
+    find_end c.args.table.now _ c.args.event _ _ (rw i.3 at c.in-None.ensures.steps.2.0) ∙ i.4

@@ -1,4 +1,4 @@
-use mathlib.Core.Path.{◌∙◌}
+use Rattle.std.proofs.Common.{◌∙◌}
 use Rattle.table_format.specs.Decoded.{is_head_lem}
 use Rattle.table_search.specs.Enabled.{found_head, found_same}
 use Rattle.table_search.proofs.found_after.Goals as goal

@@ -1,5 +1,4 @@
-use mathlib.Core.Path.{◌∙◌}
-use native.Mathlib.Omega.{arith}
+use Rattle.std.proofs.Common.{◌∙◌, arith}
 use Rattle.records.specs.Walk.{slice_part}
 use Rattle.table_search.specs.FindListed.{found_guarded, found_not_enabled, found_head, found_not_asked, found_listed_lem}
 use Rattle.table_search.proofs.found_listed.Goals as goal

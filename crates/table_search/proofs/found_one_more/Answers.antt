@@ -1,11 +1,9 @@
-use borrow.Author.Tests.{ne_eqb}
-use Rattle.table_search.specs.Enabled.{found_one_more}
+use Rattle.table_search.specs.Enabled.{found_one_more, more_than_one}
 use Rattle.table_search.proofs.found_one_more.Goals as goal
 
-pub returns-then-n-eq0 : goal.returns-then-n-eq0
+pub returns-in-Nothing : goal.returns-in-Nothing
 unfolding found_one_more
-returns-then-n-eq0 c = rw c.if-n-eq0.true
+returns-in-Nothing c = rw c.in-Nothing.is
 
-pub returns : goal.returns
-unfolding found_one_more
-returns c = rw (ne_eqb _ _ c.if-n-eq0.false)
+pub returns-in_default : goal.returns-in_default
+returns-in_default c = more_than_one _ _ _ c.in_default.not-Nothing

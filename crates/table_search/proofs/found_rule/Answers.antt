@@ -1,4 +1,4 @@
-use mathlib.Core.Path.{◌∙◌}
+use Rattle.std.proofs.Common.{◌∙◌}
 use Rattle.table_search.specs.Enabled.{found_other, found_disabled, found_enabled}
 use Rattle.table_search.proofs.found_rule.Goals as goal
 

@@ -1,4 +1,4 @@
-use mathlib.Core.Path.{refl}
+use Rattle.std.proofs.Common.{refl}
 use Rattle.table_search.specs.Enabled.{is_asked}
 use Rattle.table_search.proofs.is_asked.Goals as goal
 

@@ -1,16 +1,18 @@
-use Prim.Native.Nat.{◌-◌}
-use native.Mathlib.Omega.{arith}
-use Rattle.table_ticks.specs.QuietListed.{quiet_begin, quiet_next, quiet_over}
+use Rattle.std.proofs.Common.{◌∙◌, arith}
+use Rattle.table_index.specs.Listed.{pair_words}
+use Rattle.table_ticks.specs.QuietListed.{quiet_pair, quiet_all}
 use Rattle.table_ticks.proofs.quiet_listed.Goals as goal
 
-pub loop-i-init : goal.loop-i-init
-loop-i-init c = (omega arith, quiet_begin c.args.table.now _ _ _)
-
-pub overflow_add-i : goal.overflow_add-i
-overflow_add-i c = let l = c.loop-i.invariant.0 in record { fits = omega arith }
-
-pub loop-i-preserved : goal.loop-i-preserved
-loop-i-preserved c = ((let l = c.loop-i-test.true in omega arith), quiet_next c.args.table.now _ _ _ _ _ c.loop-i-test.true _ c.ticks_to_listed-limit.ensures c.loop-i.invariant.1)
+pub loop-pair-preserved : goal.loop-pair-preserved
+loop-pair-preserved c =
+    let i = c.loop-pair.invariant in
+    let s = c.in-Some.ensures.steps in
+    let z = s.0 ∙ i.2 in
+    let w = pair_words _ _ _ s.1.0 (s.1.1 ∙ i.2) in
+    (omega arith, tt, z, quiet_pair c.args.table.now _ _ _ _ _ _ _ w _ c.ticks_to_listed-limit.ensures i.3)
 
 pub returns : goal.returns
-returns c = quiet_over c.args.table.now _ _ _ _ _ c.loop-i-test.false c.loop-i.invariant.1
+returns c =
+    let i = c.loop-pair.invariant in
+    let e = c.in-None.ensures.steps.1.0 in
+    quiet_all c.args.table.now _ _ _ _ _ (omega arith) i.3

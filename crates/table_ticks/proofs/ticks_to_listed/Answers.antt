@@ -1,5 +1,4 @@
-use mathlib.Core.Path.{refl, sym, ◌∙◌}
-use native.Mathlib.Omega.{arith}
+use Rattle.std.proofs.Common.{refl, sym, ◌∙◌, arith}
 use Rattle.table_index.specs.IndexLaws.{head_at}
 use Rattle.table_ticks.specs.QuietListed.{stops_guarded, stops_no_head, stops_request, stops_now, stops_not_now, stops_none, stops_not_listed, stops_listed}
 use Rattle.table_ticks.proofs.ticks_to_listed.Goals as goal

@@ -1,4 +1,4 @@
-use mathlib.Core.Path.{◌∙◌}
+use Rattle.std.proofs.Common.{◌∙◌}
 use Rattle.table_format.specs.Decoded.{is_head_lem}
 use Rattle.table_ticks.specs.Ticking.{record_never, record_first}
 use Rattle.table_ticks.proofs.ticks_to_record.Goals as goal

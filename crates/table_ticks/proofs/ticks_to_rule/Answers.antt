@@ -1,4 +1,4 @@
-use mathlib.Core.Path.{◌∙◌}
+use Rattle.std.proofs.Common.{◌∙◌}
 use Rattle.table_ticks.specs.Ticking.{request_never, none_left, rule_now, rule_not_now, rule_never, rule_first}
 use Rattle.table_ticks.proofs.ticks_to_rule.Goals as goal
 

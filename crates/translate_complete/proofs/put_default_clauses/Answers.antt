@@ -6,4 +6,4 @@ pub put_otherwise-requires : goal.put_otherwise-requires
 put_otherwise-requires c = c.requires
 
 pub returns : goal.returns
-returns c = default_clauses_lem _ c.well_formed.0.0 (behavior_in c.args.model.now) c.put_running-at.ensures c.put_otherwise.ensures
+returns c = default_clauses_lem _ (behavior_in c.args.model.now) c.put_running.ensures c.put_otherwise.ensures

@@ -7,4 +7,4 @@ pub put_sends-requires : goal.put_sends-requires
 put_sends-requires c = (c.requires, none_named _ _)
 
 pub returns : goal.returns
-returns c = default_updates_lem _ c.well_formed.0.0 (timing_in c.args.model.now) (behavior_in c.args.model.now) 0 c.put_ends-at.ensures c.put_sends.ensures
+returns c = default_updates_lem _ (timing_in c.args.model.now) (behavior_in c.args.model.now) 0 c.put_ends.ensures c.put_sends.ensures

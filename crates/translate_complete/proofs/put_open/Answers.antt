@@ -6,4 +6,4 @@ pub put_guard-requires : goal.put_guard-requires
 put_guard-requires c = c.requires
 
 pub returns : goal.returns
-returns c = open_written (behavior_in c.args.model.now) _ _ _ _ c.transition_at-own.ensures c.behavior_var.ensures c.well_formed.0.0 c.put_running-at.ensures c.put_equals-at.ensures c.put_guard.ensures
+returns c = open_written (behavior_in c.args.model.now) _ _ _ _ c.transition_at-own.ensures c.behavior_var.ensures c.put_running.ensures c.equals.ensures c.put_guard.ensures

@@ -3,4 +3,4 @@ use Rattle.translate_modes.proofs.in_both.Goals as goal
 
 pub returns : goal.returns
 unfolding in_both
-returns c = rw (c.in_mode-before.ensures, c.in_mode-after.ensures)
+returns c = rw (c.in_mode.ensures, c.in_mode-2.ensures)

@@ -2,4 +2,4 @@ use Rattle.translate_modes.specs.Modes.{ignored_wrote}
 use Rattle.translate_modes.proofs.put_ignored.Goals as goal
 
 pub returns : goal.returns
-returns c = ignored_wrote c.well_formed.0.0 _ _ c.put_rule-at.ensures c.put_clause-at.ensures c.put_compared-at.ensures c.put_compared.ensures
+returns c = ignored_wrote _ _ c.rule.ensures c.clause.ensures c.compared.ensures c.compared-2.ensures

@@ -5,16 +5,16 @@ pub returns-in-0 : goal.returns-in-0
 returns-in-0 c = rw c.in-0.is
 
 pub returns-in-1 : goal.returns-in-1
-returns-in-1 c = rw c.in-1.is
+returns-in-1 c = rw c.in-1.is c.from.ensures
 
 pub returns-in-2 : goal.returns-in-2
-returns-in-2 c = rw c.in-2.is
+returns-in-2 c = rw c.in-2.is c.from-in-2.ensures
 
 pub returns-in-3 : goal.returns-in-3
-returns-in-3 c = rw c.in-3.is
+returns-in-3 c = rw c.in-3.is c.from-in-3.ensures
 
 pub returns-in-4 : goal.returns-in-4
 returns-in-4 c = rw c.in-4.is
 
 pub returns-in_default : goal.returns-in_default
-returns-in_default c = simp (ne_eqb _ _ c.in_default.in_default-own.rest.0.0.0.0.1, ne_eqb _ _ c.in_default.in_default-own.rest.0.0.0.1, ne_eqb _ _ c.in_default.in_default-own.rest.0.0.1, ne_eqb _ _ c.in_default.in_default-own.rest.0.1, ne_eqb _ _ c.in_default.in_default-own.rest.1)
+returns-in_default c = let r = c.in_default.in_default-own.rest in simp (ne_eqb _ _ r.0.0.0.0.1, ne_eqb _ _ r.0.0.0.1, ne_eqb _ _ r.0.0.1, ne_eqb _ _ r.0.1, ne_eqb _ _ r.1) c.from-in_default.ensures

@@ -4,6 +4,6 @@ use Rattle.translate_threads.specs.Bodies.{wrote_body}
 use Rattle.translate_threads.proofs.put_deactivate_rule.Goals as goal
 
 pub returns : goal.returns
-returns c = wrote_body _ _ _ c.well_formed.0.0 c.put_rule-at.ensures
-    (λ h. wrote_more joins_clauses _ _ h c.put_active_is-at.ensures (λ h. c.put_state_is-at.ensures))
-    (λ h. wrote_more joins_updates _ _ h c.put_state-at.ensures (λ h. c.put_left.ensures))
+returns c = wrote_body _ _ _ c.rule.ensures
+    (wrote_more joins_clauses _ _ c.put_active_is.ensures (c.put_state_is.ensures))
+    (wrote_more joins_updates _ _ c.put_state.ensures (c.put_left.ensures))

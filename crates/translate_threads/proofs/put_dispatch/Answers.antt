@@ -4,4 +4,4 @@ use Rattle.translate_threads.proofs.put_dispatch.Goals as goal
 
 pub returns : goal.returns
 unfolding dispatch_rules
-returns c = wrote_body _ _ _ c.well_formed.0.0 c.put_rule-at.ensures (λ h. c.put_dispatch_clauses-at.ensures) (λ h. c.put_dispatch_updates.ensures)
+returns c = wrote_body _ _ _ c.rule.ensures (c.put_dispatch_clauses.ensures) (c.put_dispatch_updates.ensures)

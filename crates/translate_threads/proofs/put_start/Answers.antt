@@ -4,4 +4,4 @@ use Rattle.translate_threads.proofs.put_start.Goals as goal
 
 pub returns : goal.returns
 unfolding start_rules
-returns c = rw (← c.thread_at-own.ensures) (wrote_body _ _ _ c.well_formed.0.0 c.put_rule-at.ensures (λ h. c.put_start_clauses-at.ensures) (λ h. c.put_start_updates.ensures))
+returns c = rw (← c.thread_at-own.ensures) (wrote_body _ _ _ c.rule.ensures (c.put_start_clauses.ensures) (c.put_start_updates.ensures))

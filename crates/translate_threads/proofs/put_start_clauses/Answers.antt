@@ -3,6 +3,4 @@ use Rattle.translate_waits.specs.Named.{clause_named, wrote_more}
 use Rattle.translate_threads.proofs.put_start_clauses.Goals as goal
 
 pub returns : goal.returns
-returns c = wrote_more joins_clauses _ _ c.well_formed.0.0 c.put_state_is-at.ensures (λ h.
-    wrote_more joins_clauses _ _ h c.put_equals-at.ensures (λ h.
-    wrote_more joins_clauses _ _ h (clause_named _ _ c.due_var-due.ensures c.put_different-at.ensures) (λ h. c.put_immediate_waits.ensures)))
+returns c = wrote_more joins_clauses _ _ c.put_state_is.ensures (wrote_more joins_clauses _ _ c.equals.ensures (wrote_more joins_clauses _ _ (clause_named _ _ c.due_var-due.ensures c.different.ensures) (c.put_immediate_waits.ensures)))

@@ -1,7 +1,6 @@
 use borrow.Author.Tests.{ne_eqb}
 use Rattle.translation.specs.Rules.{timing_rules}
 use Rattle.translator.specs.Groups.{no_rules}
-use borrow.Author.Rules.{rules}
 use Rattle.translator.proofs.put_item.Goals as goal
 
 pub put_dispatch-requires : goal.put_dispatch-requires
@@ -57,4 +56,4 @@ returns-in-10 c = rw c.in-10.is c.put_leave.ensures
 
 pub returns-in_default : goal.returns-in_default
 unfolding timing_rules
-returns-in_default c = no_rules _ _ _ (simp (ne_eqb _ 1 c.in_default.in_default-own.rest.0.0.0.0.0.0.0.0.1, ne_eqb _ 2 c.in_default.in_default-own.rest.0.0.0.0.0.0.0.1, ne_eqb _ 3 c.in_default.in_default-own.rest.0.0.0.0.0.0.1, ne_eqb _ 4 c.in_default.in_default-own.rest.0.0.0.0.0.1, ne_eqb _ 6 c.in_default.in_default-own.rest.0.0.0.0.1, ne_eqb _ 7 c.in_default.in_default-own.rest.0.0.0.1, ne_eqb _ 8 c.in_default.in_default-own.rest.0.0.1, ne_eqb _ 9 c.in_default.in_default-own.rest.0.1, ne_eqb _ 10 c.in_default.in_default-own.rest.1)) (search rules)
+returns-in_default c = no_rules _ _ _ (simp (ne_eqb _ 1 c.in_default.in_default-own.rest.0.0.0.0.0.0.0.0.1, ne_eqb _ 2 c.in_default.in_default-own.rest.0.0.0.0.0.0.0.1, ne_eqb _ 3 c.in_default.in_default-own.rest.0.0.0.0.0.0.1, ne_eqb _ 4 c.in_default.in_default-own.rest.0.0.0.0.0.1, ne_eqb _ 6 c.in_default.in_default-own.rest.0.0.0.0.1, ne_eqb _ 7 c.in_default.in_default-own.rest.0.0.0.1, ne_eqb _ 8 c.in_default.in_default-own.rest.0.0.1, ne_eqb _ 9 c.in_default.in_default-own.rest.0.1, ne_eqb _ 10 c.in_default.in_default-own.rest.1))

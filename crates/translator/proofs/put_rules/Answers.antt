@@ -1,27 +1,25 @@
-use Prim.Native.Nat.{◌-◌}
-use native.Mathlib.Omega.{arith}
+use Rattle.std.proofs.Common.{get_or}
 use Rattle.model_words.specs.Words.{model_in}
-use Rattle.translator.specs.Groups.{complete_kind_lem, other_kind, all_rules, loop_start, loop_on, loop_over}
-use borrow.Author.Rules.{rules}
+use Rattle.table_format.specs.RuleKinds.{rule_kinds}
+use Rattle.table_writer.specs.Lists.{joins_rules}
+use Rattle.table_writer.specs.WritesLaws.{writes_begin, writes_next, writes_end}
+use Rattle.translator.specs.Groups.{kind_rules, complete_kind_lem, other_kind, all_rules}
+use Rattle.translator.proofs.put_rules.Goals.{then-kind-eq-COMPLETE, else-kind-eq-COMPLETE}
 use Rattle.translator.proofs.put_rules.Goals as goal
 
 pub loop-number-init : goal.loop-number-init
-loop-number-init c = (search rules, loop_start _ (search rules) (search rules))
+loop-number-init c = writes_begin joins_rules _
 
-pub put_completes-at-requires : goal.put_completes-at-requires
-put_completes-at-requires c = c.requires
-
-pub loop-number-preserved-then-kind-eq-COMPLETE : goal.loop-number-preserved-then-kind-eq-COMPLETE
-loop-number-preserved-then-kind-eq-COMPLETE c = (search rules, loop_on _ c.loop-number.invariant.1 (complete_kind_lem (model_in c.args.words.now) _ c.rule_kind-kind.ensures c.if-kind-eq-COMPLETE.true c.put_completes-at.ensures))
-
-pub put_group-at-requires : goal.put_group-at-requires
-put_group-at-requires c = c.requires.timing
+pub put_group-requires : goal.put_group-requires
+put_group-requires c = c.requires.timing
 
 pub loop-number-preserved : goal.loop-number-preserved
-loop-number-preserved c = (search rules, loop_on _ c.loop-number.invariant.1 (other_kind (model_in c.args.words.now) _ c.rule_kind-kind.ensures c.if-kind-eq-COMPLETE.false c.put_group-at.ensures))
-
-pub shape_of-output : goal.shape_of-output
-shape_of-output c = c.loop-number.invariant.1.same
+loop-number-preserved c =
+    let m = model_in c.args.words.now in
+    writes_next joins_rules _ (λ k. kind_rules m (get_or rule_kinds k 0)) c.loop-number.invariant (elim c.if-kind-eq-COMPLETE.branch [
+      | then-kind-eq-COMPLETE w ↦ rw w.out-is (complete_kind_lem m _ c.rule_kind-kind.ensures w.if-kind-eq-COMPLETE.true w.put_completes.ensures)
+      | else-kind-eq-COMPLETE w ↦ rw w.out-is (other_kind m _ c.rule_kind-kind.ensures w.if-kind-eq-COMPLETE.false w.put_group.ensures)
+    ])
 
 pub returns : goal.returns
-returns c = rw (← all_rules (model_in c.args.words.now)) (loop_over _ c.loop-number.invariant.1 10 (let h = c.loop-number.invariant.0 in let k = c.loop-number-test.false in omega arith))
+returns c = rw (← all_rules (model_in c.args.words.now)) (writes_end joins_rules _ 10 _ c.loop-number.auto.number-end c.loop-number-test.false c.loop-number.invariant)

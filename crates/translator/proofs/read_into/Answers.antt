@@ -1,5 +1,5 @@
 use Rattle.model_reader.specs.Lent.{whole_read}
-use borrow.Author.Rules.{rules}
+use Rattle.std.proofs.Common.{rules}
 use Rattle.translator.proofs.read_into.Goals as goal
 
 pub returns : goal.returns

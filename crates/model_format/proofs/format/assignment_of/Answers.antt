@@ -3,4 +3,4 @@ use Rattle.model_format.proofs.format.assignment_of.Goals as goal
 
 pub returns : goal.returns
 unfolding format.assignment_of
-returns c = rw (c.operand_at-second.ensures, c.operand_at-first.ensures, c.byte_at-op.ensures, c.u16_of_u8-number.ensures.0, c.byte_at.ensures, c.byte_at-tag.ensures)
+returns c = rw (c.from.ensures, c.item_or.ensures, c.item_or-2.ensures, c.item_or-3.ensures, c.operand_at.ensures, c.operand_at-2.ensures)

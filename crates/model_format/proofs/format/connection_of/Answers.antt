@@ -3,4 +3,4 @@ use Rattle.model_format.proofs.format.connection_of.Goals as goal
 
 pub returns : goal.returns
 unfolding format.connection_of
-returns c = rw (c.byte_at-modes.ensures, c.u16_of_u8-target.ensures.0, c.byte_at-2.ensures, c.u16_of_u8-source.ensures.0, c.byte_at.ensures, c.byte_at-kind.ensures)
+returns c = rw (c.from.ensures, c.from-2.ensures, c.item_or.ensures, c.item_or-2.ensures, c.item_or-3.ensures, c.item_or-4.ensures)

@@ -3,4 +3,4 @@ use Rattle.model_format.proofs.format.head_of.Goals as goal
 
 pub returns : goal.returns
 unfolding format.head_of
-returns c = rw (c.byte_at-initial.ensures, c.byte_at-modes.ensures)
+returns c = rw (c.item_or.ensures, c.item_or-2.ensures)

@@ -3,4 +3,4 @@ use Rattle.model_format.proofs.format.input_of.Goals as goal
 
 pub returns : goal.returns
 unfolding format.input_of
-returns c = rw c.byte_at-owner.ensures
+returns c = rw c.item_or.ensures

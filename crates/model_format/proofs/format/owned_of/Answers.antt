@@ -3,4 +3,4 @@ use Rattle.model_format.proofs.format.owned_of.Goals as goal
 
 pub returns : goal.returns
 unfolding format.owned_of
-returns c = rw (c.value_at-start.ensures, c.byte_at-owner.ensures)
+returns c = rw (c.item_or.ensures, c.value_at.ensures)

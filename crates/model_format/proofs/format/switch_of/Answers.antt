@@ -3,4 +3,4 @@ use Rattle.model_format.proofs.format.switch_of.Goals as goal
 
 pub returns : goal.returns
 unfolding format.switch_of
-returns c = rw (c.byte_at-to.ensures, c.byte_at-from.ensures)
+returns c = rw (c.item_or.ensures, c.item_or-2.ensures)

@@ -3,4 +3,4 @@ use Rattle.model_format.proofs.format.thread_of.Goals as goal
 
 pub returns : goal.returns
 unfolding format.thread_of
-returns c = rw (c.byte_at-first.ensures, c.byte_at-critical.ensures, c.byte_at-modes.ensures, c.duration_at-wcet.ensures, c.duration_at-bcet.ensures, c.duration_at-deadline.ensures, c.duration_at-period.ensures)
+returns c = rw (c.item_or.ensures, c.item_or-2.ensures, c.item_or-3.ensures, c.duration_at.ensures, c.duration_at-2.ensures, c.duration_at-3.ensures, c.duration_at-4.ensures)

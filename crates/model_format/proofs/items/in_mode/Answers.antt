@@ -1,4 +1,4 @@
-use borrow.Author.Tests.{lt-ltb, le-ltb}
+use Rattle.std.proofs.Common.{lt-ltb, le-ltb}
 use Rattle.model_format.specs.Model as model
 use Rattle.model_format.proofs.items.in_mode.Goals as goal
 

@@ -1,13 +1,8 @@
-use Prim.Native.Nat.{◌≤◌, ◌-◌}
-use mathlib.Core.Path.{◌≡◌}
-use lib.ListN.{length}
+use Rattle.std.proofs.Common.{◌≡◌, length}
 use Rattle.model_state.specs.Words.{state_in}
 use Rattle.model_words.specs.Words.{timing_in}
 use Rattle.model_ports.specs.Sends.{sent_below}
 use Rattle.model_ports.proofs.connections.send.Given as goal
 
 abbrev pub invariant-loop-c : goal.invariant-loop-c
-invariant-loop-c l = (l.c ≤ l.count) × (length l.state ≡ length l.initial.state) × (state_in l.state ≡ sent_below (timing_in l.model) (state_in l.initial.state) l.kind l.t l.c)
-
-abbrev pub decreases-loop-c : goal.decreases-loop-c
-decreases-loop-c l = l.count - l.c
+invariant-loop-c l = (length l.state ≡ length l.initial.state) × (state_in l.state ≡ sent_below (timing_in l.model) (state_in l.initial.state) l.kind l.t l.c)

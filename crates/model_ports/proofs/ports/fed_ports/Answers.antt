@@ -1,19 +1,17 @@
-use native.Mathlib.Omega.{arith}
-use Prim.Native.Nat.{◌-◌}
-use Rattle.model_ports.specs.Ports.{marked_none, marked_past, marked_next, marked_all}
+use Rattle.std.proofs.Common.{arith, sym, ◌∙◌}
+use Rattle.model_ports.specs.Ports.{marked_none, marked_fed, marked_unfed, marked_all}
 use Rattle.model_ports.proofs.ports.fed_ports.Goals as goal
+use Rattle.model_ports.proofs.ports.fed_ports.Goals.{in-Some, in_default}
 
 pub loop-c-init : goal.loop-c-init
-loop-c-init c = (omega arith, marked_none _ _)
-
-pub loop-c-preserved-then-i-ge-MAX_INPUTS : goal.loop-c-preserved-then-i-ge-MAX_INPUTS
-loop-c-preserved-then-i-ge-MAX_INPUTS c = (omega arith, marked_past _ _ _ _ c.loop-c.invariant.1 _ c.fed_port-i.ensures c.if-i-ge-MAX_INPUTS.true)
-
-pub bounds-marks-i : goal.bounds-marks-i
-bounds-marks-i c = omega (arith, c.loop-c.invariant.1.size, c.if-i-ge-MAX_INPUTS.false)
+loop-c-init c = marked_none _ _
 
 pub loop-c-preserved : goal.loop-c-preserved
-loop-c-preserved c = (omega arith, marked_next _ _ _ _ c.loop-c.invariant.1 _ c.fed_port-i.ensures c.if-i-ge-MAX_INPUTS.false)
+loop-c-preserved c =
+    elim c.match-fed_port.branch [
+      | in-Some w ↦ rw (w.marks-is, w.put_item.ensures) (marked_fed _ _ _ _ c.loop-c.invariant _ (sym c.fed_port.ensures ∙ w.in-Some.is))
+      | in_default w ↦ rw w.marks-is (marked_unfed _ _ _ _ c.loop-c.invariant (sym c.fed_port.ensures ∙ w.in_default.is))
+    ]
 
 pub returns : goal.returns
-returns c = marked_all _ _ _ _ _ (rw c.connections.ensures at c.within-count.ensures) c.loop-c.invariant.0 c.loop-c-test.false c.loop-c.invariant.1
+returns c = marked_all _ _ _ _ _ (rw c.connections.ensures at c.min-count.ensures) (omega arith) (omega arith) c.loop-c.invariant

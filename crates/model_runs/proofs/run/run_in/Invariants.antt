@@ -1,6 +1,4 @@
-use mathlib.Core.Path.{◌≡◌}
-use Prim.Native.Nat.{◌-◌, ◌≤◌}
-use lib.ListN.{length, drop}
+use Rattle.std.proofs.Common.{◌≡◌, ◌≤◌, length, drop}
 use Rattle.records.specs.declared.Notation.TheVariants as notations
 use Rattle.records.specs.Format.{parts}
 use Rattle.records.specs.Run.{run_from}
@@ -10,7 +8,7 @@ use Rattle.model_words.specs.Words.{model_in}
 use Rattle.model_runs.proofs.run.run_in.Given as goal
 
 abbrev pub invariant-loop-at : goal.invariant-loop-at
-invariant-loop-at l = (l.taken ≤ l.at) × (l.at ≤ length l.script) × (length l.state ≡ length l.initial.state) × (run_from (machine_of (model_in l.model)) (state_in l.state) l.taken l.at (parts notations.Script (drop l.at l.script)) ≡ run_model (model_in l.model) l.script)
-
-abbrev pub decreases-loop-at : goal.decreases-loop-at
-decreases-loop-at l = length l.script - l.at
+invariant-loop-at l =
+    let walk = l.at-iterator in
+    (goal.iterator-loop-at).can_next walk × (goal.iterator-loop-at).is_finite walk × (walk.script.now ≡ l.script) × (l.taken ≤ walk.at) × (walk.at ≤ length l.script) × (length l.state ≡ length l.initial.state)
+    × (run_from (machine_of (model_in l.model)) (state_in l.state) l.taken walk.at (parts notations.Script (drop walk.at l.script)) ≡ run_model (model_in l.model) l.script)

@@ -1,5 +1,5 @@
+use Rattle.std.proofs.Common.{refl}
 use Rattle.model_state.specs.Words.{byte_in}
-use mathlib.Core.Path.{refl}
 use Rattle.model_state.proofs.reading.byte_of.Goals as goal
 
 pub returns : goal.returns

@@ -1,9 +1,10 @@
-use Rattle.model_state.specs.StateLaws.{code_past, code_at}
-use mathlib.Core.Path.{◌∙◌}
+use Rattle.std.proofs.Common.{◌∙◌}
+use Rattle.model_format.specs.Model.{max_threads}
+use Rattle.model_semantics.specs.State as semantics
+use Rattle.model_state.specs.Words as words
+use Rattle.model_state.specs.Sections.{section_number}
 use Rattle.model_state.proofs.reading.code_of.Goals as goal
 
-pub returns-then-thread-ge-MAX_THREADS : goal.returns-then-thread-ge-MAX_THREADS
-returns-then-thread-ge-MAX_THREADS c = code_past _ _ c.if-thread-ge-MAX_THREADS.true
-
 pub returns : goal.returns
-returns c = c.byte_of.ensures ∙ code_at _ _ _ c.if-thread-ge-MAX_THREADS.false c.word_at.ensures
+unfolding words.state_in words.threads_in words.byte_in semantics.code_of
+returns c = c.byte_of.ensures ∙ section_number words.byte_in words.code_base max_threads _ _ _ c.number_at.ensures

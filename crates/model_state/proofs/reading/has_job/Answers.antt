@@ -1,4 +1,4 @@
-use mathlib.Core.Path.{refl}
+use Rattle.std.proofs.Common.{refl}
 use Rattle.model_semantics.specs.Tests.{is_unfinished, has_job}
 use Rattle.model_state.proofs.reading.has_job.Goals as goal
 

@@ -1,11 +1,10 @@
-use Rattle.model_state.specs.StateLaws.{input_past, input_at_lem}
-use mathlib.Core.Path.{◌∙◌}
-use Rattle.model_state.specs.Words.{value_in}
+use Rattle.std.proofs.Common.{◌∙◌}
+use Rattle.model_format.specs.Model.{max_inputs}
+use Rattle.model_semantics.specs.State as semantics
+use Rattle.model_state.specs.Words as words
+use Rattle.model_state.specs.Sections.{section_number}
 use Rattle.model_state.proofs.reading.input_value.Goals as goal
 
-pub returns-then-port-ge-MAX_INPUTS : goal.returns-then-port-ge-MAX_INPUTS
-returns-then-port-ge-MAX_INPUTS c = input_past _ _ c.if-port-ge-MAX_INPUTS.true
-
 pub returns : goal.returns
-unfolding value_in
-returns c = c.value_of.ensures ∙ input_at_lem _ _ _ c.if-port-ge-MAX_INPUTS.false c.word_at.ensures
+unfolding words.state_in words.ports_in words.value_in semantics.input_value
+returns c = c.value_of.ensures ∙ section_number words.value_in words.input_base max_inputs _ _ _ c.number_at.ensures

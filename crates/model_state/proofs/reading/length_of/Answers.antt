@@ -1,8 +1,9 @@
-use Rattle.model_state.specs.StateLaws.{length_past, length_at}
+use Rattle.model_format.specs.Model.{max_threads}
+use Rattle.model_semantics.specs.State as semantics
+use Rattle.model_state.specs.Words as words
+use Rattle.model_state.specs.Sections.{section_number}
 use Rattle.model_state.proofs.reading.length_of.Goals as goal
 
-pub returns-then-thread-ge-MAX_THREADS : goal.returns-then-thread-ge-MAX_THREADS
-returns-then-thread-ge-MAX_THREADS c = length_past _ _ c.if-thread-ge-MAX_THREADS.true
-
 pub returns : goal.returns
-returns c = length_at _ _ _ c.if-thread-ge-MAX_THREADS.false c.word_at.ensures
+unfolding words.state_in words.threads_in semantics.length_of
+returns c = section_number words.duration_in words.length_base max_threads _ _ _ c.number_at.ensures

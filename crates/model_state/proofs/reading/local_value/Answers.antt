@@ -1,11 +1,10 @@
-use Rattle.model_state.specs.StateLaws.{local_past, local_at}
-use mathlib.Core.Path.{◌∙◌}
-use Rattle.model_state.specs.Words.{value_in}
+use Rattle.std.proofs.Common.{◌∙◌}
+use Rattle.model_format.specs.Model.{max_locals}
+use Rattle.model_semantics.specs.State as semantics
+use Rattle.model_state.specs.Words as words
+use Rattle.model_state.specs.Sections.{section_number}
 use Rattle.model_state.proofs.reading.local_value.Goals as goal
 
-pub returns-then-local-ge-MAX_LOCALS : goal.returns-then-local-ge-MAX_LOCALS
-returns-then-local-ge-MAX_LOCALS c = local_past _ _ c.if-local-ge-MAX_LOCALS.true
-
 pub returns : goal.returns
-unfolding value_in
-returns c = c.value_of.ensures ∙ local_at _ _ _ c.if-local-ge-MAX_LOCALS.false c.word_at.ensures
+unfolding words.state_in words.ports_in words.value_in semantics.local_value
+returns c = c.value_of.ensures ∙ section_number words.value_in words.local_base max_locals _ _ _ c.number_at.ensures

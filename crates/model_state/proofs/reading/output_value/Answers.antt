@@ -1,11 +1,10 @@
-use Rattle.model_state.specs.StateLaws.{output_past, output_at}
-use mathlib.Core.Path.{◌∙◌}
-use Rattle.model_state.specs.Words.{value_in}
+use Rattle.std.proofs.Common.{◌∙◌}
+use Rattle.model_format.specs.Model.{max_outputs}
+use Rattle.model_semantics.specs.State as semantics
+use Rattle.model_state.specs.Words as words
+use Rattle.model_state.specs.Sections.{section_number}
 use Rattle.model_state.proofs.reading.output_value.Goals as goal
 
-pub returns-then-port-ge-MAX_OUTPUTS : goal.returns-then-port-ge-MAX_OUTPUTS
-returns-then-port-ge-MAX_OUTPUTS c = output_past _ _ c.if-port-ge-MAX_OUTPUTS.true
-
 pub returns : goal.returns
-unfolding value_in
-returns c = c.value_of.ensures ∙ output_at _ _ _ c.if-port-ge-MAX_OUTPUTS.false c.word_at.ensures
+unfolding words.state_in words.ports_in words.value_in semantics.output_value
+returns c = c.value_of.ensures ∙ section_number words.value_in words.output_base max_outputs _ _ _ c.number_at.ensures

@@ -1,9 +1,10 @@
+use Rattle.std.proofs.Common.{List, ℕ, ◌≡◌, refl, rules}
+use Rattle.model_state.specs.Parts as parts
+use Rattle.model_format.specs.Laws.{by_room}
+use Rattle.model_state.specs.Words as words
 use Rattle.model_state.specs.StateLaws.{put_input_lem, skip_input, value_back}
-use borrow.Author.Rules.{rules}
 use Rattle.model_state.proofs.writing.put_input.Goals as goal
 
-pub returns-then-port-lt-MAX_INPUTS : goal.returns-then-port-lt-MAX_INPUTS
-returns-then-port-lt-MAX_INPUTS c = put_input_lem _ _ _ _ _ c.if-port-lt-MAX_INPUTS.true c.put_word.ensures (value_back _ _ c.bits.ensures (search rules))
-
-pub returns-else-port-lt-MAX_INPUTS : goal.returns-else-port-lt-MAX_INPUTS
-returns-else-port-lt-MAX_INPUTS c = skip_input _ _ _ c.if-port-lt-MAX_INPUTS.false
+pub returns : goal.returns
+returns c =
+    by_room (λ (l : List ℕ). words.state_in l ≡ parts.put_input (words.state_in c.args.state.now) c.args.port c.args.value) c.put_number.ensures (λ h. put_input_lem _ _ _ _ _ h refl (value_back _ _ c.bits.ensures (search rules))) (λ h. skip_input _ _ _ h)

@@ -1,9 +1,10 @@
+use Rattle.std.proofs.Common.{List, ℕ, ◌≡◌, refl, rules}
+use Rattle.model_state.specs.Parts as parts
+use Rattle.model_format.specs.Laws.{by_room}
+use Rattle.model_state.specs.Words as words
 use Rattle.model_state.specs.StateLaws.{put_local_lem, skip_local, value_back}
-use borrow.Author.Rules.{rules}
 use Rattle.model_state.proofs.writing.put_local.Goals as goal
 
-pub returns-then-local-lt-MAX_LOCALS : goal.returns-then-local-lt-MAX_LOCALS
-returns-then-local-lt-MAX_LOCALS c = put_local_lem _ _ _ _ _ c.if-local-lt-MAX_LOCALS.true c.put_word.ensures (value_back _ _ c.bits.ensures (search rules))
-
-pub returns-else-local-lt-MAX_LOCALS : goal.returns-else-local-lt-MAX_LOCALS
-returns-else-local-lt-MAX_LOCALS c = skip_local _ _ _ c.if-local-lt-MAX_LOCALS.false
+pub returns : goal.returns
+returns c =
+    by_room (λ (l : List ℕ). words.state_in l ≡ parts.put_local (words.state_in c.args.state.now) c.args.local c.args.value) c.put_number.ensures (λ h. put_local_lem _ _ _ _ _ h refl (value_back _ _ c.bits.ensures (search rules))) (λ h. skip_local _ _ _ h)

@@ -1,5 +1,6 @@
+use Rattle.std.proofs.Common.{arith}
 use Rattle.model_state.specs.StateLaws.{put_pending, byte_back}
 use Rattle.model_state.proofs.writing.put_pending.Goals as goal
 
 pub returns : goal.returns
-returns c = put_pending c.args.state.now _ _ c.requires _ c.put_word.ensures (byte_back _ _ c.u32_of_u8.ensures.0 c.u32_of_u8.ensures.1)
+returns c = put_pending c.args.state.now _ _ c.requires _ c.put_item.ensures (byte_back _ _ c.from.ensures (omega (arith, c.ranges)))

@@ -1,6 +1,5 @@
 use Rattle.model_tests.specs.Jobs.{may_act}
-use mathlib.Core.Path.{sym, ◌∙◌}
-use borrow.Author.Tests.{ne_eqb}
+use Rattle.std.proofs.Common.{sym, ◌∙◌, ne_eqb}
 use Rattle.model_tests.proofs.jobs.may_act.Goals as goal
 
 pub returns-then-deactivates : goal.returns-then-deactivates
@@ -21,7 +20,7 @@ returns-in-2 c = rw (sym c.deactivates.ensures ∙ c.if-deactivates.false, c.in-
 
 pub returns-in-3 : goal.returns-in-3
 unfolding may_act
-returns-in-3 c = rw (sym c.deactivates.ensures ∙ c.if-deactivates.false, c.in-3.is, c.falls_due-in-3.ensures)
+returns-in-3 c = rw (sym c.deactivates.ensures ∙ c.if-deactivates.false, c.in-3.is, c.eq.ensures, c.falls_due-in-3.ensures)
 
 pub returns-in-4 : goal.returns-in-4
 unfolding may_act

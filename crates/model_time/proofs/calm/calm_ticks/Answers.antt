@@ -1,18 +1,12 @@
-use Rattle.model_time.specs.QuietLaws.{calm_none, calm_idle, calm_between, calm_ready, calm_running, calm_completed, calm_other}
-use native.Mathlib.Omega.{arith}
+use Rattle.model_time.specs.QuietLaws.{calm_idle, calm_between, calm_ready, calm_running, calm_completed, calm_other}
+use Rattle.std.proofs.Common.{arith}
 use Rattle.model_time.proofs.calm.calm_ticks.Goals as goal
-
-pub returns-then-job : goal.returns-then-job
-returns-then-job c = (omega arith, calm_none _ _ _)
 
 pub returns-else-job : goal.returns-else-job
 returns-else-job c = (c.to_deactivate-most.ensures.0, calm_idle _ _ _ _ _ c.to_deactivate-most.ensures.1 (omega arith) c.in-0.is c.if-job.false)
 
 pub returns-in-1 : goal.returns-in-1
 returns-in-1 c = (omega (arith, c.to_multiple.ensures.0, c.to_deactivate-most.ensures.0), calm_between _ _ _ _ _ c.to_deactivate-most.ensures.1 c.to_multiple.ensures.0 c.in-1.is c.to_multiple.ensures.1)
-
-pub returns-then-clock-eq-NONE : goal.returns-then-clock-eq-NONE
-returns-then-clock-eq-NONE c = (omega arith, calm_none _ _ _)
 
 pub returns-else-clock-eq-NONE : goal.returns-else-clock-eq-NONE
 returns-else-clock-eq-NONE c = (omega (arith, c.to_due.ensures.0, c.to_deactivate-most.ensures.0), calm_ready _ _ _ _ _ c.to_deactivate-most.ensures.1 c.to_due.ensures.0 c.in-2.is c.if-clock-eq-NONE.false c.to_due.ensures.1)

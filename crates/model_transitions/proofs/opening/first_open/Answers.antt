@@ -1,16 +1,13 @@
-use Prim.Native.Nat.{◌-◌}
-use native.Mathlib.Omega.{arith}
-use Rattle.model_transitions.specs.OpenLaws.{passed_none, passed_next, first_is, first_end}
+use Rattle.std.proofs.Common.{arith, refl, rules}
+use Rattle.std.proofs.lemmas.Iterator.{YieldsList-from_range}
+use Rattle.std.proofs.lemmas.Iterator.Search.{find_from_yields_List}
+use Rattle.model_state.specs.Words.{state_in}
+use Rattle.model_words.specs.Words.{behavior_in}
+use Rattle.model_transitions.specs.OpenLaws.{is_open_from, first_by_find}
 use Rattle.model_transitions.proofs.opening.first_open.Goals as goal
 
-pub loop-k-init : goal.loop-k-init
-loop-k-init c = (omega arith, passed_none _ _ _ _)
-
-pub returns-then-is_open : goal.returns-then-is_open
-returns-then-is_open c = first_is _ _ _ _ _ _ c.behavior_of-from.ensures c.looked_at-n.ensures c.loop-k.invariant.1 _ c.loop-k-test.true c.is_open.ensures c.if-is_open.true
-
-pub loop-k-preserved : goal.loop-k-preserved
-loop-k-preserved c = (omega arith, passed_next _ _ _ _ _ _ c.loop-k.invariant.1 c.is_open.ensures c.if-is_open.false)
-
 pub returns : goal.returns
-returns c = first_end _ _ _ _ _ _ c.behavior_of-from.ensures c.looked_at-n.ensures c.loop-k.invariant.1 _ c.transitions.ensures c.loop-k-test.false
+returns c =
+    let n = c.looked_at.result in
+    let found = find_from_yields_List (is_open_from (behavior_in c.args.model.now) (state_in c.args.state.now).ports c.behavior_of-from.result c.args.t) _ _ _ c.find-open.ensures.ran (YieldsList-from_range 0 n n refl (omega arith)) (λ x b q k. search rules) in
+    first_by_find _ _ _ _ _ c.behavior_of-from.ensures c.looked_at.ensures _ found _ c.transitions.ensures _ c.unwrap_or.ensures

@@ -3,4 +3,4 @@ use Rattle.model_transitions.proofs.opening.starts_from.Goals as goal
 
 pub returns : goal.returns
 unfolding starts_from
-returns c = rw c.usize_of_u8-thread.ensures.0
+returns c = rw c.from.ensures

@@ -1,8 +1,9 @@
-use Rattle.model_words.specs.Laws.{assignment_there, assignment_missing}
+use Rattle.std.proofs.Common.{◌∙◌, ◌+◌, ◌*◌}
+use Rattle.model_format.specs.Model as items
+use Rattle.model_words.specs.Words as words
+use Rattle.model_words.specs.Laws.{item_capped}
 use Rattle.model_words.proofs.items.assignment_at.Goals as goal
 
-pub returns-then-at-ge-MAX_TIMES : goal.returns-then-at-ge-MAX_TIMES
-returns-then-at-ge-MAX_TIMES c = assignment_missing _ _ _ _ c.place-at.ensures _ c.if-at-ge-MAX_TIMES.true c.no_assignment.ensures
-
 pub returns : goal.returns
-returns c = assignment_there _ _ _ _ c.place-at.ensures _ c.if-at-ge-MAX_TIMES.false c.assignment_in.ensures
+unfolding items.assignment_at words.behavior_in words.assignments_in
+returns c = c.item_at.ensures ∙ item_capped items.max_times (words.assignments_in c.args.model.now) _ (c.args.transition * items.max_each + c.args.number) items.no_assignment c.place.ensures

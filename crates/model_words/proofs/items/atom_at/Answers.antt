@@ -1,8 +1,9 @@
-use Rattle.model_words.specs.Laws.{atom_there, atom_missing}
+use Rattle.std.proofs.Common.{◌∙◌, ◌+◌, ◌*◌}
+use Rattle.model_format.specs.Model as items
+use Rattle.model_words.specs.Words as words
+use Rattle.model_words.specs.Laws.{item_capped}
 use Rattle.model_words.proofs.items.atom_at.Goals as goal
 
-pub returns-then-at-ge-MAX_TIMES : goal.returns-then-at-ge-MAX_TIMES
-returns-then-at-ge-MAX_TIMES c = atom_missing _ _ _ _ c.place-at.ensures _ c.if-at-ge-MAX_TIMES.true c.no_atom.ensures
-
 pub returns : goal.returns
-returns c = atom_there _ _ _ _ c.place-at.ensures _ c.if-at-ge-MAX_TIMES.false c.atom_in.ensures
+unfolding items.atom_at words.behavior_in words.atoms_in
+returns c = c.item_at.ensures ∙ item_capped items.max_times (words.atoms_in c.args.model.now) _ (c.args.transition * items.max_each + c.args.number) items.no_atom c.place.ensures

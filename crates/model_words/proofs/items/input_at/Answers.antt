@@ -1,8 +1,7 @@
-use Rattle.model_words.specs.Laws.{input_there, input_missing}
+use Rattle.model_format.specs.Model as items
+use Rattle.model_words.specs.Words as words
 use Rattle.model_words.proofs.items.input_at.Goals as goal
 
-pub returns-then-port-ge-MAX_INPUTS : goal.returns-then-port-ge-MAX_INPUTS
-returns-then-port-ge-MAX_INPUTS c = input_missing _ _ _ c.if-port-ge-MAX_INPUTS.true c.no_owned.ensures
-
 pub returns : goal.returns
-returns c = input_there _ _ _ c.if-port-ge-MAX_INPUTS.false c.owned_in.ensures
+unfolding items.input_at words.timing_in words.inputs_in
+returns c = c.item_at.ensures

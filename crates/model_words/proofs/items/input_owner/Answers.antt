@@ -1,4 +1,4 @@
-use mathlib.Core.Path.{refl}
+use Rattle.std.proofs.Common.{refl}
 use Rattle.model_words.specs.Laws.{owner_there, owner_missing}
 use Rattle.model_words.proofs.items.input_owner.Goals as goal
 

@@ -1,9 +1,12 @@
-use mathlib.Core.Path.{refl}
-use Rattle.model_words.specs.Laws.{output_there, output_missing}
+use Rattle.std.proofs.Common.{◌∙◌, ◌+◌, ◌*◌, ◌≡◌, ap, arith, List, ℕ}
+use Rattle.numbers.specs.Lists.{item}
+use Rattle.numbers.specs.ListLaws.{list_below_same}
+use Rattle.model_format.specs.Model as items
+use Rattle.model_words.specs.Words as words
 use Rattle.model_words.proofs.items.output_owner.Goals as goal
 
-pub returns-then-port-ge-MAX_OUTPUTS : goal.returns-then-port-ge-MAX_OUTPUTS
-returns-then-port-ge-MAX_OUTPUTS c = output_missing _ _ _ c.if-port-ge-MAX_OUTPUTS.true refl
-
 pub returns : goal.returns
-returns c = output_there _ _ _ c.if-port-ge-MAX_OUTPUTS.false c.byte_in.ensures
+unfolding items.output_owner words.timing_in words.outputs_in
+returns c =
+    c.item_at.ensures
+    ∙ ap (λ (l : List ℕ). item items.max_outputs l c.args.port 0) (list_below_same items.max_outputs (λ j. words.byte_in c.args.model.now (words.outputs_from + j * 1)) (λ j. words.byte_in c.args.model.now (words.outputs_from + j)) (λ j k. let z : j * 1 ≡ j = omega arith in rw z))

@@ -1,8 +1,7 @@
-use Rattle.model_words.specs.Laws.{thread_there, thread_missing}
+use Rattle.model_format.specs.Model as items
+use Rattle.model_words.specs.Words as words
 use Rattle.model_words.proofs.items.thread_at.Goals as goal
 
-pub returns-then-thread-ge-MAX_THREADS : goal.returns-then-thread-ge-MAX_THREADS
-returns-then-thread-ge-MAX_THREADS c = thread_missing _ _ _ c.if-thread-ge-MAX_THREADS.true c.no_thread.ensures
-
 pub returns : goal.returns
-returns c = thread_there _ _ _ c.if-thread-ge-MAX_THREADS.false c.thread_in.ensures
+unfolding items.thread_at words.timing_in words.threads_in
+returns c = c.item_at.ensures

@@ -1,18 +1,17 @@
-use Prim.Native.Nat.{◌-◌}
-use native.Mathlib.Omega.{arith}
+use Rattle.std.proofs.Common.{◌≡◌, arith, rules, ℕ, ◌∙◌, ap}
+use Rattle.model_words.specs.Words.{timing_in}
+use Rattle.translation_sizes.specs.Counts.{count_below}
+use Rattle.translation_sizes.specs.Items.{connection_counts}
 use Rattle.table_counts.specs.Bounds.{connection_most}
-use Rattle.table_counts.specs.Loops.{counting_begins, counting_adds, counting_next, counting_ends}
 use Rattle.table_sizes.proofs.items.connections_counts.Goals as goal
 
-pub loop-c-init : goal.loop-c-init
-loop-c-init c = counting_begins _ _ c.nothing-sum.ensures
+pub sum_counts-requires-clause-few : goal.sum_counts-requires-clause-few
+sum_counts-requires-clause-few c = let few = c.requires.connections in let e = c.connections.ensures in omega arith
 
-pub add-sum-requires : goal.add-sum-requires
-add-sum-requires c = let pre = c.requires in
-    let few = pre.connections in let e = c.connections-n.ensures in counting_adds _ _ c.loop-c.invariant c.loop-c-test.true (omega arith) (λ k l. connection_most _ k) c.connection_counts-own.ensures
-
-pub loop-c-preserved : goal.loop-c-preserved
-loop-c-preserved c = counting_next _ _ c.loop-c.invariant c.loop-c-test.true c.connection_counts-own.ensures c.add-sum.ensures
+pub sum_counts-requires-clause-small : goal.sum_counts-requires-clause-small
+sum_counts-requires-clause-small c = λ i x h k. let e : x ≡ connection_counts (timing_in c.args.model.now) i = search rules in rw e (connection_most _ i)
 
 pub returns : goal.returns
-returns c = counting_ends _ _ c.loop-c.invariant _ c.connections-n.ensures c.loop-c-test.false
+returns c =
+    c.sum_counts.ensures (connection_counts (timing_in c.args.model.now)) (λ i x h k. search rules) ∙
+    ap (λ (n : ℕ). count_below n (connection_counts (timing_in c.args.model.now))) c.connections.ensures

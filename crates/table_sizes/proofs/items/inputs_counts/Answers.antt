@@ -2,4 +2,4 @@ use Rattle.table_sizes.specs.Leaves.{inputs_told}
 use Rattle.table_sizes.proofs.items.inputs_counts.Goals as goal
 
 pub returns : goal.returns
-returns c = inputs_told _ _ c.inputs-n.ensures c.count.ensures
+returns c = inputs_told _ _ c.inputs.ensures c.count.ensures

@@ -1,18 +1,17 @@
-use Prim.Native.Nat.{◌-◌}
-use native.Mathlib.Omega.{arith}
+use Rattle.std.proofs.Common.{◌≡◌, arith, rules, ℕ, ◌∙◌, ap}
+use Rattle.model_words.specs.Words.{timing_in}
+use Rattle.translation_sizes.specs.Counts.{count_below}
+use Rattle.translation_sizes.specs.Items.{switch_counts}
 use Rattle.table_counts.specs.Bounds.{switch_most}
-use Rattle.table_counts.specs.Loops.{counting_begins, counting_adds, counting_next, counting_ends}
 use Rattle.table_sizes.proofs.items.switches_counts.Goals as goal
 
-pub loop-q-init : goal.loop-q-init
-loop-q-init c = counting_begins _ _ c.nothing-sum.ensures
+pub sum_counts-requires-clause-few : goal.sum_counts-requires-clause-few
+sum_counts-requires-clause-few c = let few = c.requires.switches in let e = c.switches.ensures in omega arith
 
-pub add-sum-requires : goal.add-sum-requires
-add-sum-requires c = let pre = c.requires in
-    let few = pre.switches in let e = c.switches-n.ensures in counting_adds _ _ c.loop-q.invariant c.loop-q-test.true (omega arith) (λ k l. switch_most _ pre k) c.switch_counts-own.ensures
-
-pub loop-q-preserved : goal.loop-q-preserved
-loop-q-preserved c = counting_next _ _ c.loop-q.invariant c.loop-q-test.true c.switch_counts-own.ensures c.add-sum.ensures
+pub sum_counts-requires-clause-small : goal.sum_counts-requires-clause-small
+sum_counts-requires-clause-small c = λ i x h k. let e : x ≡ switch_counts (timing_in c.args.model.now) i = search rules in rw e (switch_most _ c.requires i)
 
 pub returns : goal.returns
-returns c = counting_ends _ _ c.loop-q.invariant _ c.switches-n.ensures c.loop-q-test.false
+returns c =
+    c.sum_counts.ensures (switch_counts (timing_in c.args.model.now)) (λ i x h k. search rules) ∙
+    ap (λ (n : ℕ). count_below n (switch_counts (timing_in c.args.model.now))) c.switches.ensures

@@ -1,18 +1,17 @@
-use Prim.Native.Nat.{◌-◌}
-use native.Mathlib.Omega.{arith}
+use Rattle.std.proofs.Common.{◌≡◌, arith, rules, ℕ, ◌∙◌, ap}
+use Rattle.model_words.specs.Words.{timing_in}
+use Rattle.translation_sizes.specs.Counts.{count_below}
+use Rattle.translation_sizes.specs.Items.{thread_counts}
 use Rattle.table_counts.specs.Bounds.{thread_most}
-use Rattle.table_counts.specs.Loops.{counting_begins, counting_adds, counting_next, counting_ends}
 use Rattle.table_sizes.proofs.items.threads_counts.Goals as goal
 
-pub loop-t-init : goal.loop-t-init
-loop-t-init c = counting_begins _ _ c.nothing-sum.ensures
+pub sum_counts-requires-clause-few : goal.sum_counts-requires-clause-few
+sum_counts-requires-clause-few c = let few = c.requires.threads in let e = c.threads.ensures in omega arith
 
-pub add-sum-requires : goal.add-sum-requires
-add-sum-requires c = let pre = c.requires in
-    let few = pre.threads in let e = c.threads-n.ensures in counting_adds _ _ c.loop-t.invariant c.loop-t-test.true (omega arith) (λ k l. thread_most _ k) c.thread_counts-own.ensures
-
-pub loop-t-preserved : goal.loop-t-preserved
-loop-t-preserved c = counting_next _ _ c.loop-t.invariant c.loop-t-test.true c.thread_counts-own.ensures c.add-sum.ensures
+pub sum_counts-requires-clause-small : goal.sum_counts-requires-clause-small
+sum_counts-requires-clause-small c = λ i x h k. let e : x ≡ thread_counts (timing_in c.args.model.now) i = search rules in rw e (thread_most _ i)
 
 pub returns : goal.returns
-returns c = counting_ends _ _ c.loop-t.invariant _ c.threads-n.ensures c.loop-t-test.false
+returns c =
+    c.sum_counts.ensures (thread_counts (timing_in c.args.model.now)) (λ i x h k. search rules) ∙
+    ap (λ (n : ℕ). count_below n (thread_counts (timing_in c.args.model.now))) c.threads.ensures

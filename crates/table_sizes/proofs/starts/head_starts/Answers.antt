@@ -1,5 +1,6 @@
-use Rattle.table_sizes.specs.Leaves.{head_told}
+use Rattle.std.proofs.Common.{◌∙◌}
+use Rattle.table_sizes.specs.Leaves.{bit_told, head_told}
 use Rattle.table_sizes.proofs.starts.head_starts.Goals as goal
 
 pub returns : goal.returns
-returns c = head_told _ c.initial-mode.ensures c.bit_of.ensures.0
+returns c = head_told _ c.initial.ensures (c.from.ensures ∙ bit_told _)

@@ -1,21 +1,15 @@
-use Prim.Native.Nat.{◌-◌}
-use native.Mathlib.Omega.{arith}
+use Rattle.std.proofs.Common.{arith, rules}
+use Rattle.std.proofs.lemmas.Iterator.{YieldsList-from_range, YieldsList-from_map}
+use Rattle.model_words.specs.Words.{timing_in}
+use Rattle.translation_sizes.specs.Items.{input_starts}
 use Rattle.translation_sizes.proofs.Longest.{input_few}
-use Rattle.table_counts.specs.Loops.{summing_begins, summing_adds, summing_next, summing_ends}
-use borrow.Author.Rules.{rules}
+use Rattle.table_counts.specs.Chains.{sum_fits, sum_told}
 use Rattle.table_sizes.proofs.starts.inputs_starts.Goals as goal
 
-pub loop-i-init : goal.loop-i-init
-loop-i-init c = summing_begins _ _
-
-pub overflow_add-sum : goal.overflow_add-sum
-overflow_add-sum c = let few = c.requires.inputs in
-    let e = c.inputs-n.ensures in
-    let l = summing_adds _ _ c.loop-i.invariant c.loop-i-test.true (omega arith) (input_few _) c.input_starts-sum.ensures in
-    search rules
-
-pub loop-i-preserved : goal.loop-i-preserved
-loop-i-preserved c = summing_next _ _ c.loop-i.invariant c.loop-i-test.true c.input_starts-sum.ensures
+pub sum-requires-clause-fits : goal.sum-requires-clause-fits
+sum-requires-clause-fits c =
+    let few = c.requires.inputs in
+    sum_fits _ c.inputs.ensures (YieldsList-from_map _ (input_starts (timing_in c.args.model.now)) (YieldsList-from_range 0 _ _ c.map.ensures.source (omega arith)) c.map.ensures.closure (λ x r q k. search rules)) _ (omega arith) (input_few _) (omega arith)
 
 pub returns : goal.returns
-returns c = summing_ends _ _ c.loop-i.invariant _ c.inputs-n.ensures c.loop-i-test.false
+returns c = sum_told _ c.inputs.ensures (YieldsList-from_map _ (input_starts (timing_in c.args.model.now)) (YieldsList-from_range 0 _ _ c.map.ensures.source (omega arith)) c.map.ensures.closure (λ x r q k. search rules)) c.sum.ensures.ran

@@ -1,22 +1,16 @@
-use Prim.Native.Nat.{◌-◌}
-use native.Mathlib.Omega.{arith}
+use Rattle.std.proofs.Common.{arith, rules}
+use Rattle.std.proofs.lemmas.Iterator.{YieldsList-from_range, YieldsList-from_map}
+use Rattle.model_words.specs.Words.{timing_in}
+use Rattle.translation_sizes.specs.Items.{local_starts}
 use Rattle.translation_sizes.proofs.Longest.{local_few}
 use Rattle.table_sizes.specs.Leaves.{within_two}
-use Rattle.table_counts.specs.Loops.{summing_begins, summing_adds, summing_next, summing_ends}
-use borrow.Author.Rules.{rules}
+use Rattle.table_counts.specs.Chains.{sum_fits, sum_told}
 use Rattle.table_sizes.proofs.starts.locals_starts.Goals as goal
 
-pub loop-v-init : goal.loop-v-init
-loop-v-init c = summing_begins _ _
-
-pub overflow_add-sum : goal.overflow_add-sum
-overflow_add-sum c = let few = c.requires.locals in
-    let e = c.locals-n.ensures in
-    let l = summing_adds _ _ c.loop-v.invariant c.loop-v-test.true (omega arith) (λ v. within_two (local_few _ v)) c.local_starts-sum.ensures in
-    search rules
-
-pub loop-v-preserved : goal.loop-v-preserved
-loop-v-preserved c = summing_next _ _ c.loop-v.invariant c.loop-v-test.true c.local_starts-sum.ensures
+pub sum-requires-clause-fits : goal.sum-requires-clause-fits
+sum-requires-clause-fits c =
+    let few = c.requires.locals in
+    sum_fits _ c.locals.ensures (YieldsList-from_map _ (local_starts (timing_in c.args.model.now)) (YieldsList-from_range 0 _ _ c.map.ensures.source (omega arith)) c.map.ensures.closure (λ x r q k. search rules)) _ (omega arith) (λ k. within_two (local_few _ k)) (omega arith)
 
 pub returns : goal.returns
-returns c = summing_ends _ _ c.loop-v.invariant _ c.locals-n.ensures c.loop-v-test.false
+returns c = sum_told _ c.locals.ensures (YieldsList-from_map _ (local_starts (timing_in c.args.model.now)) (YieldsList-from_range 0 _ _ c.map.ensures.source (omega arith)) c.map.ensures.closure (λ x r q k. search rules)) c.sum.ensures.ran

@@ -4,11 +4,11 @@ use Rattle.translate_complete.proofs.updates.assigned.Goals as goal
 pub operand_of-first-requires : goal.operand_of-first-requires
 operand_of-first-requires c = c.requires.first
 
-pub returns-then-op-eq-COPY : goal.returns-then-op-eq-COPY
-returns-then-op-eq-COPY c = assigned_copy _ _ _ c.operand_of-first.ensures c.if-op-eq-COPY.true c.unused-none.ensures
+pub returns-then-assignment-eq-COPY : goal.returns-then-assignment-eq-COPY
+returns-then-assignment-eq-COPY c = assigned_copy _ _ _ c.operand_of-first.ensures c.if-assignment-eq-COPY.true c.unused.ensures
 
-pub operand_of-second-requires : goal.operand_of-second-requires
-operand_of-second-requires c = c.requires.second
+pub operand_of-requires : goal.operand_of-requires
+operand_of-requires c = c.requires.second
 
 pub returns : goal.returns
-returns c = assigned_both _ _ _ c.operand_of-first.ensures c.if-op-eq-COPY.false c.operand_of-second.ensures
+returns c = assigned_both _ _ _ c.operand_of-first.ensures c.if-assignment-eq-COPY.false c.operand_of.ensures

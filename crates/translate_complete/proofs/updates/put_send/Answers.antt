@@ -1,7 +1,7 @@
 use Rattle.model_words.specs.Words.{timing_in, behavior_in}
 use Rattle.translation.specs.Rules.{sent_expression}
 use Rattle.translate_complete.specs.Assigned.{source_small, target_small, send_written}
-use borrow.Author.Rules.{rules}
+use Rattle.std.proofs.Common.{rules}
 use Rattle.translate_complete.proofs.updates.put_send.Goals as goal
 
 pub buffer_var-target-requires : goal.buffer_var-target-requires

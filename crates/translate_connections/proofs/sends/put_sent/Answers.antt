@@ -11,4 +11,4 @@ pub output_var-source-requires : goal.output_var-source-requires
 output_var-source-requires c = c.requires.1.0
 
 pub returns : goal.returns
-returns c = sent_from _ c.args.own c.flag_var-flag.ensures c.buffer_var-buffer.ensures c.output_var-source.ensures c.put_copy_when.ensures
+returns c = sent_from _ c.args.own c.flag_var-flag.ensures c.buffer_var-buffer.ensures c.output_var-source.ensures c.copy_when.ensures

@@ -1,12 +1,8 @@
-use Prim.Native.Nat.{◌≤◌, ◌-◌}
 use Rattle.numbers.specs.Lists.{join_below}
 use Rattle.model_words.specs.Words.{behavior_in}
-use Rattle.table_writer.specs.WroteRules.{WroteClauses}
+use Rattle.table_writer.specs.Writes.{WritesClauses}
 use Rattle.translate_guards.specs.Guards.{guard_at}
 use Rattle.translate_guards.proofs.guards.put_guard.Given as goal
 
 abbrev pub invariant-loop-number : goal.invariant-loop-number
-invariant-loop-number l = (l.number ≤ l.atoms) × WroteClauses l.initial.output l.at-2 (join_below l.number (guard_at (behavior_in l.model) l.transition)) l.output l.at
-
-abbrev pub decreases-loop-number : goal.decreases-loop-number
-decreases-loop-number l = l.atoms - l.number
+invariant-loop-number l = WritesClauses l.initial.out (join_below l.number (guard_at (behavior_in l.model) l.transition)) l.out

@@ -5,4 +5,4 @@ pub put_negated-requires : goal.put_negated-requires
 put_negated-requires c = c.requires
 
 pub returns : goal.returns
-returns c = shut_written _ _ _ _ c.behavior_var.ensures c.well_formed.0.0 c.put_clause-at.ensures c.put_compared-at.ensures c.put_negated.ensures
+returns c = shut_written _ _ _ _ c.behavior_var.ensures c.clause.ensures c.compared.ensures c.put_negated.ensures

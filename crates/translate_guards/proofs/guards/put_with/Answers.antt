@@ -8,4 +8,4 @@ pub operand_of-right-requires : goal.operand_of-right-requires
 operand_of-right-requires c = c.requires.right
 
 pub returns : goal.returns
-returns c = with_written c.args.atom _ _ _ c.variable_of-left.ensures c.operand_of-right.ensures c.put_compare.ensures
+returns c = with_written c.args.atom _ _ _ c.variable_of-left.ensures c.operand_of-right.ensures c.compare.ensures

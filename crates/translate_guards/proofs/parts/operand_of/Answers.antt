@@ -1,5 +1,5 @@
 use Rattle.translate_guards.specs.Operands.{operand_constant, operand_variable}
-use borrow.Author.Rules.{rules}
+use Rattle.std.proofs.Common.{rules}
 use Rattle.translate_guards.proofs.parts.operand_of.Goals as goal
 
 pub returns-then-tag-eq-CONSTANT_TAG : goal.returns-then-tag-eq-CONSTANT_TAG

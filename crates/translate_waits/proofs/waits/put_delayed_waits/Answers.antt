@@ -1,32 +1,20 @@
-use mathlib.Core.Path.{sym, ◌∙◌}
-use Prim.Native.Nat.{◌-◌}
-use native.Mathlib.Omega.{arith}
+use Rattle.std.proofs.Common.{sym, ◌∙◌}
 use Rattle.model_words.specs.Words.{timing_in}
-use Rattle.table_writer.specs.Lists.{joins_clauses, loop_begins, loop_next, loop_ends}
-use Rattle.table_writer.specs.Written.{keeps_length}
+use Rattle.table_writer.specs.Lists.{joins_clauses}
+use Rattle.table_writer.specs.WritesLaws.{writes_begin, writes_next}
 use Rattle.translation.specs.Rules.{delayed_wait}
 use Rattle.translate_waits.specs.Named.{where_passed, where_failed}
-use Rattle.translate_waits.specs.Waits.{few_connections, delayed_wait_lem}
-use borrow.Author.Rules.{rules}
+use Rattle.translate_waits.specs.Waits.{delayed_wait_lem}
+use Rattle.translate_waits.proofs.waits.put_delayed_waits.Goals.{then-is_into, else-is_into}
 use Rattle.translate_waits.proofs.waits.put_delayed_waits.Goals as goal
 
-pub loop-next-init : goal.loop-next-init
-loop-next-init c = (omega arith, loop_begins joins_clauses _ c.ranges.at.fits)
+pub loop-connection-init : goal.loop-connection-init
+loop-connection-init c = writes_begin joins_clauses _
 
-pub overflow_cast-connection : goal.overflow_cast-connection
-overflow_cast-connection c = let h = few_connections c.requires c.connections-count.ensures c.loop-next-test.true in search rules
-
-pub put_delayed-at-requires : goal.put_delayed-at-requires
-put_delayed-at-requires c = few_connections c.requires c.connections-count.ensures c.loop-next-test.true
-
-pub loop-next-preserved-then-is_into : goal.loop-next-preserved-then-is_into
-loop-next-preserved-then-is_into c = (omega arith, loop_next joins_clauses _ (delayed_wait (timing_in c.args.model.now) c.args.thread) c.well_formed.0.0 c.loop-next.invariant.1 (where_passed joins_clauses _ (sym c.is_into.ensures ∙ c.if-is_into.true) (delayed_wait_lem (timing_in c.args.model.now) _ c.source_thread-source.ensures c.put_delayed-at.ensures)))
-
-pub loop-next-preserved : goal.loop-next-preserved
-loop-next-preserved c = (omega arith, loop_next joins_clauses _ (delayed_wait (timing_in c.args.model.now) c.args.thread) c.well_formed.0.0 c.loop-next.invariant.1 (where_failed joins_clauses _ (sym c.is_into.ensures ∙ c.if-is_into.false) (search rules)))
-
-pub shape_of-output : goal.shape_of-output
-shape_of-output c = keeps_length c.loop-next.invariant.1
-
-pub returns : goal.returns
-returns c = loop_ends joins_clauses (delayed_wait (timing_in c.args.model.now) c.args.thread) _ _ (rw c.connections-count.ensures at c.loop-next.invariant.0) (rw c.connections-count.ensures at c.loop-next-test.false) c.loop-next.invariant.1
+pub loop-connection-preserved : goal.loop-connection-preserved
+loop-connection-preserved c =
+    let m = timing_in c.args.model.now in
+    writes_next joins_clauses _ (delayed_wait m c.args.thread) c.loop-connection.invariant (elim c.if-is_into.branch [
+      | then-is_into w ↦ rw w.out-is (where_passed joins_clauses _ (sym c.is_into.ensures ∙ w.if-is_into.true) (delayed_wait_lem m _ w.source_thread-source.ensures w.put_delayed.ensures))
+      | else-is_into w ↦ rw w.out-is (where_failed joins_clauses _ (sym c.is_into.ensures ∙ w.if-is_into.false))
+    ])

@@ -1,7 +1,0 @@
-use Rattle.model_faults.proofs.port_cause.Goals as goal
-
-pub returns : goal.returns
-returns c = rw (
-  c.judged.ensures,
-  c.usize_of_u8-thread.ensures.0,
-)

@@ -1,0 +1,6 @@
+use Rattle.model_words.specs.Words as words
+use Rattle.model_words.proofs.items.AtomItem.read.Goals as goal
+
+pub returns : goal.returns
+unfolding words.atom_in
+returns c = rw (c.operand_in.ensures, c.short_in.ensures, c.byte_in.ensures, c.byte_in-2.ensures)

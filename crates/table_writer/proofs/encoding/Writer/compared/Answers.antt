@@ -1,0 +1,7 @@
+use Rattle.std.proofs.Common.{rules}
+use Rattle.table_writer.specs.SameBytes.{constant_same}
+use Rattle.table_writer.specs.WritesSame.{writes_compared}
+use Rattle.table_writer.proofs.encoding.Writer.compared.Goals as goal
+
+pub returns : goal.returns
+returns c = writes_compared (constant_same c.args.number _ (search rules) c.constant.ensures) _ _ c.compare.ensures

@@ -1,5 +1,0 @@
-use Rattle.table_writer.specs.SameBytes.{same_as, wrote_updated}
-use Rattle.table_writer.proofs.rules.put_chosen.Goals as goal
-
-pub returns : goal.returns
-returns c = wrote_updated (same_as c.variable-first.ensures) _ _ _ _ (same_as c.chosen_length-second.ensures) c.put_update.ensures
