@@ -18,7 +18,7 @@ pub use write::{print_start, write_argument};
 // The figures that are told of a listing: its length, and the number, start and end of the refusal.
 pub const TOLD: usize = 4;
 
-// What a program came to: how many bytes of its files were read, whether both could be, and how many bytes it printed.
+// What a program came to: whether both of its files could be read, and then how many bytes of each were, and how many it printed; else zeros.
 // Kept: `Shows`, which the page of promises names with `good`, speaks of this struct.
 #[derive(Clone, Copy)]
 pub struct Shown {

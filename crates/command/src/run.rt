@@ -1,6 +1,6 @@
 // The programs that run a model or a table and print the listing.
 
-ghost use Rattle.std.specs.Prelude.{◌≡◌, List, ℕ, get_or};
+ghost use Rattle.std.specs.Prelude.{◌≡◌, false, List, ℕ, get_or};
 ghost use Rattle.table_writer.specs.Wrote.{Wrote};
 ghost use Rattle.command.specs.Shows.{Shows};
 
@@ -20,7 +20,11 @@ pub fn run_program<F: FnOnce(&[u8], &[u8], &mut [u8]) -> usize>(
     show: F,
 ) -> Shown
     requires { F.IsAlwaysCallable show }
-    ensures { (listing : List ℕ → List ℕ → List ℕ) → ((m s : _) (o : _) (n : ℕ) (p : _) → F.post show m s o n p → Wrote o.now 0 (listing m.now s.now) p.now n) → Shows listing model.new script.new out.old result out.new }
+    // The bytes are those that were read, for each listing that the closure is known to write.
+    ensures shows { (listing : List ℕ → List ℕ → List ℕ) → ((m s : _) (o : _) (n : ℕ) (p : _) → F.post show m s o n p → Wrote o.now 0 (listing m.now s.now) p.now n) → Shows listing model.new script.new out.old result out.new }
+
+    // Where a file could not be read, whatever the closure does.
+    ensures unread { result.good ≡ false → (out.new ≡ out.old) × (result.printed ≡ 0) }
 {
     match read_inputs(rt, usage, name, model, script) {
         Some(read) => {
