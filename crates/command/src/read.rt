@@ -5,18 +5,20 @@ ghost use Rattle.command.specs.Counts.{IsPrefixLen};
 
 use crate::arguments::{is_called_well, is_own_model, text_of};
 use crate::buffer;
-use crate::say::{fail, say, say_name, tell_too_long};
+use crate::say::{fail, say, say_name, say_number, tell_too_long};
 use std::env::FillError;
 use std::fs::File;
 use std::io;
 use std::io::Read;
 use std::rt::Env;
 
-// How many bytes of both files were read.
+// How many bytes of both files were read, and whether both could be.
+// Kept as one struct and no `Option`: the counts are promised where one of the two could not be read, too.
 #[derive(Clone, Copy)]
 pub struct Inputs {
     pub model: usize,
     pub script: usize,
+    pub good: bool,
 }
 
 // Reads until the buffer is full, the file ends or a read fails.
@@ -46,7 +48,9 @@ fn tell_more(rt: &HostRuntime, path: &[u8], length: usize, more: usize) {
         return;
     }
     say(rt, path);
-    let _ = eprint!(rt; ": only the first {length} bytes were read, there are more\n");
+    say(rt, b": only the first ");
+    say_number(rt, length);
+    say(rt, b" bytes were read, there are more\n");
 }
 
 // A short count may be the end of the file or a failure: one more read tells which.
@@ -98,25 +102,30 @@ fn read_argument(rt: &HostRuntime, argument: usize, name: &[u8], room: &mut [u8]
     }
 }
 
-// The model, or the table that stands for it, and the script: the first two arguments.
+// The model, or the table that stands for it, and the script: the first two arguments. Of a file that could not be read, no bytes.
 pub fn read_inputs(
     rt: &HostRuntime,
     usage: &[u8],
     name: &[u8],
     model: &mut [u8],
     script: &mut [u8],
-) -> Option<Inputs>
-    ensures { IfSome result (λ r. (IsPrefixLen r.model model.new) × (IsPrefixLen r.script script.new)) }
+) -> Inputs
+    ensures { (IsPrefixLen result.model model.new) × (IsPrefixLen result.script script.new) }
 {
     if !is_called_well(rt, usage) {
-        return None;
+        return Inputs {
+            model: 0,
+            script: 0,
+            good: false,
+        };
     }
     let first = read_argument(rt, 1, name, model);
     let second = read_argument(rt, 2, b"script.bin", script);
-    Some(Inputs {
-        model: first?,
-        script: second?,
-    })
+    Inputs {
+        model: first.unwrap_or(0),
+        script: second.unwrap_or(0),
+        good: first.is_some() & second.is_some(),
+    }
 }
 
 // The model that `make_table` reads: its first argument.

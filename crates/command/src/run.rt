@@ -26,13 +26,12 @@ pub fn run_program<F: FnOnce(&[u8], &[u8], &mut [u8]) -> usize>(
     // Where a file could not be read, whatever the closure does.
     ensures unread { result.good ≡ false → (out.new ≡ out.old) × (result.printed ≡ 0) }
 {
-    match read_inputs(rt, usage, name, model, script) {
-        Some(read) => {
-            let printed = show(&model[..read.model], &script[..read.script], out);
-            outcome(read.model, read.script, true, printed)
-        }
-        None => outcome(0, 0, false, 0),
+    let read = read_inputs(rt, usage, name, model, script);
+    if !read.good {
+        return outcome(read.model, read.script, false, 0);
     }
+    let printed = show(&model[..read.model], &script[..read.script], out);
+    outcome(read.model, read.script, true, printed)
 }
 
 // What is told of a listing in `out`: it is printed, and the record that was refused goes to standard error. The length that was told is handed on.

@@ -17,6 +17,10 @@ pub fn say(rt: &HostRuntime, text: &[u8]) {
     let _ = Print::write_all(&rt.stderr(), text);
 }
 
+pub fn say_number(rt: &HostRuntime, number: usize) {
+    let _ = eprint!(rt; "{number}");
+}
+
 // The name that an argument gives, or the given one where there is no such argument.
 pub fn say_name(rt: &HostRuntime, argument: usize, name: &[u8]) {
     let mut path = buffer();
@@ -77,7 +81,14 @@ pub fn tell_refused(
     if number == 0 {
         return;
     }
-    let _ = eprint!(rt; "refused {number} {start} {end} ");
+    // In pieces, so that what there is room for is told where there is not room for all.
+    say(rt, b"refused ");
+    say_number(rt, number);
+    say(rt, b" ");
+    say_number(rt, start);
+    say(rt, b" ");
+    say_number(rt, end);
+    say(rt, b" ");
     say_holder(rt, name, number);
     say(rt, b":");
     say_bytes(rt, part);

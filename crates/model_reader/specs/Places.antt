@@ -4,9 +4,6 @@ use Rattle.std.proofs.Common.{◌∙◌, ap, length-drop, length-take-le, sym, a
 use Rattle.std.proofs.Math.Decide.{dec_lt}
 use Rattle.records.specs.declared.Notation.TheVariants as notations
 use Rattle.records.specs.Format.{record_size, part_length, part_length_at}
-use Rattle.records.specs.declared.walks.Part.{Part}
-use Rattle.records.specs.declared.walks.Parts.{Parts}
-use Rattle.records.specs.Walks.{IsPartAt}
 use Rattle.records.specs.Laws.{length_at}
 use Rattle.records.specs.Walk.{slice_part, next_place, part_byte}
 use Rattle.model_format.specs.declared.Record.{Record}
@@ -50,48 +47,3 @@ module _ (s : List ℕ) (p k m : ℕ) (h : p < length s) (b : k ≡ get_or s p 0
   pub end_whole : (m ≡ 0 → ⊥) → m ≤ length s - p → p + m ≡ end_at s p
   unfolding part_length
   end_whole z l = at_end m (rw (← f, ne_eqb m 0 z, le-ltb (length s - p) m l))
-
--- ---- a part as it is cut out of the bytes: no longer than a record of its kind, where there are such
-abbrev pub IsPart : List ℕ → Type 0
-IsPart x = (record_size notations.Model (get_or x 0 0) ≡ 0 → ⊥) → length x ≤ record_size notations.Model (get_or x 0 0)
-
--- x is the part at p, which ends at q
-module _ (s : List ℕ) (p q : ℕ) (x : List ℕ) (h : p < length s) (e : q ≡ end_at s p) (b : x ≡ take (part_length_at notations.Model s p) (drop p s)) where
-  pub part_record : record_of x ≡ record_of (take (q - p) (drop p s))
-  part_record = ap record_of b ∙ sym (record_slice s p q e)
-
-  pub part_kind : get_or s p 0 ≡ get_or x 0 0
-  part_kind =
-      let z = slice_part s p (part_length_at notations.Model s p) in
-      kind_slice s p (end_at s p) h refl ∙ ap (λ (y : List ℕ). get_or y 0 0) (z ∙ sym b)
-
-  pub part_ends : q ≤ length s
-  part_ends = let n = next_place notations.Model s p _ h refl in omega (arith, e)
-
-  part_size : length x ≡ part_length_at notations.Model s p
-  part_size =
-      let n = next_place notations.Model s p _ h refl in
-      ap length b ∙ length-take-le (part_length_at notations.Model s p) (drop p s) (simp length-drop (omega arith))
-
-  pub part_is : IsPart x
-  part_is z =
-      let k : ℕ = get_or s p 0 in
-      let m : ℕ = record_size notations.Model k in
-      let n = next_place notations.Model s p _ h refl in
-      let f : record_size notations.Model (get_or x 0 0) ≡ m = ap (record_size notations.Model) (sym part_kind) in
-      go m (dec_lt (length s - p) m) f (λ c. end_cut s p k m h refl refl (λ y. z (f ∙ y)) c) (λ c. end_whole s p k m h refl refl (λ y. z (f ∙ y)) c)
-    where
-      go : (m : ℕ) → Dec (length s - p < m) → record_size notations.Model (get_or x 0 0) ≡ m → (length s - p < m → length s ≡ end_at s p) → (m ≤ length s - p → p + m ≡ end_at s p) → length x ≤ record_size notations.Model (get_or x 0 0)
-      go m (yes c) f u v = let n = next_place notations.Model s p _ h refl in let y = u c in omega (arith, part_size, f)
-      go m (no c) f u v = let y = v (omega arith) in omega (arith, part_size, f)
-
--- the part x that a walk over s gives where it stands, after which it stands as t
-module _ (s : List ℕ) (i t : Parts) (x : Part) (n : i.notation ≡ notations.Model) (b : i.input.now ≡ s) (w : IsPartAt i x t) where
-  pub given_within : i.at < length s
-  given_within = rw b at w.within
-
-  pub given_end : x.end ≡ end_at s i.at
-  given_end = rw (n, b) at w.end
-
-  pub given_bytes : x.bytes.now ≡ take (part_length_at notations.Model s i.at) (drop i.at s)
-  given_bytes = rw (n, b) at w.bytes

@@ -21,7 +21,7 @@ use Rattle.model_causes.specs.Readings.{reading_in}
 use Rattle.model_reader.specs.Reads.{read_as, read_with}
 use Rattle.model_takes.specs.Took.{taken, Took}
 use Rattle.model_takes.specs.Taken.{took_as, took_unknown, took_cut}
-use Rattle.model_reader.specs.Places.{end_at, record_at, record_slice, kind_slice, end_unknown, end_cut, end_whole, part_record, part_kind}
+use Rattle.model_reader.specs.Places.{end_at, record_at, record_slice, kind_slice, end_unknown, end_cut, end_whole}
 use Rattle.model_reader.specs.Ranks.{rank_of_kind, rank_of_part}
 
 -- the code's &s[p..q]
@@ -67,17 +67,6 @@ module _ (s : List ℕ) (p q last : ℕ) (l : List ℕ) (c : Cause) (l' : List �
       let g = took_at.0 in
       let z : refused_at c p q ≡ read_at s p (reading_in last l) = rw (e, parts_at notations.Model s p _ h refl, ← g, n, part_size notations.Model s p _ h refl) in
       ap (λ (w : Refusal). read_with w l') i ∙ ap (λ (b : Bool). record { refusal = in_model c p q; model = cond b (model_in l') empty_model }) n ∙ z
-
--- the part x that ends at q, taken into l, which becomes l'
-module _ (s : List ℕ) (p q last : ℕ) (l x : List ℕ) (h : p < length s) (e : q ≡ end_at s p) (b : x ≡ take (part_length_at notations.Model s p) (drop p s)) (c : Cause) (l' : List ℕ) (t : Took last l (record_of x) c l') where
-  took_part : Took last l (record_of (take (q - p) (drop p s))) c l'
-  took_part = took_as last l _ _ c l' t (part_record s p q x h e b)
-
-  pub part_on : (r : ℕ) → r ≡ rank_of_kind (get_or x 0 0) → is_none c ≡ true → read_at s q (reading_in r l') ≡ read_at s p (reading_in last l)
-  part_on r f n = rw f (read_on s p q last l c l' h e took_part (get_or x 0 0) (sym (part_kind s p q x h e b) ∙ kind_slice s p q h e) n)
-
-  pub part_refused : (y : Refusal) → is_none c ≡ false → y ≡ in_model c p q → read_with y l' ≡ read_at s p (reading_in last l)
-  part_refused y n i = read_refused s p q last l c l' h e took_part y n i
 
 -- by the size m of records of its kind k
 module _ (s : List ℕ) (p k m last : ℕ) (l : List ℕ) (h : p < length s) (b : k ≡ get_or s p 0) (f : m ≡ record_size notations.Model k) where

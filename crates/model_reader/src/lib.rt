@@ -11,13 +11,12 @@ ghost use Rattle.model_words.specs.Words as words;
 ghost use Rattle.model_reader.specs.Reads as into;
 ghost use Rattle.model_reader.specs.Ranks.{rank_of_kind};
 
-use crate::parts::take_part;
+use crate::parts::take_whole;
 use model_format::INPUT_RANK;
 use model_words::MODEL_WORDS;
 use model_writer::clear;
-use numbers::item_or;
 use records::{
-    Cause, MODEL_WRITTEN_INPUT, Notation, Parts, Refusal, in_model, is_none, no_refusal,
+    Cause, MODEL_WRITTEN_INPUT, Notation, Refusal, in_model, is_none, no_refusal, record_size,
 };
 
 // The rank of records of a kind.
@@ -32,21 +31,32 @@ fn rank_of(kind: u8) -> u8
 }
 
 // The records of a model, into a list that is clear, up to the first that is refused. There the list has those before it. Its length is said as a constant,
-// so that no number of it is tested for being there.
+// so that no number of it is tested for being there. Kept as a walk over places: a record's size, by which it is known to be whole, is looked up once.
 pub fn read_records(bytes: &[u8], model: &mut [u32]) -> Refusal
     requires { (length model.old ≡ words.model_words) × (words.model_in model.old ≡ empty_model) }
     ensures { into.read_with result model.new ≡ reading.read_model bytes.now }
 {
     let mut last: u8 = 0;
-    for part in Parts::new(Notation::Model, bytes, 0) {
-        let cause = take_part(&mut model[..MODEL_WORDS], last, part.bytes);
-        if !is_none(cause) {
-            return in_model(cause, part.start, part.end);
+    let mut at: usize = 0;
+    while at < bytes.len() {
+        let kind = bytes[at];
+        let size = record_size(Notation::Model, kind);
+        if size == 0 {
+            return in_model(Cause::WrongKind, at, bytes.len());
         }
-        last = rank_of(item_or(part.bytes, 0, 0));
+        if bytes.len() - at < size {
+            return in_model(Cause::CutRecord, at, bytes.len());
+        }
+        let end = at + size;
+        let cause = take_whole(&mut model[..MODEL_WORDS], last, kind, &bytes[at..end]);
+        if !is_none(cause) {
+            return in_model(cause, at, end);
+        }
+        last = rank_of(kind);
+        at = end;
     }
     if last == 0 {
-        return in_model(Cause::WrongKind, bytes.len(), bytes.len());
+        return in_model(Cause::WrongKind, at, at);
     }
     no_refusal()
 }

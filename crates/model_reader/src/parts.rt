@@ -6,7 +6,6 @@ ghost use Rattle.records.specs.Format.{record_size};
 ghost use Rattle.model_format.specs.Format as format;
 ghost use Rattle.model_words.specs.Words as words;
 ghost use Rattle.model_takes.specs.Took.{Took};
-ghost use Rattle.model_reader.specs.Places.{IsPart};
 
 use model_format::{
     assignment_of, atom_of, connection_of, head_of, input_of, owned_of, switch_of, thread_of,
@@ -19,13 +18,13 @@ use records::{
     MODEL_CONNECTION_SIZE, MODEL_HEAD, MODEL_HEAD_SIZE, MODEL_INPUT, MODEL_LOCAL, MODEL_LOCAL_SIZE,
     MODEL_OUTPUT, MODEL_PORT_SIZE, MODEL_SWITCH, MODEL_SWITCH_SIZE, MODEL_THREAD,
     MODEL_THREAD_SIZE, MODEL_TRANSITION, MODEL_TRANSITION_SIZE, MODEL_WRITTEN_INPUT,
-    MODEL_WRITTEN_INPUT_SIZE, Notation, record_size,
+    MODEL_WRITTEN_INPUT_SIZE,
 };
 
 // A record that has the whole of its body: adds it to the model, or tells why it is refused. The part is as long as its kind fixes; cut to that number, which
 // is a constant, it has no byte that must be looked for. A part of no kind is empty and does not come here; with an arm for each of the eleven kinds the
 // compiler sees that, and does not test the kind again.
-fn take_whole(model: &mut [u32], last: u8, kind: u8, part: &[u8]) -> Cause
+pub fn take_whole(model: &mut [u32], last: u8, kind: u8, part: &[u8]) -> Cause
     requires whole_model { words.model_words ≤ length model.old }
     requires whole_part { (length part.now ≡ record_size notations.Model kind) × (0 < length part.now) }
     ensures { Took last model.old (format.record_of_whole kind part.now) result model.new }
@@ -48,21 +47,4 @@ fn take_whole(model: &mut [u32], last: u8, kind: u8, part: &[u8]) -> Cause
         MODEL_ASSIGNMENT => take(model, last, assignment_of(&part[..MODEL_ASSIGNMENT_SIZE])),
         _ => Cause::WrongKind,
     }
-}
-
-// A part of the bytes, which is no longer than a record of its kind: adds the record, or tells why it is refused.
-pub fn take_part(model: &mut [u32], last: u8, part: &[u8]) -> Cause
-    requires whole_model { words.model_words ≤ length model.old }
-    requires one_record { IsPart part.now }
-    ensures { Took last model.old (format.record_of part.now) result model.new }
-{
-    let kind = item_or(part, 0, 0);
-    let size = record_size(Notation::Model, kind);
-    if size == 0 {
-        return Cause::WrongKind;
-    }
-    if part.len() < size {
-        return Cause::CutRecord;
-    }
-    take_whole(model, last, kind, part)
 }

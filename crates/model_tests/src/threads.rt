@@ -39,7 +39,8 @@ fn source_of(model: &[u32], state: &[u32], connection: Connection) -> ThreadView
 }
 
 // The thread that connection c comes from, where it is a live one of the kind into thread t. Most connections are off or lead elsewhere, so
-// that comes first.
+// that comes first. Made in place, so that of the view only what is asked for is read.
+#[inline(always)]
 fn feeder(model: &[u32], state: &[u32], kind: u8, t: usize, c: usize) -> Option<ThreadView>
     ensures { result ≡ jobs.feeder (timing_in model.now) (state_in state.now) kind t c }
 {

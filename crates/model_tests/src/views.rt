@@ -22,6 +22,8 @@ pub fn job_of(state: &[u32], t: usize) -> Job
     }
 }
 
+// Made in place: each test asks for a few of its parts, and the others are not read then.
+#[inline(always)]
 pub fn thread_view_of(model: &[u32], state: &[u32], t: usize) -> ThreadView
     ensures { result ≡ jobs.thread_view_of (timing_in model.now) (state_in state.now) t }
 {

@@ -359,7 +359,8 @@ pub fn atom_at(model: &[u32], transition: usize, number: usize) -> Atom
     item_at(model, ATOMS_FROM, MAX_TIMES, place(transition, number))
 }
 
-// An assignment of a transition, by its number.
+// An assignment of a transition, by its number. Made in place, since most callers want one or two of its numbers.
+#[inline(always)]
 pub fn assignment_at(model: &[u32], transition: usize, number: usize) -> Assignment
     ensures { result ≡ items.assignment_at (words.behavior_in model.now) transition number }
 {

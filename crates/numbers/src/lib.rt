@@ -11,6 +11,9 @@ ghost use Rattle.numbers.specs.Multiples as multiples;
 
 pub use ops::{COPY, DIFFERS, EQUALS, IS_ABOVE, IS_AT_LEAST, IS_AT_MOST, IS_BELOW, SUM};
 
+// The last number that 32 bits hold.
+pub const LAST_U32: u32 = 4294967295;
+
 // DURATION: a clock figure.
 #[derive(Clone, Copy, PartialEq, Eq, PartialOrd, Ord)]
 pub struct Duration(pub u32);

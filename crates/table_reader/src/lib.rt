@@ -5,9 +5,9 @@
 
 ghost use Rattle.std.specs.Prelude.{◌≡◌};
 ghost use Rattle.table_format.specs.Format.{records};
-ghost use Rattle.table_reader.specs.Reading.{part_at, found_at, place_after, is_end, step_at, rule_in, count_rules};
+ghost use Rattle.table_reader.specs.Reading.{part_at, found_at, place_after, is_end, step_at, rule_in, rules_in, count_rules};
 
-use records::{Notation, Parts};
+use records::Notation;
 use table_format::Record;
 
 #[derive(Clone, Copy)]
@@ -97,9 +97,10 @@ impl<'a> Reader<'a> {
 pub fn step_at(table: &[u8], at: usize) -> Step
     ensures { result ≡ step_at table.now at }
 {
+    let reader = Reader { table, at };
     Step {
-        found: found_at(table, at),
-        next: place_after(table, at),
+        found: reader.found(),
+        next: reader.next().at,
     }
 }
 
@@ -112,13 +113,25 @@ fn rule_in(found: Record) -> usize
     }
 }
 
-// How many rules a table has: a walk of all its records.
+fn rules_in(found: Option<Record>) -> usize
+    ensures { result ≡ rules_in found }
+{
+    match found {
+        Some(one) => rule_in(one),
+        None => 0,
+    }
+}
+
+// How many rules a table has: a walk of all its records. Kept: it goes by the reader, whose walk is what is tried here.
 pub fn count_rules(table: &[u8]) -> usize
     ensures { result ≡ count_rules (records table.now) }
 {
     let mut count: usize = 0;
-    for part in Parts::new(Notation::Table, table, 0) {
-        count += rule_in(table_format::record_of(part.bytes));
+    let mut at: usize = 0;
+    while at < table.len() {
+        let step = step_at(table, at);
+        count += rules_in(step.found);
+        at = step.next;
     }
     count
 }

@@ -13,7 +13,7 @@ use Rattle.numbers.specs.ListLaws.{store_past, length_store}
 use Rattle.numbers.specs.Values.{value, signed}
 use Rattle.records.specs.declared.Notation.TheVariants as notations
 use Rattle.records.specs.declared.Event.{Event}
-use Rattle.records.specs.Format.{part_length_at}
+use Rattle.records.specs.Format.{record_size, part_length_at}
 use Rattle.records.specs.Events.{start_kind}
 use Rattle.table_format.specs.declared.RuleHead.{RuleHead}
 use Rattle.table_format.specs.declared.Update.{Update}
@@ -23,7 +23,7 @@ use Rattle.table_format.specs.Variables.{variables}
 use Rattle.table_format.specs.Format.{record_of, records, update_of, kind_of}
 use Rattle.table_format.specs.Table.{gather}
 use Rattle.records.specs.declared.walks.Part.{Part}
-use Rattle.table_format.specs.Decoded.{is_head_lem, is_update}
+use Rattle.table_format.specs.Decoded.{is_head_lem, is_update, kind_cut, kind_whole}
 use Rattle.table_format.specs.RecordsAt.{records_end, IsTablePart, records_step}
 use Rattle.table_updates.specs.declared.Held.{Held}
 use Rattle.table_updates.specs.declared.Stop.{Stop}
@@ -33,7 +33,8 @@ use Rattle.table_semantics.proofs.RuleLaws.{writes_first}
 use Rattle.table_semantics.specs.Runs.{values}
 use Rattle.table_rules.specs.Bits.{values_store, length_values, put_length}
 use Rattle.table_rules.specs.At.{bytes_at}
-use Rattle.table_rules.specs.Places.{head_records, head_cut, update_records, update_cut, other_records, other_kind}
+use Rattle.table_rules.specs.Clauses.{first_of_part}
+use Rattle.table_rules.specs.Places.{head_records, head_cut, update_records, update_cut, other_records, other_kind, kind_other}
 
 -- ---- targets written twice, or marked before
 unfoldable pub clashes : (ℕ → Bool) → List Write → Bool
@@ -467,6 +468,25 @@ module _ (w : List Write) (v : List Value) (k : ℕ) (h : List Held) (m : List B
               rw (g.bits v)
               (sym (written_append here (writes_from n v s q) (written (pending (take k h)) v)) ∙ (rw (part_update n v s p y q o c e z) at i.bits));
         }
+
+    -- by the first byte b of the part alone: a head may be cut, and is the last record then
+    module _ (y : Part) (q : ℕ) (o : IsTablePart s p y q) (b : ℕ) (e : b ≡ get_or y.bytes.now 0 0) where
+      pub first_head : b ≡ 33 → Collected w v (Ok k) h a
+      first_head z = gathered (writes_from n v s p) i (from_head n v s p o.within (sym (first_of_part s p y q o) ∙ sym e ∙ z))
+
+      pub first_other : (b ≡ 33 → ⊥) → (b ≡ 36 → ⊥) → Gathering w v (writes_from n v s q) k h m a
+      first_other f g = gathering_other y q o (kind_of (record_of y.bytes.now)) refl (kind_other y.bytes.now b 33 e f (omega arith)) (kind_other y.bytes.now b 36 e g (omega arith))
+
+      module _ (z : b ≡ 36) where
+        pub first_cut : length y.bytes.now < 17 → Gathering w v (writes_from n v s q) k h m a
+        unfolding record_size
+        first_cut l =
+            let r = kind_cut y.bytes.now b 17 e (rw z) (λ x. omega arith) l in
+            gathering_other y q o 0 r (λ x. omega arith) (λ x. omega arith)
+
+        pub first_update : 17 ≤ length y.bytes.now → 36 ≡ kind_of (record_of y.bytes.now)
+        unfolding record_size
+        first_update l = sym z ∙ kind_whole y.bytes.now b 17 e (rw z) (λ x. omega arith) l
 
 -- "length outside", by the rule's head
 unfoldable pub head_allows : Event → RuleHead → Bool

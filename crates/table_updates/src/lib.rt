@@ -12,7 +12,7 @@ ghost use Rattle.table_rules.specs.At.{rule_at};
 ghost use Rattle.table_updates.specs.Applied.{writes_from, WritesTo, pending, Gathers, Collected, Fired, head_allows};
 
 use numbers::Value;
-use records::{Cause, Event, Notation, Parts, START, TABLE_RULE, TABLE_UPDATE};
+use records::{Cause, Event, Notation, Parts, START, TABLE_RULE, TABLE_UPDATE, UPDATE_SIZE};
 use table_format::{NO_VARIABLE, RuleHead, VARIABLES};
 
 // ---- updates
@@ -133,7 +133,7 @@ fn gather_update(
     Ok(count + 1)
 }
 
-// The updates of the rule whose records after its head begin at `from`.
+// The updates of the rule whose records after its head begin at `from`. A part is known by its first byte: only of an update it is asked whether all of it is there.
 fn gather_updates(
     table: &[u8],
     from: usize,
@@ -147,12 +147,16 @@ fn gather_updates(
 {
     let mut count: usize = 0;
     for part in Parts::new(Notation::Table, table, from) {
-        let kind = table_format::kind_of(part.bytes);
-        if kind == TABLE_RULE {
-            return Ok(count);
-        }
-        if kind == TABLE_UPDATE {
-            count = gather_update(table, part.end, n, bits, count, held, marks, part.bytes)?;
+        match numbers::item_or(part.bytes, 0, 0) {
+            TABLE_RULE => return Ok(count),
+            TABLE_UPDATE => {
+                if UPDATE_SIZE <= part.bytes.len() {
+                    count = gather_update(
+                        table, part.end, n, bits, count, held, marks, part.bytes,
+                    )?;
+                }
+            }
+            _ => {}
         }
     }
     Ok(count)
