@@ -4,12 +4,10 @@ use Rattle.std.proofs.Common.{sym, ◌∙◌, arith, ap}
 use Rattle.table_format.specs.declared.RuleHead.{RuleHead}
 use Rattle.table_format.specs.declared.Record.{Record}
 use Rattle.table_format.specs.declared.Record.TheVariants.{Initial, Head, Clause, Atomic, Change, Cut, Unknown}
-use Rattle.records.specs.declared.walks.Part.{Part}
 use Rattle.table_format.specs.Format.{record_of}
-use Rattle.table_format.specs.RecordsAt.{IsTablePart}
 use Rattle.table_reader.specs.declared.Step.{Step}
 use Rattle.table_reader.specs.Reading.{part_at, place_after, step_at, rule_in, rules_in, count_rules}
-use Rattle.table_reader.specs.Steps.{found_within, place_within}
+use Rattle.table_reader.specs.Steps.{found_within}
 use Rattle.table_reader.specs.Walked.{left, left_end, left_on}
 
 -- m rules at the step t from p
@@ -51,18 +49,3 @@ module _ (s : List ℕ) (p : ℕ) (t : Step) (m : ℕ) (h : p < length s) (e : t
 pub count_end_lem : (s : List ℕ) (p n : ℕ) → length s ≤ p → n ≡ n + count_rules (left s p)
 unfolding count_rules
 count_end_lem s p n h = rw (left_end s p h) (omega arith)
-
--- one part more: m is 1 where it is a rule's head
-module _ (s : List ℕ) (p next m : ℕ) (x : Part) (w : IsTablePart s p x next) (e : m ≡ rule_in (record_of x.bytes.now)) where
-  pub part_fits : m ≤ 1
-  part_fits = rw e (at_most_one (record_of x.bytes.now))
-
-  pub part_goes : (p < next) × (next ≤ length s)
-  unfolding place_after
-  part_goes = place_within s p next w.goes_on w.within
-
-  pub part_counted : (n : ℕ) → n + m + count_rules (left s next) ≡ n + count_rules (left s p)
-  unfolding count_rules part_at place_after
-  part_counted n =
-      let k : m ≡ rule_in (record_of (part_at s p)) = e ∙ ap (λ (l : List ℕ). rule_in (record_of l)) w.bytes in
-      rw (w.goes_on, left_on s p w.within, k) (omega arith)
