@@ -76,12 +76,18 @@ fn acts(model: &[u32], state: &[u32], clock: Clock, t: usize) -> bool
     thread_busy(model, state, t)
 }
 
+// A loop in place of `any`, as `awaits_delayed` is.
 fn threads_busy(model: &[u32], state: &[u32]) -> bool
     ensures { result ≡ any_below (timing_in model.now).threads (tests.thread_busy (timing_in model.now) (state_in state.now)) }
 {
     let count = threads(model).min(MAX_THREADS);
     let clock = clock_of(state);
-    (0..count).any(|t| acts(model, state, clock, t))
+    for t in 0..count {
+        if acts(model, state, clock, t) {
+            return true;
+        }
+    }
+    false
 }
 
 // Some event but REQUEST. Of the mode transitions only the pending one has any.

@@ -31,6 +31,7 @@ const CONNECTIONS: u8 = 3;
 const LENGTH: u8 = 4;
 
 // The thread that a connection comes from.
+#[inline(always)]
 fn source_of(model: &[u32], state: &[u32], connection: Connection) -> ThreadView
     ensures { result ≡ jobs.source_of (timing_in model.now) (state_in state.now) connection }
 {
@@ -63,11 +64,18 @@ fn holds_dispatch(model: &[u32], state: &[u32], t: usize, c: usize) -> bool
     feeder(model, state, DELAYED, t, c).is_some_and(due_with_job)
 }
 
+// A loop in place of `any`: its closure would hold the state, of which the compiler knows then no longer that it has all its numbers, so that what is
+// enabled of a model takes a tenth to a seventh more instructions.
 fn awaits_delayed(model: &[u32], state: &[u32], t: usize) -> bool
     ensures { result ≡ tests.awaits_delayed (timing_in model.now) (state_in state.now) t }
 {
     let count = connections(model).min(MAX_CONNECTIONS);
-    (0..count).any(|c| holds_dispatch(model, state, t, c))
+    for c in 0..count {
+        if holds_dispatch(model, state, t, c) {
+            return true;
+        }
+    }
+    false
 }
 
 // Connection c holds thread t's START back.
@@ -80,11 +88,17 @@ fn holds_start(model: &[u32], state: &[u32], t: usize, c: usize) -> bool
     })
 }
 
+// A loop for the same reason.
 fn awaits_immediate(model: &[u32], state: &[u32], t: usize) -> bool
     ensures { result ≡ tests.awaits_immediate (timing_in model.now) (state_in state.now) t }
 {
     let count = connections(model).min(MAX_CONNECTIONS);
-    (0..count).any(|c| holds_start(model, state, t, c))
+    for c in 0..count {
+        if holds_start(model, state, t, c) {
+            return true;
+        }
+    }
+    false
 }
 
 pub fn can_activate(state: &[u32], t: usize) -> bool

@@ -1,24 +1,22 @@
 -- Walks over the clauses of a rule, record by record. That a walk says what the clauses as data say, whatever the bytes.
 use Rattle.std.specs.Prelude.{◌≡◌, refl, Bool, true, false, cond, ◌&&◌, ◌||◌, not, List, [], ◌∷◌, ℕ, ◌+◌, ◌-◌, ◌<◌, ◌≤◌, get_or, length, drop, eqb}
-use Rattle.std.proofs.Common.{◌∙◌, arith, sym, ne_eqb, eqb-true, true≢false}
+use Rattle.std.proofs.Common.{◌∙◌, arith, ne_eqb}
 use Rattle.std.proofs.Math.Bool.{or_assoc}
-use Rattle.std.proofs.Math.Decide.{dec_lt, ℕ_discrete}
+use Rattle.std.proofs.Math.Decide.{dec_lt}
 use Rattle.numbers.specs.declared.Value.{Value}
 use Rattle.numbers.specs.Values.{u16_at, value_at, bits_of}
 use Rattle.records.specs.declared.Notation.TheVariants as notations
-use Rattle.records.specs.Format.{record_size, part_length_at, operand_at}
+use Rattle.records.specs.Format.{part_length_at, operand_at}
 use Rattle.table_format.specs.declared.Atom.{Atom}
 use Rattle.table_format.specs.declared.Record.{Record}
 use Rattle.table_format.specs.declared.Record.TheVariants.{Initial, Head, Clause, Atomic, Change, Cut, Unknown}
 use Rattle.table_format.specs.Variables.{now_var}
 use Rattle.table_format.specs.Format.{record_of, records, atom_of, kind_of}
 use Rattle.table_format.specs.Table.{gather}
-use Rattle.records.specs.declared.walks.Part.{Part}
-use Rattle.table_format.specs.Decoded.{record_cut, record_clause, record_atom}
-use Rattle.table_format.specs.RecordsAt.{records_end, IsTablePart, records_step}
+use Rattle.table_format.specs.RecordsAt.{records_end}
 use Rattle.table_semantics.specs.Rules.{value_of, operand_value, holds_op, holds, clause_holds, all_hold}
 use Rattle.table_rules.specs.At.{bytes_at, clauses_at}
-use Rattle.table_rules.specs.Places.{first_byte, kind_other, clause_records, head_records, atom_records, head_cut, atom_cut, other_records, other_kind}
+use Rattle.table_rules.specs.Places.{clause_records, head_records, atom_records, head_cut, atom_cut, other_records, other_kind}
 
 -- ---- clauses
 unfoldable pub reads_clock : Atom → Bool
@@ -154,107 +152,3 @@ module _ (free : Bool) (v : List Value) (b : Bool) (s : List ℕ) (p : ℕ) (h :
       let x = record_of (bytes_at s p m) in
       let o = held_other free v b x (other_kind s p m h e 34 j (omega arith)) (other_kind s p m h e 35 k (omega arith)) in
       rw (other_records s p m h e, ne_eqb (kind_of x) 33 (other_kind s p m h e 33 i (omega arith)), ne_eqb (kind_of x) 34 (other_kind s p m h e 34 j (omega arith)), ← o)
-
--- ---- the same, by the kind of the record x that a part gives; l are those behind it
-module _ (free : Bool) (v : List Value) (b : Bool) (x : Record) where
-  pub held_clause : x ≡ Clause → false ≡ held_after free v b x
-  unfolding held_after
-  held_clause e = rw e
-
-  pub held_atom : (a : Atom) → x ≡ Atomic a → (r : Bool) → r ≡ (b || passes free v a) → r ≡ held_after free v b x
-  unfolding held_after
-  held_atom a e r q = rw (e, q)
-
--- the part y that a walk gives at p, and k its kind
-module _ (free : Bool) (v : List Value) (b : Bool) (s : List ℕ) (p : ℕ) (y : Part) (q : ℕ) (w : IsTablePart s p y q) (k : ℕ)
-    (e : k ≡ kind_of (record_of y.bytes.now)) (d : Bool) (f : d ≡ is_decided b k) where
-  pub pass_decided : d ≡ true → b ≡ pass_from free v b (records (drop p s))
-  unfolding pass_from
-  pass_decided t = rw (records_step s p y q w, ← e, ← f, t)
-
-  pub pass_on : d ≡ false → (r : Bool) → r ≡ held_after free v b (record_of y.bytes.now) →
-      pass_from free v r (records (drop q s)) ≡ pass_from free v b (records (drop p s))
-  unfolding pass_from
-  pass_on t r g = rw (records_step s p y q w, ← e, ← f, t, g)
-
--- ---- the same, where k is but the first byte of a part x: a record that is cut is the last, and decides nothing
-some_byte : (x : List ℕ) → (get_or x 0 0 ≡ 0 → ⊥) → 0 < length x
-some_byte [] n = absurd (n refl)
-some_byte (a ∷ l) n = omega arith
-
-module _ (free : Bool) (v : List Value) (x : List ℕ) (k : ℕ) (f : k ≡ get_or x 0 0) where
-  pub first_clause : k ≡ 34 → (b : Bool) → false ≡ held_after free v b (record_of x)
-  unfolding record_size
-  first_clause e b =
-      let n : 0 < length x = some_byte x (λ z. omega arith) in
-      held_clause free v b (record_of x) (sym (record_clause x k 1 f (rw e) (λ z. omega arith) (omega arith) e))
-
-  module _ (e : k ≡ 35) where
-    pub first_cut : length x < 9 → (b : Bool) → b ≡ held_after free v b (record_of x)
-    unfolding record_size held_after
-    first_cut l b = rw (← record_cut x k 9 f (rw e) (λ z. omega arith) l)
-
-    pub first_atom : 9 ≤ length x → (b r : Bool) → r ≡ (b || passes free v (atom_of x)) → r ≡ held_after free v b (record_of x)
-    unfolding record_size
-    first_atom l b r q = held_atom free v b (record_of x) (atom_of x) (sym (record_atom x k 9 f (rw e) (λ z. omega arith) l (atom_of x) e refl)) r q
-
-    pub first_held : true ≡ held_after free v true (record_of x)
-    first_held = go (dec_lt (length x) 9)
-      where
-        go : Dec (length x < 9) → true ≡ held_after free v true (record_of x)
-        go (yes l) = first_cut l true
-        go (no l) = first_atom (omega arith) true true refl
-
-  pub first_other : (k ≡ 34 → ⊥) → (k ≡ 35 → ⊥) → (b : Bool) → b ≡ held_after free v b (record_of x)
-  first_other i j b = held_other free v b (record_of x) (kind_other x k 34 f i (omega arith)) (kind_other x k 35 f j (omega arith))
-
-pub first_of_part : (s : List ℕ) (p : ℕ) (y : Part) (q : ℕ) → IsTablePart s p y q → get_or y.bytes.now 0 0 ≡ get_or s p 0
-first_of_part s p y q w = rw w.bytes (first_byte s p (part_length_at notations.Table s p) w.within refl)
-
--- what it says that the walk ends at a kind
-decided_head : (b : Bool) → is_decided b 33 ≡ true
-unfolding is_decided
-decided_head b = refl
-
-decided_clause : is_decided false 34 ≡ true
-unfolding is_decided
-decided_clause = refl
-
-decided_by : (b : Bool) (k : ℕ) → is_decided b k ≡ true → (k ≡ 33 → ⊥) → (k ≡ 34) × (b ≡ false)
-unfolding is_decided
-decided_by b k t n = go b (eqb k 34) (eqb-true k 34) (rw (ne_eqb k 33 n) at t)
-  where
-    go : (b c : Bool) → (c ≡ true → k ≡ 34) → (c && not b) ≡ true → (k ≡ 34) × (b ≡ false)
-    go false true g q = (g refl, refl)
-    go true true g q = absurd (true≢false (sym q))
-    go b false g q = absurd (true≢false (sym q))
-
--- the part y that a walk gives at p
-module _ (free : Bool) (v : List Value) (b : Bool) (s : List ℕ) (p : ℕ) (y : Part) (q : ℕ) (w : IsTablePart s p y q) (k : ℕ)
-    (e : k ≡ get_or y.bytes.now 0 0) (d : Bool) (f : d ≡ is_decided b k) where
-  first_at : k ≡ get_or s p 0
-  first_at = e ∙ first_of_part s p y q w
-
-  pub first_decided : d ≡ true → b ≡ pass_from free v b (records (drop p s))
-  first_decided t = go (ℕ_discrete k 33)
-    where
-      go : Dec (k ≡ 33) → b ≡ pass_from free v b (records (drop p s))
-      go (yes h) = pass_head free v b s p w.within (sym first_at ∙ h)
-      go (no n) = let r = decided_by b k (sym f ∙ t) n in r.1 ∙ pass_failed free v b s p w.within (sym first_at ∙ r.0) r.1
-
-  pub first_on : d ≡ false → (r : Bool) → r ≡ held_after free v b (record_of y.bytes.now) →
-      pass_from free v r (records (drop q s)) ≡ pass_from free v b (records (drop p s))
-  first_on t r g = pass_on free v b s p y q w (kind_of (record_of y.bytes.now)) refl false (sym (go (is_decided b j) refl)) refl r g
-    where
-      j : ℕ
-      j = kind_of (record_of y.bytes.now)
-
-      no_head : k ≡ 33 → ⊥
-      no_head h = true≢false (sym (decided_head b) ∙ rw h at (sym f ∙ t))
-
-      open_clause : j ≡ 34 → b ≡ false → ⊥
-      open_clause h u = kind_other y.bytes.now k 34 e (λ i. true≢false (sym decided_clause ∙ rw (i, u) at (sym f ∙ t))) (omega arith) h
-
-      go : (c : Bool) → c ≡ is_decided b j → is_decided b j ≡ false
-      go false z = sym z
-      go true z = let r = decided_by b j (sym z) (kind_other y.bytes.now k 33 e no_head (omega arith)) in absurd (open_clause r.0 r.1)

@@ -5,18 +5,22 @@ use Rattle.std.proofs.Math.Decide.{dec_lt, ℕ_discrete}
 use Rattle.records.specs.declared.Notation.TheVariants as notations
 use Rattle.records.specs.Format.{record_size, part_length, part_length_at}
 use Rattle.records.specs.Walk.{part_size, part_byte, next_place}
+use Rattle.records.specs.declared.walks.Part.{Part}
 use Rattle.table_format.specs.declared.Record.{Record}
 use Rattle.table_format.specs.declared.Record.TheVariants.{Initial, Head, Clause, Atomic, Change, Cut, Unknown}
 use Rattle.table_format.specs.Format.{record_of_whole, record_of, records, head_of, atom_of, update_of, kind_of}
 use Rattle.table_format.specs.Table.{gather}
 use Rattle.table_format.specs.Decoded.{record_whole, record_cut, kind_unknown, kind_cut, kind_whole}
-use Rattle.table_format.specs.RecordsAt.{records_at, records_end}
+use Rattle.table_format.specs.RecordsAt.{records_at, records_end, IsTablePart}
 use Rattle.table_rules.specs.At.{bytes_at, head_in}
 
 pub first_byte : (s : List ℕ) (p m : ℕ) → p < length s → m ≡ part_length_at notations.Table s p → get_or (bytes_at s p m) 0 0 ≡ get_or s p 0
 first_byte s p m h e =
     let q : p + 0 ≡ p = omega arith in
     rw q at (part_byte notations.Table s p m h e 0 (next_place notations.Table s p m h e).0)
+
+pub first_of_part : (s : List ℕ) (p : ℕ) (y : Part) (q : ℕ) → IsTablePart s p y q → get_or y.bytes.now 0 0 ≡ get_or s p 0
+first_of_part s p y q w = rw w.bytes (first_byte s p (part_length_at notations.Table s p) w.within refl)
 
 -- ---- k is the kind byte at p, m the size of records of that kind
 module _ (s : List ℕ) (p k m : ℕ) (b : k ≡ get_or s p 0) (e : m ≡ record_size notations.Table k) (z : m ≡ 0 → ⊥) where

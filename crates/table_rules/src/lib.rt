@@ -6,14 +6,14 @@ ghost use Rattle.std.specs.Prelude.{◌≡◌};
 ghost use Rattle.numbers.specs.Lists.{store};
 ghost use Rattle.numbers.specs.Values.{value, signed};
 ghost use Rattle.table_format.specs.Variables.{variables};
-ghost use Rattle.table_format.specs.Format.{atom_of, record_of};
+ghost use Rattle.table_format.specs.Format.{atom_of};
 ghost use Rattle.table_semantics.specs.Rules as rules;
 ghost use Rattle.table_semantics.specs.Runs.{values};
 ghost use Rattle.table_rules.specs.At.{clauses_at};
-ghost use Rattle.table_rules.specs.Clauses.{passes, is_decided, held_after, all_pass};
+ghost use Rattle.table_rules.specs.Clauses.{passes, all_pass};
 
 use numbers::Value;
-use records::{Notation, Parts, TABLE_ATOM, TABLE_ATOM_SIZE, TABLE_CLAUSE, TABLE_RULE};
+use records::{CLAUSE_SIZE, Notation, TABLE_ATOM, TABLE_ATOM_SIZE, TABLE_CLAUSE, TABLE_RULE};
 use table_format::{CONSTANT_TAG, EQUALS, MULTIPLE_OF, VARIABLE_TAG, VARIABLES};
 use table_semantics::Variables;
 
@@ -27,7 +27,7 @@ pub fn bits_of(x: Value) -> u32
     numbers::bits(x)
 }
 
-// Loops in place of `map` of arrays, which takes two rooms more and three times as long.
+// Loops in place of `map` of arrays, with which the start of a table takes nine KiB more of stack and half as many instructions again.
 pub fn all_bits(s: Variables) -> [u32; VARIABLES]
     ensures { values result ≡ s.value }
 {
@@ -115,47 +115,40 @@ fn passes(free: bool, bits: &[u32], part: &[u8]) -> bool
     holds_op(op, a, b)
 }
 
-// Whether a walk over clauses ends at a record of a kind: at a rule's head they are over, at a clause the one before may have failed.
-fn is_decided(held: bool, kind: u8) -> bool
-    ensures { result ≡ is_decided held kind }
-{
-    match kind {
-        TABLE_RULE => true,
-        TABLE_CLAUSE => !held,
-        _ => false,
-    }
-}
-
-// Whether the last clause holds after one record more. An atom is decoded only where it does not hold yet. A part is known by its first byte: only of an atom
-// it is asked whether all of it is there.
-fn held_after(free: bool, bits: &[u32], held: bool, part: &[u8]) -> bool
-    ensures { result ≡ held_after free (values bits.now) held (record_of part.now) }
-{
-    match numbers::item_or(part, 0, 0) {
-        TABLE_CLAUSE => false,
-        TABLE_ATOM => {
-            if held {
-                return true;
-            }
-            if part.len() < TABLE_ATOM_SIZE {
-                return false;
-            }
-            passes(free, bits, part)
-        }
-        _ => held,
-    }
-}
-
-// Whether all clauses hold of the rule whose records after its head begin at `from`. A record that is cut is the last.
+// Whether all clauses hold of the rule whose records after its head begin at `from`. An atom is decoded only where its clause does not hold
+// yet. A record that is cut is the last. A loop by hand in place of one over `Parts`, which looks every size up in a table where here nearly all
+// records are clauses and atoms: with it runs of a table with one thread miss their goal beside the plain model.
 pub fn all_pass(table: &[u8], from: usize, free: bool, bits: &[u32]) -> bool
     ensures { result ≡ all_pass free (values bits.now) (clauses_at table.now from) }
 {
+    let mut at = from;
     let mut held = true;
-    for part in Parts::new(Notation::Table, table, from) {
-        if is_decided(held, numbers::item_or(part.bytes, 0, 0)) {
+    while at < table.len() {
+        let k = table[at];
+        if k == TABLE_CLAUSE {
+            if !held {
+                return false;
+            }
+            held = false;
+            at += CLAUSE_SIZE;
+            continue;
+        }
+        if k == TABLE_ATOM {
+            if table.len() - at < TABLE_ATOM_SIZE {
+                return held;
+            }
+            if held {
+                at += TABLE_ATOM_SIZE;
+                continue;
+            }
+            held = passes(free, bits, &table[at..at + TABLE_ATOM_SIZE]);
+            at += TABLE_ATOM_SIZE;
+            continue;
+        }
+        if k == TABLE_RULE {
             return held;
         }
-        held = held_after(free, bits, held, part.bytes);
+        at += records::part_length_at(Notation::Table, table, at);
     }
     held
 }

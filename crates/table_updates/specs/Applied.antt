@@ -33,8 +33,7 @@ use Rattle.table_semantics.proofs.RuleLaws.{writes_first}
 use Rattle.table_semantics.specs.Runs.{values}
 use Rattle.table_rules.specs.Bits.{values_store, length_values, put_length}
 use Rattle.table_rules.specs.At.{bytes_at}
-use Rattle.table_rules.specs.Clauses.{first_of_part}
-use Rattle.table_rules.specs.Places.{head_records, head_cut, update_records, update_cut, other_records, other_kind, kind_other}
+use Rattle.table_rules.specs.Places.{first_of_part, head_records, head_cut, update_records, update_cut, other_records, other_kind, kind_other}
 
 -- ---- targets written twice, or marked before
 unfoldable pub clashes : (ℕ → Bool) → List Write → Bool

@@ -1,4 +1,4 @@
-use Rattle.std.proofs.Common.{◌≡◌, ◌≤◌, length}
+use Rattle.std.proofs.Common.{◌≡◌, length}
 use Rattle.table_rules.specs.Bits.{Same}
 use Rattle.table_rules.proofs.all_bits.Given as goal
 

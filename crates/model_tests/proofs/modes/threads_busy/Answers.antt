@@ -1,15 +1,15 @@
-use Rattle.std.proofs.Common.{◌∙◌, arith, refl, rules}
-use Rattle.std.proofs.lemmas.Iterator.{YieldsList-from_range}
-use Rattle.std.proofs.lemmas.Iterator.Search.{any_from_yields_List}
-use Rattle.numbers.specs.RangeLaws.{any_in_range}
-use Rattle.model_state.specs.Words.{state_in}
-use Rattle.model_words.specs.Words.{timing_in}
-use Rattle.model_semantics.specs.Tests.{thread_busy}
-use Rattle.model_tests.specs.JobLaws.{threads_room}
+use Rattle.std.proofs.Common.{sym, ◌∙◌, arith, below_more}
+use Rattle.model_tests.specs.JobLaws.{threads_some, threads_none}
 use Rattle.model_tests.proofs.modes.threads_busy.Goals as goal
 
+pub loop-t-init : goal.loop-t-init
+loop-t-init c = λ k l. absurd (omega arith)
+
+pub returns-then-acts : goal.returns-then-acts
+returns-then-acts c = threads_some _ _ _ _ (rw c.threads.ensures at c.min-count.ensures) _ c.loop-t-test.true c.acts.ensures c.if-acts.true
+
+pub loop-t-preserved : goal.loop-t-preserved
+loop-t-preserved c = below_more _ _ c.loop-t.invariant (sym c.acts.ensures ∙ c.if-acts.false)
+
 pub returns : goal.returns
-returns c =
-    any_from_yields_List (thread_busy (timing_in c.args.model.now) (state_in c.args.state.now)) _ _ _ c.any.ensures.ran (YieldsList-from_range 0 c.min-count.result c.min-count.result refl (omega arith)) (λ x b q k. search rules)
-    ∙ any_in_range c.min-count.result _
-    ∙ rw (c.min-count.ensures, c.threads.ensures) (threads_room _ _)
+returns c = threads_none _ _ _ _ (rw c.threads.ensures at c.min-count.ensures) c.loop-t-test.false c.loop-t.invariant

@@ -1,15 +1,15 @@
-use Rattle.std.proofs.Common.{◌∙◌, arith, refl, rules}
-use Rattle.std.proofs.lemmas.Iterator.{YieldsList-from_range}
-use Rattle.std.proofs.lemmas.Iterator.Search.{any_from_yields_List}
-use Rattle.numbers.specs.RangeLaws.{any_in_range}
-use Rattle.model_state.specs.Words.{state_in}
-use Rattle.model_words.specs.Words.{timing_in}
-use Rattle.model_tests.specs.Jobs.{holds_dispatch}
-use Rattle.model_tests.specs.JobLaws.{delayed_room}
+use Rattle.std.proofs.Common.{sym, ◌∙◌, arith, below_more}
+use Rattle.model_tests.specs.JobLaws.{delayed_some, delayed_none}
 use Rattle.model_tests.proofs.threads.awaits_delayed.Goals as goal
 
+pub loop-c-init : goal.loop-c-init
+loop-c-init c = λ k l. absurd (omega arith)
+
+pub returns-then-holds_dispatch : goal.returns-then-holds_dispatch
+returns-then-holds_dispatch c = delayed_some _ _ _ _ _ (rw c.connections.ensures at c.min-count.ensures) _ c.loop-c-test.true c.holds_dispatch.ensures c.if-holds_dispatch.true
+
+pub loop-c-preserved : goal.loop-c-preserved
+loop-c-preserved c = below_more _ _ c.loop-c.invariant (sym c.holds_dispatch.ensures ∙ c.if-holds_dispatch.false)
+
 pub returns : goal.returns
-returns c =
-    any_from_yields_List (holds_dispatch (timing_in c.args.model.now) (state_in c.args.state.now) c.args.t) _ _ _ c.any.ensures.ran (YieldsList-from_range 0 c.min-count.result c.min-count.result refl (omega arith)) (λ x b q k. search rules)
-    ∙ any_in_range c.min-count.result _
-    ∙ rw (c.min-count.ensures, c.connections.ensures) (delayed_room _ _ _)
+returns c = delayed_none _ _ _ _ _ (rw c.connections.ensures at c.min-count.ensures) c.loop-c-test.false c.loop-c.invariant
