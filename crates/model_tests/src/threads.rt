@@ -30,7 +30,7 @@ const CONNECTIONS: u8 = 3;
 
 const LENGTH: u8 = 4;
 
-// The thread that a connection comes from.
+// The thread that a connection comes from. Made in place, as `feeder` is, which asks for it.
 #[inline(always)]
 fn source_of(model: &[u32], state: &[u32], connection: Connection) -> ThreadView
     ensures { result ≡ jobs.source_of (timing_in model.now) (state_in state.now) connection }
